@@ -1,0 +1,7 @@
+-- The laws that everything else cites, each once.
+pub mod Tested
+pub mod Rows
+pub mod Twos
+pub mod Held
+pub mod Ones
+pub mod Machine

@@ -1,0 +1,17 @@
+-- Signed numbers in the machine: a signed local or field shows as what is read back from its bits, which is the number itself.
+use Prim.Native.Nat.{ℕ, zero, suc, _<_, _^_}
+use mathlib.Core.Path.{_≡_, refl, _∙_, ap₂}
+use native.Mathlib.Omega.{arith}
+use lib.IntN.{ℤ, pos, negsuc, negℤ, natAbs, _-ℤ_, +ℤ-idl}
+use lib.Signed.{mag}
+use mir.Syntax.{Width, w16}
+use mir.Val.{SFits, hbits, toZ, ofZ}
+use mir.Facts.{toZ-ofZ, toZ-pos}
+
+-- a number that is kept in a signed local or field, or passed on
+pub kept : (w : Width) {z y : ℤ} → mag z < 2 ^ hbits w → z ≡ y → toZ w (ofZ w z) ≡ y
+kept w {z} h e = toZ-ofZ {w = w} {z = z} (record { sfits = h }) ∙ e
+
+-- two signed arguments reach a callee as the machine reads them back
+pub passed : {X : Type 0} (f : ℤ → ℤ → X) (w : Width) {a b : ℤ} {z : X} → SFits w a → SFits w b → z ≡ f (toZ w (ofZ w a)) (toZ w (ofZ w b)) → z ≡ f a b
+passed f w h k e = e ∙ ap₂ f (toZ-ofZ h) (toZ-ofZ k)

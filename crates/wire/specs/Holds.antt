@@ -1,0 +1,76 @@
+-- What the encoder accepts: "exactly what the wire holds".
+use Prim.Native.Nat.{ℕ}
+use mathlib.Core.Bool.{Bool, _&&_}
+use mathlib.Core.List.{List, [], _∷_}
+use lib.Dec.{leb}
+use lib.IntN.{ℤ, pos}
+use lib.Signed.{leZ}
+use Rattle.numbers.specs.Bits.{O, number}
+use Rattle.numbers.specs.Signed.{minus}
+use Rattle.wire.specs.Table.{L, R}
+use Rattle.wire.specs.declared.Report.{Report}
+use Rattle.wire.specs.declared.Range.{Range}
+use Rattle.wire.specs.declared.Format.{Format}
+use Rattle.wire.specs.declared.Format.the-variants.{Mm, Microsoft, Absolute, Relative, FiveByte, ThreeByte, Hexadecimal}
+
+infix 5 _to_
+abbrev pub _to_ : ℤ → ℤ → Range
+low to high = record { low = low; high = high }
+
+abbrev pub within : Range → ℤ → Bool
+within range v = leZ (range .low) v && leZ v (range .high)
+
+-- "S -127 to 127; U, T, W -128 to 127; V x -128 to 127 and y -127 to 128; A 0 to 4095; B as listed", -2048 to 2047
+abbrev pub xRange : Format → Range
+xRange Mm = minus 127 to pos 127
+xRange Microsoft = minus 128 to pos 127
+xRange Absolute = pos 0 to pos 4095
+xRange Relative = minus 2048 to pos 2047
+xRange FiveByte = minus 128 to pos 127
+xRange ThreeByte = minus 128 to pos 127
+xRange Hexadecimal = minus 128 to pos 127
+
+abbrev pub yRange : Format → Range
+yRange Mm = minus 127 to pos 127
+yRange Microsoft = minus 127 to pos 128
+yRange Absolute = pos 0 to pos 4095
+yRange Relative = minus 2048 to pos 2047
+yRange FiveByte = minus 128 to pos 127
+yRange ThreeByte = minus 128 to pos 127
+yRange Hexadecimal = minus 128 to pos 127
+
+-- "A report has a second x, y pair; it is zero except in U."
+abbrev pub secondRange : Format → Range
+secondRange Mm = pos 0 to pos 0
+secondRange Microsoft = pos 0 to pos 0
+secondRange Absolute = pos 0 to pos 0
+secondRange Relative = pos 0 to pos 0
+secondRange FiveByte = minus 128 to pos 127
+secondRange ThreeByte = pos 0 to pos 0
+secondRange Hexadecimal = pos 0 to pos 0
+
+-- the format holds a report's movements, either pair
+unfoldable pub holds : Format → Report → Bool
+holds f r =
+    within (xRange f) (r .x1) && within (yRange f) (r .y1) && within (secondRange f) (r .x2) && within (secondRange f) (r .y2)
+
+-- "Buttons are 4L+2M+R, 0 to 7, handed in as a byte"
+abbrev pub pressable : Report → Bool
+pressable r = leb (r .buttons) 7
+
+-- a report that the encoder accepts
+unfoldable pub accepted : Format → Report → Bool
+accepted f r = pressable r && holds f r
+
+-- what a format carries of a report: "V drops M, and a V report read back has M up."
+abbrev pub withoutM : Report → Report
+withoutM r = record { buttons = number (L r ∷ O ∷ R r ∷ []); x1 = r .x1; y1 = r .y1; x2 = r .x2; y2 = r .y2 }
+
+abbrev pub carried : Format → Report → Report
+carried Mm r = r
+carried Microsoft r = withoutM r
+carried Absolute r = r
+carried Relative r = r
+carried FiveByte r = r
+carried ThreeByte r = r
+carried Hexadecimal r = r

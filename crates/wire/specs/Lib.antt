@@ -1,0 +1,9 @@
+-- The seven formats, heading by heading of the paper: "Words on the line" (Line, Table, Holds, Fits, Reading) and "Numbers given back"
+-- (Numbers, Encoder).
+pub mod Line
+pub mod Table
+pub mod Holds
+pub mod Fits
+pub mod Reading
+pub mod Numbers
+pub mod Encoder
