@@ -12,7 +12,7 @@ use lib.Pow.{pow-add, mod-pow-add, shr-shr, high, low, pow-pos}
 use borrow.Author.Tests.{eqb-true, eqb-false}
 use Rattle.numbers.specs.Bits.{value, number, bit, bits}
 
-value-small : (b : Bool) → value b ≤ 1
+pub value-small : (b : Bool) → value b ≤ 1
 value-small true = omega arith
 value-small false = omega arith
 
@@ -78,3 +78,15 @@ bits-in hi (b ∷ mid) lo =
     let rest : bits (length mid) (length lo) (number (hi ++ (b ∷ (mid ++ lo)))) ≡ mid =
     rw append-assoc at (bits-in (hi ++ (b ∷ [])) mid lo) in
     ap₂ _∷_ (rw place (bit-in hi b (mid ++ lo))) rest
+
+-- a row that ends in a number of w bits
+pub number-ends : (hi : List Bool) (w n : ℕ) → n < 2 ^ w → number (hi ++ bits w 0 n) ≡ number hi * 2 ^ w + n
+number-ends hi w n h = number-append hi (bits w 0 n) ∙ rw (length-bits, number-whole w n h)
+
+-- the low w bits of a number
+pub number-low : (w n : ℕ) → number (bits w 0 n) ≡ n % 2 ^ w
+number-low w n = number-bits w 0 n ∙ rw div-one
+
+-- and a row before them
+pub number-joined : (hi : List Bool) (w n : ℕ) → number (hi ++ bits w 0 n) ≡ number hi * 2 ^ w + n % 2 ^ w
+number-joined hi w n = number-append hi (bits w 0 n) ∙ rw (length-bits, number-low)

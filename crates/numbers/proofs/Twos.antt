@@ -9,7 +9,7 @@ use lib.IntN.{ℤ, pos, negsuc, negℤ, natAbs}
 use lib.Signed.{mag, ltZ, leZ, nonNeg}
 use borrow.Author.Tests.{lt-ltb, le-ltb, ltb-true, ltb-false, leb-true, le-leb}
 use Rattle.numbers.specs.Signed.{twos, untwos, signed}
-use Rattle.numbers.proofs.Tested.{left, right}
+use Rattle.numbers.proofs.Tested.{holds, left, right}
 
 pub untwos-twos : (half : ℕ) (z : ℤ) → mag z < half → untwos half (twos half z) ≡ z
 unfolding twos untwos
@@ -89,3 +89,43 @@ unfolding signed
 signed-sign true m = refl
 signed-sign false zero = refl
 signed-sign false (suc m) = simp eqb·suc-zero
+
+-- a number and its negation are equally far from zero
+pub neg-magnitude : (z : ℤ) → natAbs (negℤ z) ≡ natAbs z
+neg-magnitude (pos zero) = refl
+neg-magnitude (pos (suc n)) = refl
+neg-magnitude (negsuc n) = refl
+
+pub below-neg : (z : ℤ) → ltZ z (pos 0) ≡ true → nonNeg (negℤ z) ≡ true
+below-neg (pos n) t = absurd (not-suc-le-zero (ltb-true n 0 t))
+below-neg (negsuc n) t = refl
+
+pub above-nonNeg : (z : ℤ) → ltZ z (pos 0) ≡ false → nonNeg z ≡ true
+above-nonNeg (pos n) t = refl
+above-nonNeg (negsuc n) t = absurd (subst T t tt)
+
+pub below-nonNeg : (z : ℤ) → ltZ z (pos 0) ≡ true → nonNeg z ≡ false
+below-nonNeg (pos n) t = absurd (not-suc-le-zero (ltb-true n 0 t))
+below-nonNeg (negsuc n) t = refl
+
+pub magnitude-near : (z : ℤ) → natAbs z ≤ suc (mag z)
+magnitude-near (pos n) = omega arith
+magnitude-near (negsuc n) = omega arith
+
+-- what lies from -(a + 1) to b, and how far from zero it is
+pub within-reach : (a b m : ℕ) (z : ℤ) → leZ (negsuc a) z && leZ z (pos b) ≡ true → a < m → b ≤ m → natAbs z ≤ m
+within-reach a b m (pos n) e h k = omega (arith, leb-true n b e)
+within-reach a b m (negsuc n) e h k = omega (arith, leb-true n a (left (leb n a) true e))
+
+pub within-neg : (a b m : ℕ) (z : ℤ) → leZ (negsuc a) z && leZ z (pos b) ≡ true → suc a < m → b ≤ m → 0 < m → mag (negℤ z) < m
+within-neg a b m (pos zero) e h k l = l
+within-neg a b m (pos (suc n)) e h k l = omega (arith, leb-true (suc n) b e)
+within-neg a b m (negsuc n) e h k l = omega (arith, leb-true n a (left (leb n a) true e))
+
+pub within-plain : (b : ℕ) (z : ℤ) → leZ (pos 0) z && leZ z (pos b) ≡ true → natAbs z ≤ b
+within-plain b (pos n) e = leb-true n b (right (leb 0 n) (leb n b) e)
+within-plain b (negsuc n) e = absurd (holds e)
+
+pub mag-magnitude : (z : ℤ) → mag z ≤ natAbs z
+mag-magnitude (pos n) = omega arith
+mag-magnitude (negsuc n) = omega arith

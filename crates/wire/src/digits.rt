@@ -9,11 +9,7 @@ ghost use Rattle.wire.specs.Reading.{undigit};
 pub(crate) fn is_digit(b: u8) -> bool
     ensures { λ r. ⌜ r ≡ isDigit b ⌝ }
 {
-    match b {
-        b'0'..=b'9' => true,
-        b'A'..=b'F' => true,
-        _ => false,
-    }
+    ((b'0' <= b) & (b <= b'9')) | ((b'A' <= b) & (b <= b'F'))
 }
 
 // The digit of a number below 16.

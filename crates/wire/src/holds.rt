@@ -83,11 +83,16 @@ fn second_range(f: Format) -> Range
     ensures { λ r. ⌜ r ≡ secondRange f ⌝ }
 {
     match f {
+        Format::Mm => Range { low: 0, high: 0 },
+        Format::Microsoft => Range { low: 0, high: 0 },
+        Format::Absolute => Range { low: 0, high: 0 },
+        Format::Relative => Range { low: 0, high: 0 },
         Format::FiveByte => Range {
             low: -128,
             high: 127,
         },
-        _ => Range { low: 0, high: 0 },
+        Format::ThreeByte => Range { low: 0, high: 0 },
+        Format::Hexadecimal => Range { low: 0, high: 0 },
     }
 }
 

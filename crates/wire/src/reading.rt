@@ -111,13 +111,18 @@ fn read_hexadecimal(b1: u8, b2: u8, b3: u8, b4: u8, b5: u8) -> Report
 pub(crate) fn report_in(f: Format, b: [u8; 5]) -> Report
     ensures { λ r. ⌜ r ≡ reportOf f b ⌝ }
 {
+    let b1 = b[0];
+    let b2 = b[1];
+    let b3 = b[2];
+    let b4 = b[3];
+    let b5 = b[4];
     match f {
-        Format::Mm => read_mm(b[0], b[1], b[2]),
-        Format::Microsoft => read_microsoft(b[0], b[1], b[2]),
-        Format::Absolute => read_absolute(b[0], b[1], b[2], b[3], b[4]),
-        Format::Relative => read_relative(b[0], b[1], b[2], b[3], b[4]),
-        Format::FiveByte => read_five(b[0], b[1], b[2], b[3], b[4]),
-        Format::ThreeByte => read_three(b[0], b[1], b[2]),
-        Format::Hexadecimal => read_hexadecimal(b[0], b[1], b[2], b[3], b[4]),
+        Format::Mm => read_mm(b1, b2, b3),
+        Format::Microsoft => read_microsoft(b1, b2, b3),
+        Format::Absolute => read_absolute(b1, b2, b3, b4, b5),
+        Format::Relative => read_relative(b1, b2, b3, b4, b5),
+        Format::FiveByte => read_five(b1, b2, b3, b4, b5),
+        Format::ThreeByte => read_three(b1, b2, b3),
+        Format::Hexadecimal => read_hexadecimal(b1, b2, b3, b4, b5),
     }
 }

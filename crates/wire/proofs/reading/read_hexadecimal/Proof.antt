@@ -1,0 +1,42 @@
+-- `read_hexadecimal`: the fields of W.
+use borrow.Author.Needs.{needs}
+use mathlib.Core.Path.{_∙_}
+use mir.Syntax.{w16}
+use Rattle.numbers.proofs.Machine.{kept}
+use Rattle.wire.specs.Reading.{readW}
+use Rattle.wire.proofs.reading.read_hexadecimal.Statement.{statement}
+use Rattle.wire.proofs.reading.read_hexadecimal.Tie as tie
+
+number-of-requires : tie.Need-number-of-requires
+number-of-requires c κs = search needs
+
+pair-requires : tie.Need-pair-requires
+pair-requires c κs = search needs
+
+byte-requires : tie.Need-byte-requires
+byte-requires c κs = search needs
+
+pair-requires-2 : tie.Need-pair-requires-2
+pair-requires-2 c κs = search needs
+
+byte-requires-2 : tie.Need-byte-requires-2
+byte-requires-2 c κs = search needs
+
+report-requires : tie.Need-report-requires
+report-requires c κs = search needs
+
+returns : tie.Need-returns
+unfolding readW
+returns c = c .report .ensures ∙ simp (c .before .before .before .before .before .number-of .ensures, kept w16 (c .before .before .before .byte .ok) (c .before .before .before .byte .ensures), kept w16 (c .before .byte2 .ok) (c .before .byte2 .ensures), c .before .before .before .before .pair .ensures, c .before .before .pair2 .ensures)
+
+pub read-hexadecimal-spec : {M : Type 1} → statement M
+read-hexadecimal-spec =
+    tie.close
+    (tie.spec
+    number-of-requires
+    pair-requires
+    byte-requires
+    pair-requires-2
+    byte-requires-2
+    report-requires
+    returns)
