@@ -1,0 +1,2 @@
+-- The laws of the seven formats.
+pub mod Codec
