@@ -37,6 +37,9 @@ unfolding bits
 length-bits zero k n = refl
 length-bits (suc w) k n = ap suc (length-bits w k n)
 
+pub bits-below : (w k n : ℕ) → number (bits w k n) < 2 ^ w
+bits-below w k n = rw (length-bits w k n) at (number-below (bits w k n))
+
 -- a row before another
 pub number-append : (a b : List Bool) → number (a ++ b) ≡ number a * 2 ^ length b + number b
 unfolding number
@@ -78,3 +81,7 @@ bits-in hi (b ∷ mid) lo =
     let rest : bits (length mid) (length lo) (number (hi ++ (b ∷ (mid ++ lo)))) ≡ mid =
     rw append-assoc at (bits-in (hi ++ (b ∷ [])) mid lo) in
     ap₂ _∷_ (rw place (bit-in hi b (mid ++ lo))) rest
+
+-- and so is a number of w bits
+pub whole-in : (hi lo : List Bool) (w n : ℕ) → n < 2 ^ w → number (bits w (length lo) (number (hi ++ (bits w 0 n ++ lo)))) ≡ n
+whole-in hi lo w n h = ap number (rw (length-bits w 0 n) at (bits-in hi (bits w 0 n) lo)) ∙ number-whole w n h

@@ -3,3 +3,5 @@ pub mod Cells
 pub mod Shapes
 pub mod Accepted
 pub mod Ranges
+pub mod S
+pub mod T

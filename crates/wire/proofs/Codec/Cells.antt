@@ -6,13 +6,14 @@ use mathlib.Core.List.{List, [], _∷_, _++_, append-assoc}
 use native.Mathlib.Omega.{arith}
 use native.Mathlib.Nat.{zero-add}
 use lib.ListN.{length}
-use borrow.Author.Tests.{leb-true, le-leb, not-true}
+use borrow.Author.Tests.{le-leb, not-true}
 use Rattle.numbers.specs.Bits.{I, O, number, bit, bits}
 use Rattle.numbers.specs.Parity.{even, withParity}
 use Rattle.numbers.proofs.Tested.{left, right, holds}
 use Rattle.numbers.proofs.Rows.{number-below, number-whole, bit-in}
 use Rattle.numbers.proofs.Ones.{parity-even, parity-of}
 use Rattle.wire.specs.Line.{isByte}
+use Rattle.wire.proofs.Codec.Ranges.{byte-below}
 use Rattle.wire.specs.Fits.{Cell, 𝟏, 𝟎, ·, agrees, like}
 
 -- a row of bits has the fixed bits of the cells
@@ -48,7 +49,7 @@ like-row cells row s e = like-under cells [] row s (le-leb (number row) 255 (ome
 -- what is like cells is a byte
 pub like-byte : (cells : List Cell) (b : ℕ) → like cells b ≡ true → b < 256
 unfolding like
-like-byte [] b l = let h = leb-true b 255 l in omega arith
+like-byte [] b l = byte-below b l
 like-byte (c ∷ cells) b l = like-byte cells b (right (agrees c (bit (length cells) b)) (like cells b) l)
 
 -- the row with the fixed bits put in
@@ -65,7 +66,7 @@ fixed 𝟎 b cells row e = ap (λ (t : Bool). t ∷ filled cells row) (sym (not-
 fixed · b cells row e = refl
 
 -- changes nothing in the bits of what is like the cells
-like-filled : (cells : List Cell) (b : ℕ) → like cells b ≡ true → filled cells (bits (length cells) 0 b) ≡ bits (length cells) 0 b
+pub like-filled : (cells : List Cell) (b : ℕ) → like cells b ≡ true → filled cells (bits (length cells) 0 b) ≡ bits (length cells) 0 b
 unfolding like bits
 like-filled [] b l = refl
 like-filled (c ∷ cells) b l =

@@ -1,5 +1,5 @@
 -- The ranges of the movements, by what the wire carries of them.
-use Prim.Native.Nat.{ℕ, zero, suc, _<_, _≤_}
+use Prim.Native.Nat.{ℕ, zero, suc, _+_, _<_, _≤_}
 use mathlib.Core.Path.{_≡_, refl, ap}
 use mathlib.Core.Bool.{Bool, true, false, _&&_}
 use native.Mathlib.Omega.{arith}
@@ -8,6 +8,9 @@ use lib.Dec.{leb}
 use lib.Signed.{mag, leZ}
 use borrow.Author.Tests.{leb-true, le-leb}
 use Rattle.numbers.proofs.Tested.{left, right, holds}
+use Rattle.numbers.specs.Signed.{twos, untwos}
+use Rattle.numbers.proofs.Twos.{twos-below, untwos-twos, untwos-near, within-near, near-within}
+use Rattle.wire.specs.Line.{isByte}
 use Rattle.wire.specs.Holds.{_to_, within}
 
 -- 0 to high: the magnitude is the number
@@ -46,3 +49,20 @@ pub south-within : (h : ℕ) (z : ℤ) → mag z < suc (suc h) → within (negsu
 south-within h (pos zero) k = le-leb 0 (suc (suc h)) (omega arith)
 south-within h (pos (suc n)) k = rw (le-leb n h (omega arith))
 south-within h (negsuc n) k = le-leb (suc n) (suc (suc h)) (omega arith)
+
+-- two's complement
+pub twos-within : (h : ℕ) (z : ℤ) → within (negsuc h to pos h) z ≡ true → twos (suc h) z < suc h + suc h
+twos-within h z e = twos-below (suc h) z (within-near h z e)
+
+pub twos-back : (h : ℕ) (z : ℤ) → within (negsuc h to pos h) z ≡ true → untwos (suc h) (twos (suc h) z) ≡ z
+twos-back h z e = untwos-twos (suc h) z (within-near h z e)
+
+pub untwos-within : (h n : ℕ) → n < suc h + suc h → within (negsuc h to pos h) (untwos (suc h) n) ≡ true
+untwos-within h n k = near-within h (untwos (suc h) n) (untwos-near (suc h) n k)
+
+-- and that of a byte
+pub twos-byte : (z : ℤ) → within (negsuc 127 to pos 127) z ≡ true → isByte (twos 128 z) ≡ true
+twos-byte z e = le-leb (twos 128 z) 255 (omega (arith, twos-within 127 z e))
+
+pub byte-below : (b : ℕ) → isByte b ≡ true → b < 256
+byte-below b e = omega (arith, leb-true b 255 e)
