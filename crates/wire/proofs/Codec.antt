@@ -1,7 +1,11 @@
 -- Reports and bytes: each the other's, in every format.
+pub mod Ranges
+pub mod Accepted
 pub mod Cells
 pub mod Shapes
-pub mod Accepted
-pub mod Ranges
-pub mod S
-pub mod T
+pub mod Mm
+pub mod Microsoft
+pub mod FiveByte
+pub mod ThreeByte
+pub mod BitPad
+pub mod Hexadecimal
