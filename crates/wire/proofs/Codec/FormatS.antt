@@ -1,16 +1,17 @@
 -- S: a report and its bytes.
 use Prim.Native.Nat.{ℕ, _<_}
 use mathlib.Core.Path.{_≡_, refl, ap, ap₂, _∙_, sym}
-use mathlib.Core.Bool.{Bool, true, _||_}
+use mathlib.Core.Bool.{Bool, true, false, _||_}
 use mathlib.Core.List.{List, [], _∷_, _++_}
 use native.Mathlib.Omega.{arith}
 use native.Mathlib.Nat.{zero-add}
 use lib.ListN.{length, take}
 use lib.IntN.{ℤ, pos, natAbs}
 use lib.Signed.{nonNeg}
+use borrow.Author.Tests.{ne-eqb}
 use Rattle.numbers.specs.Bits.{I, O, number, bit, bits}
 use Rattle.numbers.specs.Signed.{signed}
-use Rattle.numbers.proofs.Tested.{truth, tested}
+use Rattle.numbers.proofs.Tested.{truth, tested, holds}
 use Rattle.numbers.proofs.Rows.{bits-below, number-whole, bit-in, bits-in, whole-in}
 use Rattle.numbers.proofs.Twos.{signed-whole, signed-magnitude, signed-sign}
 use Rattle.wire.specs.Table.{L, M, R, bytesS}
@@ -19,7 +20,7 @@ use Rattle.wire.specs.Fits.{𝟏, 𝟎, ·, like, fitsFirst, fitsLater, 
 use Rattle.wire.specs.Reading.{readS, reportOf, plusZero, isZero}
 use Rattle.wire.specs.declared.Report.{Report}
 use Rattle.wire.specs.declared.Format.the-variants.{Mm}
-use Rattle.wire.proofs.Codec.Cells.{like-row, like-filled, like-number}
+use Rattle.wire.proofs.Codec.Cells.{like-row, like-byte, like-filled, like-number}
 use Rattle.wire.proofs.Codec.Shapes.{three}
 use Rattle.wire.proofs.Codec.Accepted.{Parts, same-report}
 use Rattle.wire.proofs.Codec.Ranges.{magnitude, magnitude-within, only-zero}
@@ -73,5 +74,16 @@ pub back-S : (b1 b2 b3 : ℕ) → fitsFirst Mm b1 ≡ true → fitsLater Mm b2 �
 unfolding fitsFirst bytesS readS plusZero bits
 back-S b1 b2 b3 h1 h2 h3 =
     let mark = ap (take 3) (like-filled (𝟏 ∷ 𝟎 ∷ 𝟎 ∷ · ∷ · ∷ · ∷ · ∷ · ∷ []) b1 h1) in
-    rw (signed-sign, signed-sign, signed-magnitude, signed-magnitude, seven b2 h2, seven b3 h3)
+    simp (signed-sign, signed-magnitude, seven b2 h2, seven b3 h3)
     (ap₂ (λ (hi lo : List Bool). number (hi ++ (bit 4 b1 || isZero b2) ∷ (bit 3 b1 || isZero b3) ∷ lo) ∷ b2 ∷ b3 ∷ []) mark (bits-in [] (bits 3 0 b1) []))
+
+-- a sign that is 1 where the magnitude is 0 stays as it is
+sign-stays : (s : Bool) (m : ℕ) → (m ≡ 0 → s ≡ true) → s || isZero m ≡ s
+sign-stays true m h = refl
+sign-stays false m h = ne-eqb m 0 (λ e. holds (h e))
+
+pub settled-S : (b1 b2 b3 : ℕ) → fitsFirst Mm b1 ≡ true → (b2 ≡ 0 → bit 4 b1 ≡ true) → (b3 ≡ 0 → bit 3 b1 ≡ true) → plusZero b1 b2 b3 ≡ b1 ∷ b2 ∷ b3 ∷ []
+unfolding fitsFirst plusZero bits
+settled-S b1 b2 b3 h1 x y =
+    rw (sign-stays (bit 4 b1) b2 x, sign-stays (bit 3 b1) b3 y)
+    (ap (λ (b : ℕ). b ∷ b2 ∷ b3 ∷ []) (number-whole 8 b1 (like-byte (𝟏 ∷ 𝟎 ∷ 𝟎 ∷ · ∷ · ∷ · ∷ · ∷ · ∷ []) b1 h1)))

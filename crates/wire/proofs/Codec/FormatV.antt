@@ -53,6 +53,15 @@ there-V r p =
     (only-zero (r .x2) (p .moved .second-x))
     (only-zero (r .y2) (p .moved .second-y))
 
+-- without M a report is held as it was
+pub carried-V : (r : Report) → Parts Microsoft r → Parts Microsoft (withoutM r)
+carried-V r p =
+    let m = p .moved in
+    record {
+      pressed = number-below (L r ∷ O ∷ R r ∷ []);
+      moved = record { x = m .x; y = m .y; second-x = m .second-x; second-y = m .second-y };
+    }
+
 -- two bits and six are a byte
 eight-below : (k b c : ℕ) → number (bits 2 k b ++ bits 6 0 c) < 256
 unfolding bits
