@@ -63,6 +63,7 @@ if-so false b c t e = absurd (holds e)
 pub agree-if : (p f g : ℕ → Bool) (n : ℕ) → T (upto (λ k. not (p k) || same (f k) (g k)) n) → (k : ℕ) → k < n → p k ≡ true → f k ≡ g k
 agree-if p f g n t k h = if-so (p k) (f k) (g k) (tested (λ m. not (p m) || same (f m) (g m)) n t k h)
 
+-- and two numbers where a test holds
 eqb-if : (a : Bool) (m n : ℕ) → T (not a || eqb m n) → a ≡ true → m ≡ n
 eqb-if true m n t e = eqb→eq m n t
 eqb-if false m n t e = absurd (holds e)

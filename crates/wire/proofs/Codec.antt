@@ -13,25 +13,24 @@ pub mod Fitting
 use Prim.Native.Nat.{ℕ, _<_, _≤_}
 use mathlib.Core.Path.{_≡_, refl, sym}
 use mathlib.Core.Bool.{Bool, true, false, cond}
-use mathlib.Core.List.{List, [], _∷_}
+use mathlib.Core.List.{List}
 use native.Mathlib.Omega.{arith}
 use lib.ListN.{length, getD, List·getD-eq-default}
 use lib.Dec.{ltb, eqb}
 use lib.Count.{ones, onesIn}
-use lib.IntN.{ℤ, pos}
+use lib.IntN.{pos}
 use borrow.Author.Tests.{ltb-true, ltb-false}
 use Rattle.numbers.specs.Bits.{bit}
 use Rattle.numbers.proofs.Tested.{agree-if, holds as so}
 use Rattle.wire.specs.Line.{sizeOf, markedOf}
 use Rattle.wire.specs.Table.{bytesOf, bytesS, bytesV, bytesA, bytesB, bytesU, bytesT, bytesW, rowsV, rowsA, rowsW}
-use Rattle.wire.specs.Holds.{within, secondRange, holds, accepted, carried}
+use Rattle.wire.specs.Holds.{holds, accepted, carried}
 use Rattle.wire.specs.Fits.{like, fitsAt, fitsFirst, fitsLater, valid}
 use Rattle.wire.specs.Reading.{at, reportOf, settled}
 use Rattle.wire.specs.declared.Report.{Report}
 use Rattle.wire.specs.declared.Format.{Format}
 use Rattle.wire.specs.declared.Format.the-variants.{Mm, Microsoft, Absolute, Relative, FiveByte, ThreeByte, Hexadecimal}
-use Ranges.{only-zero}
-use Accepted.{Parts, parts, whole, held}
+use Accepted.{Parts, parts, whole, held, OnePair, second-zero}
 use Shapes.{valid-fits, of-three, of-five}
 use Fitting.{first-byte, later-byte}
 use FormatS.{valid-S, there-S, read-S, back-S, settled-S}
@@ -81,7 +80,7 @@ bytes-below f r a i = at-place (ltb i (sizeOf f)) refl
   where
     at-place : (t : Bool) → ltb i (sizeOf f) ≡ t → getD (bytesOf f r) i 0 < 256
     at-place true e = fits-byte f i (getD (bytesOf f r) i 0) (bytes-fit f r a i (ltb-true i (sizeOf f) e))
-    at-place false e = 
+    at-place false e =
         let h : length (bytesOf f r) ≤ i = omega (arith, ltb-false i (sizeOf f) e, bytes-length f r) in
         rw (List·getD-eq-default (bytesOf f r) 0 h) (omega arith)
 
@@ -158,17 +157,17 @@ refused : (t : Bool) → (t ≡ true → ⊥) → t ≡ false
 refused true h = absurd (h refl)
 refused false h = refl
 
-second-zero : (f : Format) → (f ≡ FiveByte → ⊥) → (z : ℤ) → within (secondRange f) z ≡ true → z ≡ pos 0
-second-zero Mm u z e = sym (only-zero z e)
-second-zero Microsoft u z e = sym (only-zero z e)
-second-zero Absolute u z e = sym (only-zero z e)
-second-zero Relative u z e = sym (only-zero z e)
-second-zero FiveByte u z e = absurd (u refl)
-second-zero ThreeByte u z e = sym (only-zero z e)
-second-zero Hexadecimal u z e = sym (only-zero z e)
+one-pair : (f : Format) → (f ≡ FiveByte → ⊥) → OnePair f
+one-pair Mm u = refl
+one-pair Microsoft u = refl
+one-pair Absolute u = refl
+one-pair Relative u = refl
+one-pair FiveByte u = absurd (u refl)
+one-pair ThreeByte u = refl
+one-pair Hexadecimal u = refl
 
 pub second-unheld : (f : Format) (r : Report) → (f ≡ FiveByte → ⊥) → (r .x2 ≡ pos 0 → ⊥) → holds f r ≡ false
-second-unheld f r u n = refused (holds f r) (λ h. n (second-zero f u (r .x2) (held f r h .second-x)))
+second-unheld f r u n = refused (holds f r) (λ h. n (sym (second-zero f (one-pair f u) (r .x2) (held f r h .second-x))))
 
 pub second-unheld-y : (f : Format) (r : Report) → (f ≡ FiveByte → ⊥) → (r .y2 ≡ pos 0 → ⊥) → holds f r ≡ false
-second-unheld-y f r u n = refused (holds f r) (λ h. n (second-zero f u (r .y2) (held f r h .second-y)))
+second-unheld-y f r u n = refused (holds f r) (λ h. n (sym (second-zero f (one-pair f u) (r .y2) (held f r h .second-y))))

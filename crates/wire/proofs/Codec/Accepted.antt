@@ -1,13 +1,16 @@
 -- Accepted reports, part by part.
 use Prim.Native.Nat.{ℕ, _<_}
 use mathlib.Core.Path.{_≡_}
-use mathlib.Core.Bool.{Bool, true, _&&_}
+use mathlib.Core.Bool.{true, _&&_}
 use native.Mathlib.Omega.{arith}
+use lib.IntN.{ℤ, pos}
 use borrow.Author.Tests.{leb-true, le-leb}
 use Rattle.numbers.proofs.Tested.{left, right}
-use Rattle.wire.specs.Holds.{within, xRange, yRange, secondRange, holds, pressable, accepted}
+use Rattle.wire.specs.Reading.{report}
+use Rattle.wire.specs.Holds.{_to_, within, xRange, yRange, secondRange, holds, pressable, accepted}
 use Rattle.wire.specs.declared.Report.{Report}
 use Rattle.wire.specs.declared.Format.{Format}
+use Rattle.wire.proofs.Codec.Ranges.{only-zero}
 
 -- each movement within its range
 pub record Held (f : Format) (r : Report) : Type 0 where
@@ -54,3 +57,19 @@ whole f r p =
 -- two reports with the same parts
 pub same-report : {r s : Report} → r .buttons ≡ s .buttons → r .x1 ≡ s .x1 → r .y1 ≡ s .y1 → r .x2 ≡ s .x2 → r .y2 ≡ s .y2 → r ≡ s
 same-report b x y z w = λ i. record { buttons = b i; x1 = x i; y1 = y i; x2 = z i; y2 = w i }
+
+-- a format whose second pair is zero
+abbrev pub OnePair : Format → Type 0
+OnePair f = secondRange f ≡ (pos 0 to pos 0)
+
+pub second-zero : (f : Format) → OnePair f → (z : ℤ) → within (secondRange f) z ≡ true → pos 0 ≡ z
+second-zero f one z e = only-zero z (rw one at e)
+
+-- there a report is its buttons and one pair
+pub one-pair : (f : Format) {b : ℕ} {x y : ℤ} → OnePair f → b < 8 → within (xRange f) x ≡ true → within (yRange f) y ≡ true → Parts f (report b x y)
+one-pair f one b x y = record { pressed = b; moved = record { x = x; y = y; second-x = rw one; second-y = rw one } }
+
+pub same-pair : (f : Format) {r : Report} {b : ℕ} {x y : ℤ} → OnePair f → Parts f r → b ≡ r .buttons → x ≡ r .x1 → y ≡ r .y1 → report b x y ≡ r
+same-pair f {r} one p b x y =
+    let m = p .moved in
+    same-report b x y (second-zero f one (r .x2) (m .second-x)) (second-zero f one (r .y2) (m .second-y))

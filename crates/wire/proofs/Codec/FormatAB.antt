@@ -18,8 +18,8 @@ use Rattle.wire.specs.declared.Report.{Report}
 use Rattle.wire.specs.declared.Format.the-variants.{Absolute, Relative}
 use Rattle.wire.proofs.Codec.Cells.{parity-row, parity-number}
 use Rattle.wire.proofs.Codec.Shapes.{five}
-use Rattle.wire.proofs.Codec.Accepted.{Parts, same-report}
-use Rattle.wire.proofs.Codec.Ranges.{positive, at-most, at-most-within, only-zero, twos-within, twos-back, untwos-within}
+use Rattle.wire.proofs.Codec.Accepted.{Parts, one-pair, same-pair}
+use Rattle.wire.proofs.Codec.Ranges.{positive, at-most, at-most-within, twos-within, twos-back, untwos-within}
 
 -- the seven bits under P
 abbrev first : List Cell
@@ -66,11 +66,9 @@ absolute-there z e = ap pos (twelve-there (natAbs z) (omega (arith, at-most 4095
 pub there-A : (r : Report) → Parts Absolute r → reportOf Absolute (bytesA r) ≡ r
 unfolding readA bytesA rowsA
 there-A r p =
-    same-report (buttons-there r (p .pressed))
+    same-pair Absolute refl p (buttons-there r (p .pressed))
     (absolute-there (r .x1) (p .moved .x))
     (absolute-there (r .y1) (p .moved .y))
-    (only-zero (r .x2) (p .moved .second-x))
-    (only-zero (r .y2) (p .moved .second-y))
 
 relative-there : (z : ℤ) → within (xRange Relative) z ≡ true → untwos 2048 (twelve (number (withParity (O ∷ bits 6 0 (twos 2048 z)))) (number (withParity (O ∷ bits 6 6 (twos 2048 z))))) ≡ z
 relative-there z e = ap (untwos 2048) (twelve-there (twos 2048 z) (twos-within 2047 z e)) ∙ twos-back 2047 z e
@@ -78,11 +76,9 @@ relative-there z e = ap (untwos 2048) (twelve-there (twos 2048 z) (twos-within 2
 pub there-B : (r : Report) → Parts Relative r → reportOf Relative (bytesB r) ≡ r
 unfolding readB bytesB rowsA
 there-B r p =
-    same-report (buttons-there r (p .pressed))
+    same-pair Relative refl p (buttons-there r (p .pressed))
     (relative-there (r .x1) (p .moved .x))
     (relative-there (r .y1) (p .moved .y))
-    (only-zero (r .x2) (p .moved .second-x))
-    (only-zero (r .y2) (p .moved .second-y))
 
 -- twelve bits are below 4096
 twelve-below : (b c : ℕ) → twelve b c < 4096
@@ -92,30 +88,14 @@ twelve-below b c = number-below (bits 6 0 c ++ bits 6 0 b)
 pub read-A : (b1 b2 b3 b4 b5 : ℕ) → Parts Absolute (readA b1 b2 b3 b4 b5)
 unfolding readA
 read-A b1 b2 b3 b4 b5 =
-    record {
-      pressed = bits-below 3 2 b1;
-      moved =
-          record {
-            x = at-most-within 4095 (twelve b2 b3) (omega (arith, twelve-below b2 b3));
-            y = at-most-within 4095 (twelve b4 b5) (omega (arith, twelve-below b4 b5));
-            second-x = refl;
-            second-y = refl;
-          };
-    }
+    one-pair Absolute refl (bits-below 3 2 b1) (at-most-within 4095 (twelve b2 b3) (omega (arith, twelve-below b2 b3)))
+    (at-most-within 4095 (twelve b4 b5) (omega (arith, twelve-below b4 b5)))
 
 pub read-B : (b1 b2 b3 b4 b5 : ℕ) → Parts Relative (readB b1 b2 b3 b4 b5)
 unfolding readB
 read-B b1 b2 b3 b4 b5 =
-    record {
-      pressed = bits-below 3 2 b1;
-      moved =
-          record {
-            x = untwos-within 2047 (twelve b2 b3) (twelve-below b2 b3);
-            y = untwos-within 2047 (twelve b4 b5) (twelve-below b4 b5);
-            second-x = refl;
-            second-y = refl;
-          };
-    }
+    one-pair Relative refl (bits-below 3 2 b1) (untwos-within 2047 (twelve b2 b3) (twelve-below b2 b3))
+    (untwos-within 2047 (twelve b4 b5) (twelve-below b4 b5))
 
 -- a later byte is its six bits under P
 six : (b : ℕ) (row : List Bool) → fitsLater Absolute b ≡ true → row ≡ bits 6 0 b → number (withParity (O ∷ row)) ≡ b

@@ -1,12 +1,12 @@
 -- S: a report and its bytes.
-use Prim.Native.Nat.{ℕ, _<_}
+use Prim.Native.Nat.{ℕ}
 use mathlib.Core.Path.{_≡_, refl, ap, ap₂, _∙_, sym}
 use mathlib.Core.Bool.{Bool, true, false, _||_}
 use mathlib.Core.List.{List, [], _∷_, _++_}
 use native.Mathlib.Omega.{arith}
 use native.Mathlib.Nat.{zero-add}
 use lib.ListN.{length, take}
-use lib.IntN.{ℤ, pos, natAbs}
+use lib.IntN.{ℤ, natAbs}
 use lib.Signed.{nonNeg}
 use borrow.Author.Tests.{ne-eqb}
 use Rattle.numbers.specs.Bits.{I, O, number, bit, bits}
@@ -22,8 +22,8 @@ use Rattle.wire.specs.declared.Report.{Report}
 use Rattle.wire.specs.declared.Format.the-variants.{Mm}
 use Rattle.wire.proofs.Codec.Cells.{like-row, like-byte, like-filled, like-number}
 use Rattle.wire.proofs.Codec.Shapes.{three}
-use Rattle.wire.proofs.Codec.Accepted.{Parts, same-report}
-use Rattle.wire.proofs.Codec.Ranges.{magnitude, magnitude-within, only-zero}
+use Rattle.wire.proofs.Codec.Accepted.{Parts, one-pair, same-pair}
+use Rattle.wire.proofs.Codec.Ranges.{magnitude, magnitude-within}
 
 -- a magnitude is a later byte
 magnitude-fits : (z : ℤ) → within (xRange Mm) z ≡ true → fitsLater Mm (natAbs z) ≡ true
@@ -45,11 +45,9 @@ movement hi lo z h =
 pub there-S : (r : Report) → Parts Mm r → reportOf Mm (bytesS r) ≡ r
 unfolding readS bits bytesS
 there-S r p =
-    same-report (whole-in (I ∷ O ∷ O ∷ nonNeg (r .x1) ∷ nonNeg (r .y1) ∷ []) [] 3 (r .buttons) (p .pressed))
+    same-pair Mm refl p (whole-in (I ∷ O ∷ O ∷ nonNeg (r .x1) ∷ nonNeg (r .y1) ∷ []) [] 3 (r .buttons) (p .pressed))
     (movement (I ∷ O ∷ O ∷ []) (nonNeg (r .y1) ∷ L r ∷ M r ∷ R r ∷ []) (r .x1) (p .moved .x))
     (movement (I ∷ O ∷ O ∷ nonNeg (r .x1) ∷ []) (L r ∷ M r ∷ R r ∷ []) (r .y1) (p .moved .y))
-    (only-zero (r .x2) (p .moved .second-x))
-    (only-zero (r .y2) (p .moved .second-y))
 
 -- seven bits under either sign are a movement that S holds
 seven-within : (s : Bool) (b : ℕ) → within (xRange Mm) (signed s (number (bits 7 0 b))) ≡ true
@@ -60,10 +58,8 @@ seven-within s b =
 pub read-S : (b1 b2 b3 : ℕ) → Parts Mm (readS b1 b2 b3)
 unfolding readS
 read-S b1 b2 b3 =
-    record {
-      pressed = bits-below 3 0 b1;
-      moved = record { x = seven-within (bit 4 b1) b2; y = seven-within (bit 3 b1) b3; second-x = refl; second-y = refl };
-    }
+    one-pair Mm refl (bits-below 3 0 b1) (seven-within (bit 4 b1) b2)
+    (seven-within (bit 3 b1) b3)
 
 -- a later byte is its magnitude
 seven : (b : ℕ) → fitsLater Mm b ≡ true → number (bits 7 0 b) ≡ b

@@ -1,11 +1,10 @@
 -- T: a report and its bytes.
 use Prim.Native.Nat.{ℕ}
-use mathlib.Core.Path.{_≡_, refl, ap, _∙_}
-use mathlib.Core.Bool.{Bool, true}
-use mathlib.Core.List.{List, [], _∷_}
+use mathlib.Core.Path.{_≡_, refl}
+use mathlib.Core.Bool.{true}
+use mathlib.Core.List.{[], _∷_}
 use Rattle.numbers.specs.Bits.{O, number, bits}
 use Rattle.numbers.proofs.Rows.{bits-below, bits-in, whole-in}
-use Rattle.numbers.proofs.Twos.{twos-untwos}
 use Rattle.wire.specs.Table.{L, M, R, bytesT}
 use Rattle.wire.specs.Fits.{𝟎, ·, fitsFirst, fitsLater, allLater, valid}
 use Rattle.wire.specs.Reading.{readT, reportOf}
@@ -13,8 +12,8 @@ use Rattle.wire.specs.declared.Report.{Report}
 use Rattle.wire.specs.declared.Format.the-variants.{ThreeByte}
 use Rattle.wire.proofs.Codec.Cells.{like-row, like-number}
 use Rattle.wire.proofs.Codec.Shapes.{three}
-use Rattle.wire.proofs.Codec.Accepted.{Parts, same-report}
-use Rattle.wire.proofs.Codec.Ranges.{only-zero, twos-byte, twos-back, untwos-within, byte-below}
+use Rattle.wire.proofs.Codec.Accepted.{Parts, one-pair, same-pair}
+use Rattle.wire.proofs.Codec.Ranges.{twos-byte, twos-back, byte-within, byte-back}
 
 pub valid-T : (r : Report) → Parts ThreeByte r → valid ThreeByte (bytesT r) ≡ true
 unfolding valid allLater fitsFirst fitsLater bytesT
@@ -26,30 +25,20 @@ valid-T r p =
 pub there-T : (r : Report) → Parts ThreeByte r → reportOf ThreeByte (bytesT r) ≡ r
 unfolding readT bits bytesT
 there-T r p =
-    same-report (whole-in (O ∷ O ∷ O ∷ O ∷ O ∷ []) [] 3 (r .buttons) (p .pressed))
+    same-pair ThreeByte refl p (whole-in (O ∷ O ∷ O ∷ O ∷ O ∷ []) [] 3 (r .buttons) (p .pressed))
     (twos-back 127 (r .x1) (p .moved .x))
     (twos-back 127 (r .y1) (p .moved .y))
-    (only-zero (r .x2) (p .moved .second-x))
-    (only-zero (r .y2) (p .moved .second-y))
 
 module _ (b1 b2 b3 : ℕ) (h1 : fitsFirst ThreeByte b1 ≡ true) (h2 : fitsLater ThreeByte b2 ≡ true) (h3 : fitsLater ThreeByte b3 ≡ true) where
   pub read-T : Parts ThreeByte (readT b1 b2 b3)
   unfolding readT fitsLater
   read-T =
-      record {
-        pressed = bits-below 3 0 b1;
-        moved =
-            record {
-              x = untwos-within 127 b2 (byte-below b2 h2);
-              y = untwos-within 127 b3 (byte-below b3 h3);
-              second-x = refl;
-              second-y = refl;
-            };
-      }
+      one-pair ThreeByte refl (bits-below 3 0 b1) (byte-within b2 h2)
+      (byte-within b3 h3)
 
   pub back-T : bytesT (readT b1 b2 b3) ≡ b1 ∷ b2 ∷ b3 ∷ []
   unfolding fitsFirst fitsLater bytesT readT bits
   back-T =
       let first : number (O ∷ O ∷ O ∷ O ∷ O ∷ bits 3 0 (number (bits 3 0 b1))) ≡ b1 =
       rw (bits-in [] (bits 3 0 b1) []) (like-number (𝟎 ∷ 𝟎 ∷ 𝟎 ∷ 𝟎 ∷ 𝟎 ∷ · ∷ · ∷ · ∷ []) b1 refl h1) in
-      rw (first, twos-untwos 128 b2 (byte-below b2 h2), twos-untwos 128 b3 (byte-below b3 h3))
+      rw (first, byte-back b2 h2, byte-back b3 h3)

@@ -1,11 +1,10 @@
 -- U: a report and its bytes.
-use Prim.Native.Nat.{ℕ, _<_}
+use Prim.Native.Nat.{ℕ}
 use mathlib.Core.Path.{_≡_, refl, ap, ap₂, _∙_}
 use mathlib.Core.Bool.{Bool, true, not, Bool·not-not}
-use mathlib.Core.List.{List, [], _∷_, _++_, map}
+use mathlib.Core.List.{List, [], _∷_, map}
 use Rattle.numbers.specs.Bits.{I, O, number, bits}
 use Rattle.numbers.proofs.Rows.{number-below, number-whole, bits-in}
-use Rattle.numbers.proofs.Twos.{twos-untwos}
 use Rattle.wire.specs.Table.{L, M, R, bytesU}
 use Rattle.wire.specs.Fits.{𝟏, 𝟎, ·, fitsFirst, fitsLater, allLater, valid}
 use Rattle.wire.specs.Reading.{readU, reportOf}
@@ -14,7 +13,7 @@ use Rattle.wire.specs.declared.Format.the-variants.{FiveByte}
 use Rattle.wire.proofs.Codec.Cells.{like-row, like-number}
 use Rattle.wire.proofs.Codec.Shapes.{five}
 use Rattle.wire.proofs.Codec.Accepted.{Parts, same-report}
-use Rattle.wire.proofs.Codec.Ranges.{twos-byte, twos-back, untwos-within, byte-below}
+use Rattle.wire.proofs.Codec.Ranges.{twos-byte, twos-back, byte-within, byte-back}
 
 -- "0 = pressed", twice
 not-twice : (row : List Bool) → map not (map not row) ≡ row
@@ -37,8 +36,8 @@ there-U r p =
     let stars = map not (bits 3 0 (r .buttons)) in
     same-report
     (ap (λ (row : List Bool). number (map not row)) (bits-in (I ∷ O ∷ O ∷ O ∷ O ∷ []) stars [])
-        ∙ ap number (not-twice (bits 3 0 (r .buttons)))
-        ∙ number-whole 3 (r .buttons) (p .pressed))
+    ∙ ap number (not-twice (bits 3 0 (r .buttons)))
+    ∙ number-whole 3 (r .buttons) (p .pressed))
     (twos-back 127 (r .x1) (p .moved .x))
     (twos-back 127 (r .y1) (p .moved .y))
     (twos-back 127 (r .x2) (p .moved .second-x))
@@ -52,10 +51,10 @@ module _ (b1 b2 b3 b4 b5 : ℕ) (h1 : fitsFirst FiveByte b1 ≡ true) (h2 : fits
         pressed = number-below (map not (bits 3 0 b1));
         moved =
             record {
-              x = untwos-within 127 b2 (byte-below b2 h2);
-              y = untwos-within 127 b3 (byte-below b3 h3);
-              second-x = untwos-within 127 b4 (byte-below b4 h4);
-              second-y = untwos-within 127 b5 (byte-below b5 h5);
+              x = byte-within b2 h2;
+              y = byte-within b3 h3;
+              second-x = byte-within b4 h4;
+              second-y = byte-within b5 h5;
             };
       }
 
@@ -67,4 +66,4 @@ module _ (b1 b2 b3 b4 b5 : ℕ) (h1 : fitsFirst FiveByte b1 ≡ true) (h2 : fits
       ap (λ (row : List Bool). number (I ∷ O ∷ O ∷ O ∷ O ∷ map not row)) (bits-in [] stars [])
       ∙ ap (λ (row : List Bool). number (I ∷ O ∷ O ∷ O ∷ O ∷ row)) (not-twice (bits 3 0 b1))
       ∙ like-number (𝟏 ∷ 𝟎 ∷ 𝟎 ∷ 𝟎 ∷ 𝟎 ∷ · ∷ · ∷ · ∷ []) b1 refl h1 in
-      rw (first, twos-untwos 128 b2 (byte-below b2 h2), twos-untwos 128 b3 (byte-below b3 h3), twos-untwos 128 b4 (byte-below b4 h4), twos-untwos 128 b5 (byte-below b5 h5))
+      rw (first, byte-back b2 h2, byte-back b3 h3, byte-back b4 h4, byte-back b5 h5)

@@ -9,7 +9,7 @@ use Rattle.numbers.specs.Bits.{I, O, number, bit, bits}
 use Rattle.numbers.specs.Signed.{twos, untwos}
 use Rattle.numbers.proofs.Rows.{number-below, number-whole, bit-in, bits-in}
 use Rattle.numbers.proofs.Twos.{twos-below, untwos-twos, untwos-near, twos-untwos}
-use Rattle.wire.specs.Table.{L, M, R, rowsV, bytesV}
+use Rattle.wire.specs.Table.{L, R, rowsV, bytesV}
 use Rattle.wire.specs.Holds.{withoutM}
 use Rattle.wire.specs.Fits.{𝟏, 𝟎, ·, fitsFirst, fitsLater, allLater, valid}
 use Rattle.wire.specs.Reading.{readV, reportOf}
@@ -17,8 +17,8 @@ use Rattle.wire.specs.declared.Report.{Report}
 use Rattle.wire.specs.declared.Format.the-variants.{Microsoft}
 use Rattle.wire.proofs.Codec.Cells.{like-row, like-number}
 use Rattle.wire.proofs.Codec.Shapes.{three}
-use Rattle.wire.proofs.Codec.Accepted.{Parts, same-report}
-use Rattle.wire.proofs.Codec.Ranges.{only-zero, twos-within, twos-back, untwos-within, south, south-within}
+use Rattle.wire.proofs.Codec.Accepted.{Parts, one-pair, same-pair}
+use Rattle.wire.proofs.Codec.Ranges.{twos-within, twos-back, untwos-within, south, south-within}
 
 pub valid-V : (r : Report) → valid Microsoft (bytesV r) ≡ true
 unfolding valid allLater fitsFirst fitsLater bytesV rowsV bits
@@ -37,22 +37,6 @@ eight hi lo X h =
     ap₂ (λ (a b : List Bool). number (a ++ b)) (bits-in hi (bits 2 6 X) lo) (bits-in (O ∷ O ∷ []) (bits 6 0 X) [])
     ∙ number-whole 8 X h
 
-pub there-V : (r : Report) → Parts Microsoft r → reportOf Microsoft (bytesV r) ≡ withoutM r
-unfolding readV bits bytesV rowsV
-there-V r p =
-    let X = twos 128 (r .x1) in
-    let Y = twos 128 (negℤ (r .y1)) in
-    let near = south 126 (r .y1) (p .moved .y) in
-    same-report
-    (ap₂ (λ (a b : Bool). number (a ∷ O ∷ b ∷ [])) (bit-in (O ∷ I ∷ []) (L r) (R r ∷ bits 2 6 Y ++ bits 2 6 X))
-        (bit-in (O ∷ I ∷ L r ∷ []) (R r) (bits 2 6 Y ++ bits 2 6 X)))
-    (ap (untwos 128) (eight (O ∷ I ∷ L r ∷ R r ∷ bits 2 6 Y) [] X (twos-within 127 (r .x1) (p .moved .x)))
-        ∙ twos-back 127 (r .x1) (p .moved .x))
-    (ap (λ (n : ℕ). negℤ (untwos 128 n)) (eight (O ∷ I ∷ L r ∷ R r ∷ []) (bits 2 6 X) Y (twos-below 128 (negℤ (r .y1)) near))
-        ∙ ap negℤ (untwos-twos 128 (negℤ (r .y1)) near) ∙ negℤ-negℤ (r .y1))
-    (only-zero (r .x2) (p .moved .second-x))
-    (only-zero (r .y2) (p .moved .second-y))
-
 -- without M a report is held as it was
 pub carried-V : (r : Report) → Parts Microsoft r → Parts Microsoft (withoutM r)
 carried-V r p =
@@ -62,6 +46,20 @@ carried-V r p =
       moved = record { x = m .x; y = m .y; second-x = m .second-x; second-y = m .second-y };
     }
 
+pub there-V : (r : Report) → Parts Microsoft r → reportOf Microsoft (bytesV r) ≡ withoutM r
+unfolding readV bits bytesV rowsV
+there-V r p =
+    let X = twos 128 (r .x1) in
+    let Y = twos 128 (negℤ (r .y1)) in
+    let near = south 126 (r .y1) (p .moved .y) in
+    same-pair Microsoft refl (carried-V r p)
+    (ap₂ (λ (a b : Bool). number (a ∷ O ∷ b ∷ [])) (bit-in (O ∷ I ∷ []) (L r) (R r ∷ bits 2 6 Y ++ bits 2 6 X))
+    (bit-in (O ∷ I ∷ L r ∷ []) (R r) (bits 2 6 Y ++ bits 2 6 X)))
+    (ap (untwos 128) (eight (O ∷ I ∷ L r ∷ R r ∷ bits 2 6 Y) [] X (twos-within 127 (r .x1) (p .moved .x)))
+    ∙ twos-back 127 (r .x1) (p .moved .x))
+    (ap (λ (n : ℕ). negℤ (untwos 128 n)) (eight (O ∷ I ∷ L r ∷ R r ∷ []) (bits 2 6 X) Y (twos-below 128 (negℤ (r .y1)) near))
+    ∙ ap negℤ (untwos-twos 128 (negℤ (r .y1)) near) ∙ negℤ-negℤ (r .y1))
+
 -- two bits and six are a byte
 eight-below : (k b c : ℕ) → number (bits 2 k b ++ bits 6 0 c) < 256
 unfolding bits
@@ -70,18 +68,11 @@ eight-below k b c = number-below (bits 2 k b ++ bits 6 0 c)
 pub read-V : (b1 b2 b3 : ℕ) → Parts Microsoft (readV b1 b2 b3)
 unfolding readV
 read-V b1 b2 b3 =
-    record {
-      pressed = number-below (bit 5 b1 ∷ O ∷ bit 4 b1 ∷ []);
-      moved =
-          record {
-            x = untwos-within 127 (number (bits 2 0 b1 ++ bits 6 0 b2)) (eight-below 0 b1 b2);
-            y =
-                let Y = number (bits 2 2 b1 ++ bits 6 0 b3) in
-                south-within 126 (untwos 128 Y) (untwos-near 128 Y (eight-below 2 b1 b3));
-            second-x = refl;
-            second-y = refl;
-          };
-    }
+    let X = number (bits 2 0 b1 ++ bits 6 0 b2) in
+    let Y = number (bits 2 2 b1 ++ bits 6 0 b3) in
+    one-pair Microsoft refl (number-below (bit 5 b1 ∷ O ∷ bit 4 b1 ∷ []))
+    (untwos-within 127 X (eight-below 0 b1 b2))
+    (south-within 126 (untwos 128 Y) (untwos-near 128 Y (eight-below 2 b1 b3)))
 
 -- a later byte is its six bits
 six : (b : ℕ) (row : List Bool) → fitsLater Microsoft b ≡ true → row ≡ bits 6 0 b → number (O ∷ O ∷ row) ≡ b
@@ -97,9 +88,9 @@ back-V b1 b2 b3 h1 h2 h3 =
     let buttons = number (bit 5 b1 ∷ O ∷ bit 4 b1 ∷ []) in
     let first : number (O ∷ I ∷ bit 2 buttons ∷ bit 0 buttons ∷ bits 2 6 Y ++ bits 2 6 X) ≡ b1 =
     ap₂ (λ (l r : Bool). number (O ∷ I ∷ l ∷ r ∷ bits 2 6 Y ++ bits 2 6 X)) (bit-in [] (bit 5 b1) (O ∷ bit 4 b1 ∷ []))
-        (bit-in (bit 5 b1 ∷ O ∷ []) (bit 4 b1) [])
+    (bit-in (bit 5 b1 ∷ O ∷ []) (bit 4 b1) [])
     ∙ ap₂ (λ (y x : List Bool). number (O ∷ I ∷ bit 5 b1 ∷ bit 4 b1 ∷ y ++ x)) (bits-in [] (bits 2 2 b1) (bits 6 0 b3))
-        (bits-in [] (bits 2 0 b1) (bits 6 0 b2))
+    (bits-in [] (bits 2 0 b1) (bits 6 0 b2))
     ∙ like-number (𝟎 ∷ 𝟏 ∷ · ∷ · ∷ · ∷ · ∷ · ∷ · ∷ []) b1 refl h1 in
     rw (negℤ-negℤ, twos-untwos 128 X (eight-below 0 b1 b2), twos-untwos 128 Y (eight-below 2 b1 b3))
     (λ i. first i ∷ six b2 (bits 6 0 X) h2 (bits-in (bits 2 0 b1) (bits 6 0 b2) []) i ∷ six b3 (bits 6 0 Y) h3 (bits-in (bits 2 2 b1) (bits 6 0 b3) []) i ∷ [])

@@ -19,12 +19,12 @@ use Rattle.wire.specs.Reading.{undigit, pair, readW, reportOf}
 use Rattle.wire.specs.declared.Report.{Report}
 use Rattle.wire.specs.declared.Format.the-variants.{Hexadecimal}
 use Rattle.wire.proofs.Codec.Shapes.{five}
-use Rattle.wire.proofs.Codec.Accepted.{Parts, same-report}
-use Rattle.wire.proofs.Codec.Ranges.{only-zero, twos-within, twos-back, untwos-within}
+use Rattle.wire.proofs.Codec.Accepted.{Parts, one-pair, same-pair}
+use Rattle.wire.proofs.Codec.Ranges.{twos-within, twos-back, untwos-within}
 
 -- digits are bytes
-at-most : (low high b : ℕ) → between low high b ≡ true → b ≤ high
-at-most low high b e = leb-true b high (right (leb low b) (leb b high) e)
+below-high : (low high b : ℕ) → between low high b ≡ true → b ≤ high
+below-high low high b e = leb-true b high (right (leb low b) (leb b high) e)
 
 either-byte : (b : ℕ) (s t : Bool) → (s ≡ true → b < 256) → (t ≡ true → b < 256) → s || t ≡ true → b < 256
 either-byte b true t p q e = p refl
@@ -33,11 +33,11 @@ either-byte b false t p q e = q e
 pub later-byte : (b : ℕ) → fitsLater Hexadecimal b ≡ true → b < 256
 unfolding fitsLater
 later-byte b =
-    either-byte b (between 0x30 0x39 b) (between 0x41 0x46 b) (λ e. omega (arith, at-most 0x30 0x39 b e)) (λ e. omega (arith, at-most 0x41 0x46 b e))
+    either-byte b (between 0x30 0x39 b) (between 0x41 0x46 b) (λ e. omega (arith, below-high 0x30 0x39 b e)) (λ e. omega (arith, below-high 0x41 0x46 b e))
 
 pub first-byte : (b : ℕ) → fitsFirst Hexadecimal b ≡ true → b < 256
 unfolding fitsFirst
-first-byte b l = omega (arith, at-most 0x30 0x37 b l)
+first-byte b l = omega (arith, below-high 0x30 0x37 b l)
 
 -- the digit of a number, and the number of a digit
 digit-fits : (n : ℕ) → n < 16 → fitsLater Hexadecimal (digit n) ≡ true
@@ -96,11 +96,9 @@ movement-there z e = ap (untwos 128) (pair-there (twos 128 z) (twos-within 127 z
 pub there-W : (r : Report) → Parts Hexadecimal r → reportOf Hexadecimal (bytesW r) ≡ r
 unfolding readW bytesW rowsW
 there-W r p =
-    same-report (undigit-digit (r .buttons) (omega (arith, p .pressed)))
+    same-pair Hexadecimal refl p (undigit-digit (r .buttons) (omega (arith, p .pressed)))
     (movement-there (r .x1) (p .moved .x))
     (movement-there (r .y1) (p .moved .y))
-    (only-zero (r .x2) (p .moved .second-x))
-    (only-zero (r .y2) (p .moved .second-y))
 
 pair-below : (b c : ℕ) → pair b c < 256
 unfolding bits
@@ -109,16 +107,8 @@ pair-below b c = number-below (bits 4 0 (undigit c) ++ bits 4 0 (undigit b))
 pub read-W : (b1 b2 b3 b4 b5 : ℕ) → fitsFirst Hexadecimal b1 ≡ true → Parts Hexadecimal (readW b1 b2 b3 b4 b5)
 unfolding readW
 read-W b1 b2 b3 b4 b5 h1 =
-    record {
-      pressed = first-below b1 h1;
-      moved =
-          record {
-            x = untwos-within 127 (pair b2 b3) (pair-below b2 b3);
-            y = untwos-within 127 (pair b4 b5) (pair-below b4 b5);
-            second-x = refl;
-            second-y = refl;
-          };
-    }
+    one-pair Hexadecimal refl (first-below b1 h1) (untwos-within 127 (pair b2 b3) (pair-below b2 b3))
+    (untwos-within 127 (pair b4 b5) (pair-below b4 b5))
 
 four-back : (b : ℕ) (row : List Bool) → fitsLater Hexadecimal b ≡ true → row ≡ bits 4 0 (undigit b) → digit (number row) ≡ b
 four-back b row l e =

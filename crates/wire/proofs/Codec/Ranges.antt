@@ -1,15 +1,15 @@
 -- The ranges of the movements, by what the wire carries of them.
 use Prim.Native.Nat.{ℕ, zero, suc, _+_, _<_, _≤_}
 use mathlib.Core.Path.{_≡_, refl, ap}
-use mathlib.Core.Bool.{Bool, true, false, _&&_}
+use mathlib.Core.Bool.{true}
 use native.Mathlib.Omega.{arith}
 use lib.IntN.{ℤ, pos, negsuc, negℤ, natAbs}
 use lib.Dec.{leb}
-use lib.Signed.{mag, leZ}
+use lib.Signed.{mag}
 use borrow.Author.Tests.{leb-true, le-leb}
 use Rattle.numbers.proofs.Tested.{left, right, holds}
 use Rattle.numbers.specs.Signed.{twos, untwos}
-use Rattle.numbers.proofs.Twos.{twos-below, untwos-twos, untwos-near, within-near, near-within}
+use Rattle.numbers.proofs.Twos.{twos-below, untwos-twos, twos-untwos, untwos-near, within-near, near-within}
 use Rattle.wire.specs.Line.{isByte}
 use Rattle.wire.specs.Holds.{_to_, within}
 
@@ -66,3 +66,9 @@ twos-byte z e = le-leb (twos 128 z) 255 (omega (arith, twos-within 127 z e))
 
 pub byte-below : (b : ℕ) → isByte b ≡ true → b < 256
 byte-below b e = omega (arith, leb-true b 255 e)
+
+pub byte-within : (b : ℕ) → isByte b ≡ true → within (negsuc 127 to pos 127) (untwos 128 b) ≡ true
+byte-within b e = untwos-within 127 b (byte-below b e)
+
+pub byte-back : (b : ℕ) → isByte b ≡ true → twos 128 (untwos 128 b) ≡ b
+byte-back b e = twos-untwos 128 b (byte-below b e)
