@@ -15,6 +15,11 @@ truth false t = absurd t
 pub holds : {b : Bool} → b ≡ true → T b
 holds e = subst T (sym e) tt
 
+-- a test that does not hold
+pub refused : (b : Bool) → (b ≡ true → ⊥) → b ≡ false
+refused true n = absurd (n refl)
+refused false n = refl
+
 -- both of two tests that hold together
 pub left : (a b : Bool) → a && b ≡ true → a ≡ true
 left true b e = refl

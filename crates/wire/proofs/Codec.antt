@@ -12,16 +12,16 @@ pub mod FormatW
 pub mod Fitting
 use Prim.Native.Nat.{ℕ, _<_, _≤_}
 use mathlib.Core.Path.{_≡_, refl, sym}
-use mathlib.Core.Bool.{Bool, true, false, cond}
+use mathlib.Core.Bool.{Bool, true, false, not, cond, _||_}
 use mathlib.Core.List.{List}
 use native.Mathlib.Omega.{arith}
 use lib.ListN.{length, getD, List·getD-eq-default}
-use lib.Dec.{ltb, eqb}
+use lib.Dec.{T, ltb, eqb}
 use lib.Count.{ones, onesIn}
 use lib.IntN.{pos}
 use borrow.Author.Tests.{ltb-true, ltb-false}
 use Rattle.numbers.specs.Bits.{bit}
-use Rattle.numbers.proofs.Tested.{agree-if, holds as so}
+use Rattle.numbers.proofs.Tested.{same, upto, agree-if, refused, holds as so}
 use Rattle.wire.specs.Line.{sizeOf, markedOf}
 use Rattle.wire.specs.Table.{bytesOf, bytesS, bytesV, bytesA, bytesB, bytesU, bytesT, bytesW, rowsV, rowsA, rowsW}
 use Rattle.wire.specs.Holds.{holds, accepted, carried}
@@ -30,8 +30,8 @@ use Rattle.wire.specs.Reading.{at, reportOf, settled}
 use Rattle.wire.specs.declared.Report.{Report}
 use Rattle.wire.specs.declared.Format.{Format}
 use Rattle.wire.specs.declared.Format.the-variants.{Mm, Microsoft, Absolute, Relative, FiveByte, ThreeByte, Hexadecimal}
-use Accepted.{Parts, parts, whole, held, OnePair, second-zero}
-use Shapes.{valid-fits, of-three, of-five}
+use Accepted.{Held, held, Parts, parts, whole, OnePair, second-zero}
+use Shapes.{ComesBack, ReadParts, valid-fits, of-three, of-five}
 use Fitting.{first-byte, later-byte}
 use FormatS.{valid-S, there-S, read-S, back-S, settled-S}
 use FormatV.{valid-V, there-V, carried-V, read-V, back-V}
@@ -105,33 +105,27 @@ carried-accepted ThreeByte r a = a
 carried-accepted Hexadecimal r a = a
 
 -- the report of valid bytes is accepted
-abbrev ReadParts : Format → List ℕ → Type 0
-ReadParts f bs = Parts f (reportOf f bs)
-
-read-parts : (f : Format) (bs : List ℕ) → valid f bs ≡ true → ReadParts f bs
-read-parts Mm = of-three Mm (ReadParts Mm) refl (λ b1 b2 b3 h1 h2 h3. read-S b1 b2 b3)
-read-parts Microsoft = of-three Microsoft (ReadParts Microsoft) refl (λ b1 b2 b3 h1 h2 h3. read-V b1 b2 b3)
-read-parts Absolute = of-five Absolute (ReadParts Absolute) refl (λ b1 b2 b3 b4 b5 h1 h2 h3 h4 h5. read-A b1 b2 b3 b4 b5)
-read-parts Relative = of-five Relative (ReadParts Relative) refl (λ b1 b2 b3 b4 b5 h1 h2 h3 h4 h5. read-B b1 b2 b3 b4 b5)
+read-parts : (f : Format) (bs : List ℕ) → valid f bs ≡ true → Parts f (reportOf f bs)
+read-parts Mm = of-three Mm (ReadParts Mm) refl read-S
+read-parts Microsoft = of-three Microsoft (ReadParts Microsoft) refl read-V
+read-parts Absolute = of-five Absolute (ReadParts Absolute) refl read-A
+read-parts Relative = of-five Relative (ReadParts Relative) refl read-B
 read-parts FiveByte = of-five FiveByte (ReadParts FiveByte) refl read-U
 read-parts ThreeByte = of-three ThreeByte (ReadParts ThreeByte) refl read-T
-read-parts Hexadecimal = of-five Hexadecimal (ReadParts Hexadecimal) refl (λ b1 b2 b3 b4 b5 h1 h2 h3 h4 h5. read-W b1 b2 b3 b4 b5 h1)
+read-parts Hexadecimal = of-five Hexadecimal (ReadParts Hexadecimal) refl read-W
 
 pub read-accepted : (f : Format) (bs : List ℕ) → valid f bs ≡ true → accepted f (reportOf f bs) ≡ true
 read-accepted f bs v = whole f (reportOf f bs) (read-parts f bs v)
 
 -- and encoding it gives the same bytes, except a minus zero of S
-abbrev Back : Format → List ℕ → Type 0
-Back f bs = bytesOf f (reportOf f bs) ≡ settled f bs
-
 pub back : (f : Format) (bs : List ℕ) → valid f bs ≡ true → bytesOf f (reportOf f bs) ≡ settled f bs
-back Mm = of-three Mm (Back Mm) refl back-S
-back Microsoft = of-three Microsoft (Back Microsoft) refl back-V
-back Absolute = of-five Absolute (Back Absolute) refl back-A
-back Relative = of-five Relative (Back Relative) refl back-B
-back FiveByte = of-five FiveByte (Back FiveByte) refl back-U
-back ThreeByte = of-three ThreeByte (Back ThreeByte) refl back-T
-back Hexadecimal = of-five Hexadecimal (Back Hexadecimal) refl back-W
+back Mm = of-three Mm (ComesBack Mm) refl back-S
+back Microsoft = of-three Microsoft (ComesBack Microsoft) refl back-V
+back Absolute = of-five Absolute (ComesBack Absolute) refl back-A
+back Relative = of-five Relative (ComesBack Relative) refl back-B
+back FiveByte = of-five FiveByte (ComesBack FiveByte) refl back-U
+back ThreeByte = of-three ThreeByte (ComesBack ThreeByte) refl back-T
+back Hexadecimal = of-five Hexadecimal (ComesBack Hexadecimal) refl back-W
 
 -- bytes of S whose zeros have the sign bit 1 are settled already
 pub settled-same : (bs : List ℕ) → valid Mm bs ≡ true → (at 1 bs ≡ 0 → bit 4 (at 0 bs) ≡ true) → (at 2 bs ≡ 0 → bit 3 (at 0 bs) ≡ true) → settled Mm bs ≡ bs
@@ -142,32 +136,34 @@ settled-same =
     (λ b1 b2 b3 h1 h2 h3. settled-S b1 b2 b3 h1)
 
 -- in the marked formats no first byte is a later byte
+told-apart : (f : Format) → T (upto (λ b. not (fitsFirst f b) || same (fitsLater f b) false) 256) → (b : ℕ) → fitsFirst f b ≡ true → fitsLater f b ≡ false
+told-apart f t b l = agree-if (fitsFirst f) (fitsLater f) (λ b. false) 256 t b (first-byte f b l) l
+
 pub mark : (f : Format) (b : ℕ) → markedOf f ≡ true → fitsFirst f b ≡ true → fitsLater f b ≡ false
 unfolding fitsFirst fitsLater like bit ones onesIn
-mark Mm b m l = agree-if (fitsFirst Mm) (fitsLater Mm) (λ b. false) 256 tt b (first-byte Mm b l) l
-mark Microsoft b m l = agree-if (fitsFirst Microsoft) (fitsLater Microsoft) (λ b. false) 256 tt b (first-byte Microsoft b l) l
-mark Absolute b m l = agree-if (fitsFirst Absolute) (fitsLater Absolute) (λ b. false) 256 tt b (first-byte Absolute b l) l
-mark Relative b m l = agree-if (fitsFirst Relative) (fitsLater Relative) (λ b. false) 256 tt b (first-byte Relative b l) l
-mark FiveByte b m l = absurd (so m)
-mark ThreeByte b m l = absurd (so m)
-mark Hexadecimal b m l = absurd (so m)
+mark Mm b m = told-apart Mm tt b
+mark Microsoft b m = told-apart Microsoft tt b
+mark Absolute b m = told-apart Absolute tt b
+mark Relative b m = told-apart Relative tt b
+mark FiveByte b m = absurd (so m)
+mark ThreeByte b m = absurd (so m)
+mark Hexadecimal b m = absurd (so m)
 
--- a second pair outside U is not held
-refused : (t : Bool) → (t ≡ true → ⊥) → t ≡ false
-refused true h = absurd (h refl)
-refused false h = refl
+-- outside U there is one pair, and a second is not held
+outside-U : (f : Format) → (f ≡ FiveByte → ⊥) → OnePair f
+outside-U Mm u = refl
+outside-U Microsoft u = refl
+outside-U Absolute u = refl
+outside-U Relative u = refl
+outside-U FiveByte u = absurd (u refl)
+outside-U ThreeByte u = refl
+outside-U Hexadecimal u = refl
 
-one-pair : (f : Format) → (f ≡ FiveByte → ⊥) → OnePair f
-one-pair Mm u = refl
-one-pair Microsoft u = refl
-one-pair Absolute u = refl
-one-pair Relative u = refl
-one-pair FiveByte u = absurd (u refl)
-one-pair ThreeByte u = refl
-one-pair Hexadecimal u = refl
+unheld : (f : Format) (r : Report) → (Held f r → ⊥) → holds f r ≡ false
+unheld f r n = refused (holds f r) (λ h. n (held f r h))
 
 pub second-unheld : (f : Format) (r : Report) → (f ≡ FiveByte → ⊥) → (r .x2 ≡ pos 0 → ⊥) → holds f r ≡ false
-second-unheld f r u n = refused (holds f r) (λ h. n (sym (second-zero f (one-pair f u) (r .x2) (held f r h .second-x))))
+second-unheld f r u n = unheld f r (λ h. n (sym (second-zero f (outside-U f u) (r .x2) (h .second-x))))
 
 pub second-unheld-y : (f : Format) (r : Report) → (f ≡ FiveByte → ⊥) → (r .y2 ≡ pos 0 → ⊥) → holds f r ≡ false
-second-unheld-y f r u n = refused (holds f r) (λ h. n (sym (second-zero f (one-pair f u) (r .y2) (held f r h .second-y))))
+second-unheld-y f r u n = unheld f r (λ h. n (sym (second-zero f (outside-U f u) (r .y2) (h .second-y))))

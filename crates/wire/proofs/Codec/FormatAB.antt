@@ -13,11 +13,11 @@ use Rattle.numbers.proofs.Twos.{twos-untwos}
 use Rattle.wire.specs.Table.{L, M, R, rowsA, bytesA, bytesB}
 use Rattle.wire.specs.Holds.{within, xRange}
 use Rattle.wire.specs.Fits.{Cell, 𝟏, 𝟎, ·, fitsFirst, fitsLater, allLater, valid}
-use Rattle.wire.specs.Reading.{report, twelve, readA, readB, reportOf}
+use Rattle.wire.specs.Reading.{at, report, twelve, readA, readB, reportOf}
 use Rattle.wire.specs.declared.Report.{Report}
 use Rattle.wire.specs.declared.Format.the-variants.{Absolute, Relative}
 use Rattle.wire.proofs.Codec.Cells.{parity-row, parity-number}
-use Rattle.wire.proofs.Codec.Shapes.{five}
+use Rattle.wire.proofs.Codec.Shapes.{OfFive, ReadParts, ComesBack, five}
 use Rattle.wire.proofs.Codec.Accepted.{Parts, one-pair, same-pair}
 use Rattle.wire.proofs.Codec.Ranges.{positive, at-most, at-most-within, twos-within, twos-back, untwos-within}
 
@@ -85,15 +85,15 @@ twelve-below : (b c : ℕ) → twelve b c < 4096
 unfolding bits
 twelve-below b c = number-below (bits 6 0 c ++ bits 6 0 b)
 
-pub read-A : (b1 b2 b3 b4 b5 : ℕ) → Parts Absolute (readA b1 b2 b3 b4 b5)
+pub read-A : OfFive Absolute (ReadParts Absolute)
 unfolding readA
-read-A b1 b2 b3 b4 b5 =
+read-A b1 b2 b3 b4 b5 h1 h2 h3 h4 h5 =
     one-pair Absolute refl (bits-below 3 2 b1) (at-most-within 4095 (twelve b2 b3) (omega (arith, twelve-below b2 b3)))
     (at-most-within 4095 (twelve b4 b5) (omega (arith, twelve-below b4 b5)))
 
-pub read-B : (b1 b2 b3 b4 b5 : ℕ) → Parts Relative (readB b1 b2 b3 b4 b5)
+pub read-B : OfFive Relative (ReadParts Relative)
 unfolding readB
-read-B b1 b2 b3 b4 b5 =
+read-B b1 b2 b3 b4 b5 h1 h2 h3 h4 h5 =
     one-pair Relative refl (bits-below 3 2 b1) (untwos-within 2047 (twelve b2 b3) (twelve-below b2 b3))
     (untwos-within 2047 (twelve b4 b5) (twelve-below b4 b5))
 
@@ -110,19 +110,19 @@ high : (b c : ℕ) → fitsLater Absolute c ≡ true → number (withParity (O �
 unfolding bits
 high b c l = six c (bits 6 6 (twelve b c)) l (bits-in [] (bits 6 0 c) (bits 6 0 b))
 
-rows-back : (b1 b2 b3 b4 b5 : ℕ) (x y : ℤ) → fitsFirst Absolute b1 ≡ true → fitsLater Absolute b2 ≡ true → fitsLater Absolute b3 ≡ true → fitsLater Absolute b4 ≡ true → fitsLater Absolute b5 ≡ true → rowsA (report (number (bits 3 2 b1)) x y) (twelve b2 b3) (twelve b4 b5) ≡ b1 ∷ b2 ∷ b3 ∷ b4 ∷ b5 ∷ []
+rows-back : (x y : ℤ) → OfFive Absolute (λ bs. rowsA (report (number (bits 3 2 (at 0 bs))) x y) (twelve (at 1 bs) (at 2 bs)) (twelve (at 3 bs) (at 4 bs)) ≡ bs)
 unfolding fitsFirst rowsA bits
-rows-back b1 b2 b3 b4 b5 x y h1 h2 h3 h4 h5 =
+rows-back x y b1 b2 b3 b4 b5 h1 h2 h3 h4 h5 =
     let buttons = ap (λ (row : List Bool). number (withParity (I ∷ O ∷ row ++ O ∷ O ∷ []))) (bits-in [] (bits 3 2 b1) []) in
     let head = buttons ∙ parity-number first b1 refl h1 in
     λ i. head i ∷ low b2 b3 h2 i ∷ high b2 b3 h3 i ∷ low b4 b5 h4 i ∷ high b4 b5 h5 i ∷ []
 
-pub back-A : (b1 b2 b3 b4 b5 : ℕ) → fitsFirst Absolute b1 ≡ true → fitsLater Absolute b2 ≡ true → fitsLater Absolute b3 ≡ true → fitsLater Absolute b4 ≡ true → fitsLater Absolute b5 ≡ true → bytesA (readA b1 b2 b3 b4 b5) ≡ b1 ∷ b2 ∷ b3 ∷ b4 ∷ b5 ∷ []
+pub back-A : OfFive Absolute (ComesBack Absolute)
 unfolding bytesA readA
-back-A b1 b2 b3 b4 b5 = rows-back b1 b2 b3 b4 b5 (pos (twelve b2 b3)) (pos (twelve b4 b5))
+back-A b1 b2 b3 b4 b5 = rows-back (pos (twelve b2 b3)) (pos (twelve b4 b5)) b1 b2 b3 b4 b5
 
-pub back-B : (b1 b2 b3 b4 b5 : ℕ) → fitsFirst Relative b1 ≡ true → fitsLater Relative b2 ≡ true → fitsLater Relative b3 ≡ true → fitsLater Relative b4 ≡ true → fitsLater Relative b5 ≡ true → bytesB (readB b1 b2 b3 b4 b5) ≡ b1 ∷ b2 ∷ b3 ∷ b4 ∷ b5 ∷ []
+pub back-B : OfFive Relative (ComesBack Relative)
 unfolding fitsFirst fitsLater bytesB readB
 back-B b1 b2 b3 b4 b5 h1 h2 h3 h4 h5 =
     rw (twos-untwos 2048 (twelve b2 b3) (twelve-below b2 b3), twos-untwos 2048 (twelve b4 b5) (twelve-below b4 b5))
-    (rows-back b1 b2 b3 b4 b5 (untwos 2048 (twelve b2 b3)) (untwos 2048 (twelve b4 b5)) h1 h2 h3 h4 h5)
+    (rows-back (untwos 2048 (twelve b2 b3)) (untwos 2048 (twelve b4 b5)) b1 b2 b3 b4 b5 h1 h2 h3 h4 h5)

@@ -21,7 +21,7 @@ use Rattle.wire.specs.Reading.{readS, reportOf, plusZero, isZero}
 use Rattle.wire.specs.declared.Report.{Report}
 use Rattle.wire.specs.declared.Format.the-variants.{Mm}
 use Rattle.wire.proofs.Codec.Cells.{like-row, like-byte, like-filled, like-number}
-use Rattle.wire.proofs.Codec.Shapes.{three}
+use Rattle.wire.proofs.Codec.Shapes.{OfThree, ReadParts, ComesBack, three}
 use Rattle.wire.proofs.Codec.Accepted.{Parts, one-pair, same-pair}
 use Rattle.wire.proofs.Codec.Ranges.{magnitude, magnitude-within}
 
@@ -55,9 +55,9 @@ seven-within s b =
     let m = number (bits 7 0 b) in
     magnitude-within 126 (signed s m) (rw (signed-magnitude s m) (omega (arith, bits-below 7 0 b)))
 
-pub read-S : (b1 b2 b3 : ℕ) → Parts Mm (readS b1 b2 b3)
+pub read-S : OfThree Mm (ReadParts Mm)
 unfolding readS
-read-S b1 b2 b3 =
+read-S b1 b2 b3 h1 h2 h3 =
     one-pair Mm refl (bits-below 3 0 b1) (seven-within (bit 4 b1) b2)
     (seven-within (bit 3 b1) b3)
 
@@ -66,7 +66,7 @@ seven : (b : ℕ) → fitsLater Mm b ≡ true → number (bits 7 0 b) ≡ b
 unfolding fitsLater number bits
 seven b l = sym (zero-add (number (bits 7 0 b))) ∙ like-number (𝟎 ∷ · ∷ · ∷ · ∷ · ∷ · ∷ · ∷ · ∷ []) b refl l
 
-pub back-S : (b1 b2 b3 : ℕ) → fitsFirst Mm b1 ≡ true → fitsLater Mm b2 ≡ true → fitsLater Mm b3 ≡ true → bytesS (readS b1 b2 b3) ≡ plusZero b1 b2 b3
+pub back-S : OfThree Mm (ComesBack Mm)
 unfolding fitsFirst bytesS readS plusZero bits
 back-S b1 b2 b3 h1 h2 h3 =
     let mark = ap (take 3) (like-filled (𝟏 ∷ 𝟎 ∷ 𝟎 ∷ · ∷ · ∷ · ∷ · ∷ · ∷ []) b1 h1) in

@@ -1,5 +1,4 @@
 -- T: a report and its bytes.
-use Prim.Native.Nat.{ℕ}
 use mathlib.Core.Path.{_≡_, refl}
 use mathlib.Core.Bool.{true}
 use mathlib.Core.List.{[], _∷_}
@@ -11,7 +10,7 @@ use Rattle.wire.specs.Reading.{readT, reportOf}
 use Rattle.wire.specs.declared.Report.{Report}
 use Rattle.wire.specs.declared.Format.the-variants.{ThreeByte}
 use Rattle.wire.proofs.Codec.Cells.{like-row, like-number}
-use Rattle.wire.proofs.Codec.Shapes.{three}
+use Rattle.wire.proofs.Codec.Shapes.{OfThree, ReadParts, ComesBack, three}
 use Rattle.wire.proofs.Codec.Accepted.{Parts, one-pair, same-pair}
 use Rattle.wire.proofs.Codec.Ranges.{twos-byte, twos-back, byte-within, byte-back}
 
@@ -29,16 +28,15 @@ there-T r p =
     (twos-back 127 (r .x1) (p .moved .x))
     (twos-back 127 (r .y1) (p .moved .y))
 
-module _ (b1 b2 b3 : ℕ) (h1 : fitsFirst ThreeByte b1 ≡ true) (h2 : fitsLater ThreeByte b2 ≡ true) (h3 : fitsLater ThreeByte b3 ≡ true) where
-  pub read-T : Parts ThreeByte (readT b1 b2 b3)
-  unfolding readT fitsLater
-  read-T =
-      one-pair ThreeByte refl (bits-below 3 0 b1) (byte-within b2 h2)
-      (byte-within b3 h3)
+pub read-T : OfThree ThreeByte (ReadParts ThreeByte)
+unfolding readT fitsLater
+read-T b1 b2 b3 h1 h2 h3 =
+    one-pair ThreeByte refl (bits-below 3 0 b1) (byte-within b2 h2)
+    (byte-within b3 h3)
 
-  pub back-T : bytesT (readT b1 b2 b3) ≡ b1 ∷ b2 ∷ b3 ∷ []
-  unfolding fitsFirst fitsLater bytesT readT bits
-  back-T =
-      let first : number (O ∷ O ∷ O ∷ O ∷ O ∷ bits 3 0 (number (bits 3 0 b1))) ≡ b1 =
-      rw (bits-in [] (bits 3 0 b1) []) (like-number (𝟎 ∷ 𝟎 ∷ 𝟎 ∷ 𝟎 ∷ 𝟎 ∷ · ∷ · ∷ · ∷ []) b1 refl h1) in
-      rw (first, byte-back b2 h2, byte-back b3 h3)
+pub back-T : OfThree ThreeByte (ComesBack ThreeByte)
+unfolding fitsFirst fitsLater bytesT readT bits
+back-T b1 b2 b3 h1 h2 h3 =
+    let first : number (O ∷ O ∷ O ∷ O ∷ O ∷ bits 3 0 (number (bits 3 0 b1))) ≡ b1 =
+    rw (bits-in [] (bits 3 0 b1) []) (like-number (𝟎 ∷ 𝟎 ∷ 𝟎 ∷ 𝟎 ∷ 𝟎 ∷ · ∷ · ∷ · ∷ []) b1 refl h1) in
+    rw (first, byte-back b2 h2, byte-back b3 h3)

@@ -1,5 +1,4 @@
 -- U: a report and its bytes.
-use Prim.Native.Nat.{ℕ}
 use mathlib.Core.Path.{_≡_, refl, ap, ap₂, _∙_}
 use mathlib.Core.Bool.{Bool, true, not, Bool·not-not}
 use mathlib.Core.List.{List, [], _∷_, map}
@@ -11,7 +10,7 @@ use Rattle.wire.specs.Reading.{readU, reportOf}
 use Rattle.wire.specs.declared.Report.{Report}
 use Rattle.wire.specs.declared.Format.the-variants.{FiveByte}
 use Rattle.wire.proofs.Codec.Cells.{like-row, like-number}
-use Rattle.wire.proofs.Codec.Shapes.{five}
+use Rattle.wire.proofs.Codec.Shapes.{OfFive, ReadParts, ComesBack, five}
 use Rattle.wire.proofs.Codec.Accepted.{Parts, same-report}
 use Rattle.wire.proofs.Codec.Ranges.{twos-byte, twos-back, byte-within, byte-back}
 
@@ -43,27 +42,26 @@ there-U r p =
     (twos-back 127 (r .x2) (p .moved .second-x))
     (twos-back 127 (r .y2) (p .moved .second-y))
 
-module _ (b1 b2 b3 b4 b5 : ℕ) (h1 : fitsFirst FiveByte b1 ≡ true) (h2 : fitsLater FiveByte b2 ≡ true) (h3 : fitsLater FiveByte b3 ≡ true) (h4 : fitsLater FiveByte b4 ≡ true) (h5 : fitsLater FiveByte b5 ≡ true) where
-  pub read-U : Parts FiveByte (readU b1 b2 b3 b4 b5)
-  unfolding readU fitsLater bits
-  read-U =
-      record {
-        pressed = number-below (map not (bits 3 0 b1));
-        moved =
-            record {
-              x = byte-within b2 h2;
-              y = byte-within b3 h3;
-              second-x = byte-within b4 h4;
-              second-y = byte-within b5 h5;
-            };
-      }
+pub read-U : OfFive FiveByte (ReadParts FiveByte)
+unfolding readU fitsLater bits
+read-U b1 b2 b3 b4 b5 h1 h2 h3 h4 h5 =
+    record {
+      pressed = number-below (map not (bits 3 0 b1));
+      moved =
+          record {
+            x = byte-within b2 h2;
+            y = byte-within b3 h3;
+            second-x = byte-within b4 h4;
+            second-y = byte-within b5 h5;
+          };
+    }
 
-  pub back-U : bytesU (readU b1 b2 b3 b4 b5) ≡ b1 ∷ b2 ∷ b3 ∷ b4 ∷ b5 ∷ []
-  unfolding fitsFirst fitsLater bytesU readU bits
-  back-U =
-      let stars = map not (bits 3 0 b1) in
-      let first : number (I ∷ O ∷ O ∷ O ∷ O ∷ map not (bits 3 0 (number stars))) ≡ b1 =
-      ap (λ (row : List Bool). number (I ∷ O ∷ O ∷ O ∷ O ∷ map not row)) (bits-in [] stars [])
-      ∙ ap (λ (row : List Bool). number (I ∷ O ∷ O ∷ O ∷ O ∷ row)) (not-twice (bits 3 0 b1))
-      ∙ like-number (𝟏 ∷ 𝟎 ∷ 𝟎 ∷ 𝟎 ∷ 𝟎 ∷ · ∷ · ∷ · ∷ []) b1 refl h1 in
-      rw (first, byte-back b2 h2, byte-back b3 h3, byte-back b4 h4, byte-back b5 h5)
+pub back-U : OfFive FiveByte (ComesBack FiveByte)
+unfolding fitsFirst fitsLater bytesU readU bits
+back-U b1 b2 b3 b4 b5 h1 h2 h3 h4 h5 =
+    let stars = map not (bits 3 0 b1) in
+    let first : number (I ∷ O ∷ O ∷ O ∷ O ∷ map not (bits 3 0 (number stars))) ≡ b1 =
+    ap (λ (row : List Bool). number (I ∷ O ∷ O ∷ O ∷ O ∷ map not row)) (bits-in [] stars [])
+    ∙ ap (λ (row : List Bool). number (I ∷ O ∷ O ∷ O ∷ O ∷ row)) (not-twice (bits 3 0 b1))
+    ∙ like-number (𝟏 ∷ 𝟎 ∷ 𝟎 ∷ 𝟎 ∷ 𝟎 ∷ · ∷ · ∷ · ∷ []) b1 refl h1 in
+    rw (first, byte-back b2 h2, byte-back b3 h3, byte-back b4 h4, byte-back b5 h5)

@@ -16,7 +16,7 @@ use Rattle.wire.specs.Reading.{readV, reportOf}
 use Rattle.wire.specs.declared.Report.{Report}
 use Rattle.wire.specs.declared.Format.the-variants.{Microsoft}
 use Rattle.wire.proofs.Codec.Cells.{like-row, like-number}
-use Rattle.wire.proofs.Codec.Shapes.{three}
+use Rattle.wire.proofs.Codec.Shapes.{OfThree, ReadParts, ComesBack, three}
 use Rattle.wire.proofs.Codec.Accepted.{Parts, one-pair, same-pair}
 use Rattle.wire.proofs.Codec.Ranges.{twos-within, twos-back, untwos-within, south, south-within}
 
@@ -65,9 +65,9 @@ eight-below : (k b c : ℕ) → number (bits 2 k b ++ bits 6 0 c) < 256
 unfolding bits
 eight-below k b c = number-below (bits 2 k b ++ bits 6 0 c)
 
-pub read-V : (b1 b2 b3 : ℕ) → Parts Microsoft (readV b1 b2 b3)
+pub read-V : OfThree Microsoft (ReadParts Microsoft)
 unfolding readV
-read-V b1 b2 b3 =
+read-V b1 b2 b3 h1 h2 h3 =
     let X = number (bits 2 0 b1 ++ bits 6 0 b2) in
     let Y = number (bits 2 2 b1 ++ bits 6 0 b3) in
     one-pair Microsoft refl (number-below (bit 5 b1 ∷ O ∷ bit 4 b1 ∷ []))
@@ -80,7 +80,7 @@ unfolding fitsLater bits
 six b row l e =
     ap (λ (row : List Bool). number (O ∷ O ∷ row)) e ∙ like-number (𝟎 ∷ 𝟎 ∷ · ∷ · ∷ · ∷ · ∷ · ∷ · ∷ []) b refl l
 
-pub back-V : (b1 b2 b3 : ℕ) → fitsFirst Microsoft b1 ≡ true → fitsLater Microsoft b2 ≡ true → fitsLater Microsoft b3 ≡ true → bytesV (readV b1 b2 b3) ≡ b1 ∷ b2 ∷ b3 ∷ []
+pub back-V : OfThree Microsoft (ComesBack Microsoft)
 unfolding fitsFirst bytesV rowsV readV bits
 back-V b1 b2 b3 h1 h2 h3 =
     let X = number (bits 2 0 b1 ++ bits 6 0 b2) in

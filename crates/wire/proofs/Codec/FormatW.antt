@@ -18,7 +18,7 @@ use Rattle.wire.specs.Fits.{between, fitsFirst, fitsLater, allLater, val
 use Rattle.wire.specs.Reading.{undigit, pair, readW, reportOf}
 use Rattle.wire.specs.declared.Report.{Report}
 use Rattle.wire.specs.declared.Format.the-variants.{Hexadecimal}
-use Rattle.wire.proofs.Codec.Shapes.{five}
+use Rattle.wire.proofs.Codec.Shapes.{OfFive, ReadParts, ComesBack, five}
 use Rattle.wire.proofs.Codec.Accepted.{Parts, one-pair, same-pair}
 use Rattle.wire.proofs.Codec.Ranges.{twos-within, twos-back, untwos-within}
 
@@ -104,9 +104,9 @@ pair-below : (b c : ℕ) → pair b c < 256
 unfolding bits
 pair-below b c = number-below (bits 4 0 (undigit c) ++ bits 4 0 (undigit b))
 
-pub read-W : (b1 b2 b3 b4 b5 : ℕ) → fitsFirst Hexadecimal b1 ≡ true → Parts Hexadecimal (readW b1 b2 b3 b4 b5)
+pub read-W : OfFive Hexadecimal (ReadParts Hexadecimal)
 unfolding readW
-read-W b1 b2 b3 b4 b5 h1 =
+read-W b1 b2 b3 b4 b5 h1 h2 h3 h4 h5 =
     one-pair Hexadecimal refl (first-below b1 h1) (untwos-within 127 (pair b2 b3) (pair-below b2 b3))
     (untwos-within 127 (pair b4 b5) (pair-below b4 b5))
 
@@ -124,7 +124,7 @@ high : (b c : ℕ) → fitsLater Hexadecimal c ≡ true → digit (number (bits 
 unfolding bits
 high b c l = four-back c (bits 4 4 (pair b c)) l (bits-in [] (bits 4 0 (undigit c)) (bits 4 0 (undigit b)))
 
-pub back-W : (b1 b2 b3 b4 b5 : ℕ) → fitsFirst Hexadecimal b1 ≡ true → fitsLater Hexadecimal b2 ≡ true → fitsLater Hexadecimal b3 ≡ true → fitsLater Hexadecimal b4 ≡ true → fitsLater Hexadecimal b5 ≡ true → bytesW (readW b1 b2 b3 b4 b5) ≡ b1 ∷ b2 ∷ b3 ∷ b4 ∷ b5 ∷ []
+pub back-W : OfFive Hexadecimal (ComesBack Hexadecimal)
 unfolding bytesW rowsW readW
 back-W b1 b2 b3 b4 b5 h1 h2 h3 h4 h5 =
     rw (twos-untwos 128 (pair b2 b3) (pair-below b2 b3), twos-untwos 128 (pair b4 b5) (pair-below b4 b5))

@@ -7,8 +7,8 @@ use lib.IntN.{ℤ, pos, negsuc, negℤ, natAbs}
 use lib.Dec.{leb}
 use lib.Signed.{mag}
 use borrow.Author.Tests.{leb-true, le-leb}
-use Rattle.numbers.proofs.Tested.{left, right, holds}
 use Rattle.numbers.specs.Signed.{twos, untwos}
+use Rattle.numbers.proofs.Tested.{left, right, holds}
 use Rattle.numbers.proofs.Twos.{twos-below, untwos-twos, twos-untwos, untwos-near, within-near, near-within}
 use Rattle.wire.specs.Line.{isByte}
 use Rattle.wire.specs.Holds.{_to_, within}

@@ -9,8 +9,34 @@ use lib.Dec.{eqb, eqb·suc-zero}
 use borrow.Author.Tests.{eqb-true}
 use Rattle.numbers.proofs.Tested.{left, right, holds}
 use Rattle.wire.specs.Line.{sizeOf}
+use Rattle.wire.specs.Table.{bytesOf}
+use Rattle.wire.specs.Reading.{reportOf, settled}
 use Rattle.wire.specs.Fits.{fitsFirst, fitsLater, fitsAt, allLater, valid}
 use Rattle.wire.specs.declared.Format.{Format}
+use Rattle.wire.proofs.Codec.Accepted.{Parts}
+
+-- of any three bytes that fit, and of any five
+abbrev pub OfThree : Format → (List ℕ → Type 0) → Type 0
+OfThree f P =
+    (b1 b2 b3 : ℕ) → fitsFirst f b1 ≡ true → fitsLater f b2 ≡ true → fitsLater f b3 ≡ true → P (b1 ∷ b2 ∷ b3 ∷ [])
+
+abbrev pub OfFive : Format → (List ℕ → Type 0) → Type 0
+OfFive f P =
+    (b1 b2 b3 b4 b5 : ℕ)
+    → fitsFirst f b1 ≡ true
+    → fitsLater f b2 ≡ true
+    → fitsLater f b3 ≡ true
+    → fitsLater f b4 ≡ true
+    → fitsLater f b5 ≡ true
+    → P (b1 ∷ b2 ∷ b3 ∷ b4 ∷ b5 ∷ [])
+
+-- bytes that come back when their report is encoded, minus zeros settled
+abbrev pub ComesBack : Format → List ℕ → Type 0
+ComesBack f bs = bytesOf f (reportOf f bs) ≡ settled f bs
+
+-- bytes whose report is accepted, part by part
+abbrev pub ReadParts : Format → List ℕ → Type 0
+ReadParts f bs = Parts f (reportOf f bs)
 
 module _ (f : Format) where
   -- as many as the size, the first fitting the first place, the others the later ones
@@ -45,7 +71,7 @@ module _ (f : Format) where
       let v = fitting b bs v in rw (eqb·suc-zero i) (later-fits bs i (v .later) (omega arith))
 
   -- what holds of three bytes that fit holds of all valid bytes of a format of three
-  pub of-three : (P : List ℕ → Type 0) → sizeOf f ≡ 3 → ((b1 b2 b3 : ℕ) → fitsFirst f b1 ≡ true → fitsLater f b2 ≡ true → fitsLater f b3 ≡ true → P (b1 ∷ b2 ∷ b3 ∷ [])) → (bs : List ℕ) → valid f bs ≡ true → P bs
+  pub of-three : (P : List ℕ → Type 0) → sizeOf f ≡ 3 → OfThree f P → (bs : List ℕ) → valid f bs ≡ true → P bs
   unfolding valid fitsAt
   of-three P size p [] v = absurd (holds v)
   of-three P size p (b1 ∷ []) v = absurd (omega (arith, fitting b1 [] v .size))
@@ -56,7 +82,7 @@ module _ (f : Format) where
   of-three P size p (b1 ∷ b2 ∷ b3 ∷ b4 ∷ bs) v = absurd (omega (arith, fitting b1 (b2 ∷ b3 ∷ b4 ∷ bs) v .size))
 
   -- and what holds of five, of those of a format of five
-  pub of-five : (P : List ℕ → Type 0) → sizeOf f ≡ 5 → ((b1 b2 b3 b4 b5 : ℕ) → fitsFirst f b1 ≡ true → fitsLater f b2 ≡ true → fitsLater f b3 ≡ true → fitsLater f b4 ≡ true → fitsLater f b5 ≡ true → P (b1 ∷ b2 ∷ b3 ∷ b4 ∷ b5 ∷ [])) → (bs : List ℕ) → valid f bs ≡ true → P bs
+  pub of-five : (P : List ℕ → Type 0) → sizeOf f ≡ 5 → OfFive f P → (bs : List ℕ) → valid f bs ≡ true → P bs
   unfolding valid fitsAt
   of-five P size p [] v = absurd (holds v)
   of-five P size p (b1 ∷ []) v = absurd (omega (arith, fitting b1 [] v .size))
