@@ -1,9 +1,9 @@
 -- Numbers held between two ends, and the sums that are held at 16 bits.
 use Prim.Native.Nat.{ℕ, suc, _+_, _-_, _≤_, _<_, _^_}
-use mathlib.Core.Path.{_≡_, refl, sym, subst}
+use mathlib.Core.Path.{_≡_, refl, subst}
 use mathlib.Core.Bool.{Bool, true, false, cond, _&&_}
 use native.Mathlib.Omega.{arith}
-use lib.IntN.{ℤ, pos, negsuc, negℤ, _+ℤ_, subℕ}
+use lib.IntN.{ℤ, pos, negsuc, _+ℤ_, subℕ}
 use lib.Dec.{T, ltb}
 use lib.Signed.{mag, ltZ, leZ}
 use mir.Syntax.{Width, w16, w32}

@@ -2,7 +2,7 @@
 use Prim.Native.Nat.{ℕ, zero, suc, _<_, _≤_, _^_}
 use mathlib.Core.Path.{_≡_, refl, _∙_, ap₂}
 use native.Mathlib.Omega.{arith}
-use lib.IntN.{ℤ, pos, negsuc, negℤ, _-ℤ_, +ℤ-idl}
+use lib.IntN.{ℤ, pos, negsuc, negℤ, negℤ-negℤ, _-ℤ_, +ℤ-idl}
 use lib.Signed.{mag}
 use mir.Syntax.{Width}
 use mir.Val.{SFits, hbits, toZ, ofZ}
@@ -21,6 +21,9 @@ neg-near : (z : ℤ) → mag (negℤ z) ≤ suc (mag z)
 neg-near (pos zero) = omega arith
 neg-near (pos (suc n)) = omega arith
 neg-near (negsuc n) = omega arith
+
+pub near-neg : (z : ℤ) → mag z ≤ suc (mag (negℤ z))
+near-neg z = rw negℤ-negℤ at (neg-near (negℤ z))
 
 pub minus-fits : (w : Width) (z : ℤ) → suc (mag z) < 2 ^ hbits w → SFits w (pos 0 -ℤ z)
 minus-fits w z h = rw +ℤ-idl (record { sfits = omega (arith, neg-near z) })

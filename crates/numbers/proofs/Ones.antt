@@ -1,6 +1,6 @@
 -- The bit P: seven bits under it have an even count of ones.
 use Prim.Native.Nat.{ℕ, _+_, _*_, _^_, _<_}
-use mathlib.Core.Path.{_≡_, refl, ap}
+use mathlib.Core.Path.{_≡_, ap}
 use mathlib.Core.Bool.{Bool, true, false, not, cond}
 use mathlib.Core.List.{List, _∷_}
 use native.Mathlib.Omega.{arith}

@@ -8,7 +8,7 @@ use native.Mathlib.Nat.{pow-suc, add-comm, mod-one, mod-eq-of-lt, div-one}
 use native.Mathlib.Numerals.{one-add}
 use lib.ListN.{length, length-append}
 use lib.Dec.{eqb}
-use lib.Pow.{pow-add, mod-pow-add, shr-shr, high, low, pow-pos}
+use lib.Pow.{pow-add, mod-pow-add, shr-shr, high}
 use borrow.Author.Tests.{eqb-true, eqb-false}
 use Rattle.numbers.specs.Bits.{value, number, bit, bits}
 
@@ -37,6 +37,9 @@ unfolding bits
 length-bits zero k n = refl
 length-bits (suc w) k n = ap suc (length-bits w k n)
 
+pub bits-below : (w k n : ℕ) → number (bits w k n) < 2 ^ w
+bits-below w k n = rw (length-bits w k n) at (number-below (bits w k n))
+
 -- a row before another
 pub number-append : (a b : List Bool) → number (a ++ b) ≡ number a * 2 ^ length b + number b
 unfolding number
@@ -53,9 +56,16 @@ number-bits zero k n = sym (mod-one (n / 2 ^ k))
 number-bits (suc w) k n =
     rw (value-bit, length-bits w k n, number-bits w k n, ← shr-shr n k w, ← one-add w) (sym (mod-pow-add (n / 2 ^ k) 1 w))
 
--- the low w bits are n, if it has no more
+-- the low w bits; they are n, if it has no more
+pub number-low : (w n : ℕ) → number (bits w 0 n) ≡ n % 2 ^ w
+number-low w n = number-bits w 0 n ∙ rw div-one
+
 pub number-whole : (w n : ℕ) → n < 2 ^ w → number (bits w 0 n) ≡ n
-number-whole w n h = number-bits w 0 n ∙ rw div-one (mod-eq-of-lt h)
+number-whole w n h = number-low w n ∙ mod-eq-of-lt h
+
+-- and a row before them
+pub number-joined : (hi : List Bool) (w n : ℕ) → number (hi ++ bits w 0 n) ≡ number hi * 2 ^ w + n % 2 ^ w
+number-joined hi w n = number-append hi (bits w 0 n) ∙ rw (length-bits, number-low)
 
 is-bit : (b : Bool) (q : ℕ) → eqb ((q * 2 + value b) % 2) 1 ≡ b
 is-bit true q = let e : (q * 2 + 1) % 2 ≡ 1 = omega arith in rw e
@@ -79,14 +89,6 @@ bits-in hi (b ∷ mid) lo =
     rw append-assoc at (bits-in (hi ++ (b ∷ [])) mid lo) in
     ap₂ _∷_ (rw place (bit-in hi b (mid ++ lo))) rest
 
--- a row that ends in a number of w bits
-pub number-ends : (hi : List Bool) (w n : ℕ) → n < 2 ^ w → number (hi ++ bits w 0 n) ≡ number hi * 2 ^ w + n
-number-ends hi w n h = number-append hi (bits w 0 n) ∙ rw (length-bits, number-whole w n h)
-
--- the low w bits of a number
-pub number-low : (w n : ℕ) → number (bits w 0 n) ≡ n % 2 ^ w
-number-low w n = number-bits w 0 n ∙ rw div-one
-
--- and a row before them
-pub number-joined : (hi : List Bool) (w n : ℕ) → number (hi ++ bits w 0 n) ≡ number hi * 2 ^ w + n % 2 ^ w
-number-joined hi w n = number-append hi (bits w 0 n) ∙ rw (length-bits, number-low)
+-- and so is a number of w bits
+pub whole-in : (hi lo : List Bool) (w n : ℕ) → n < 2 ^ w → number (bits w (length lo) (number (hi ++ (bits w 0 n ++ lo)))) ≡ n
+whole-in hi lo w n h = ap number (rw (length-bits w 0 n) at (bits-in hi (bits w 0 n) lo)) ∙ number-whole w n h

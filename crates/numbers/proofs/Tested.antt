@@ -15,6 +15,11 @@ truth false t = absurd t
 pub holds : {b : Bool} → b ≡ true → T b
 holds e = subst T (sym e) tt
 
+-- a test that does not hold
+pub refused : (b : Bool) → (b ≡ true → ⊥) → b ≡ false
+refused true n = absurd (n refl)
+refused false n = refl
+
 -- both of two tests that hold together
 pub left : (a b : Bool) → a && b ≡ true → a ≡ true
 left true b e = refl
@@ -62,3 +67,11 @@ if-so false b c t e = absurd (holds e)
 
 pub agree-if : (p f g : ℕ → Bool) (n : ℕ) → T (upto (λ k. not (p k) || same (f k) (g k)) n) → (k : ℕ) → k < n → p k ≡ true → f k ≡ g k
 agree-if p f g n t k h = if-so (p k) (f k) (g k) (tested (λ m. not (p m) || same (f m) (g m)) n t k h)
+
+-- and two numbers where a test holds
+eqb-if : (a : Bool) (m n : ℕ) → T (not a || eqb m n) → a ≡ true → m ≡ n
+eqb-if true m n t e = eqb→eq m n t
+eqb-if false m n t e = absurd (holds e)
+
+pub equal-if : (p : ℕ → Bool) (f g : ℕ → ℕ) (n : ℕ) → T (upto (λ k. not (p k) || eqb (f k) (g k)) n) → (k : ℕ) → k < n → p k ≡ true → f k ≡ g k
+equal-if p f g n t k h = eqb-if (p k) (f k) (g k) (tested (λ m. not (p m) || eqb (f m) (g m)) n t k h)

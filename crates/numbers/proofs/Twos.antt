@@ -9,7 +9,7 @@ use lib.IntN.{ℤ, pos, negsuc, negℤ, natAbs}
 use lib.Signed.{mag, ltZ, leZ, nonNeg}
 use borrow.Author.Tests.{lt-ltb, le-ltb, ltb-true, ltb-false, leb-true, le-leb}
 use Rattle.numbers.specs.Signed.{twos, untwos, signed}
-use Rattle.numbers.proofs.Tested.{holds, left, right}
+use Rattle.numbers.proofs.Tested.{left}
 
 pub untwos-twos : (half : ℕ) (z : ℤ) → mag z < half → untwos half (twos half z) ≡ z
 unfolding twos untwos
@@ -111,20 +111,6 @@ below-nonNeg (negsuc n) t = refl
 pub magnitude-near : (z : ℤ) → natAbs z ≤ suc (mag z)
 magnitude-near (pos n) = omega arith
 magnitude-near (negsuc n) = omega arith
-
--- what lies from -(a + 1) to b, and how far from zero it is
-pub within-reach : (a b m : ℕ) (z : ℤ) → leZ (negsuc a) z && leZ z (pos b) ≡ true → a < m → b ≤ m → natAbs z ≤ m
-within-reach a b m (pos n) e h k = omega (arith, leb-true n b e)
-within-reach a b m (negsuc n) e h k = omega (arith, leb-true n a (left (leb n a) true e))
-
-pub within-neg : (a b m : ℕ) (z : ℤ) → leZ (negsuc a) z && leZ z (pos b) ≡ true → suc a < m → b ≤ m → 0 < m → mag (negℤ z) < m
-within-neg a b m (pos zero) e h k l = l
-within-neg a b m (pos (suc n)) e h k l = omega (arith, leb-true (suc n) b e)
-within-neg a b m (negsuc n) e h k l = omega (arith, leb-true n a (left (leb n a) true e))
-
-pub within-plain : (b : ℕ) (z : ℤ) → leZ (pos 0) z && leZ z (pos b) ≡ true → natAbs z ≤ b
-within-plain b (pos n) e = leb-true n b (right (leb 0 n) (leb n b) e)
-within-plain b (negsuc n) e = absurd (holds e)
 
 pub mag-magnitude : (z : ℤ) → mag z ≤ natAbs z
 mag-magnitude (pos n) = omega arith

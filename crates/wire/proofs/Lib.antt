@@ -1,5 +1,5 @@
--- The laws that the functions' proofs share.
-pub mod Accepted
+-- The laws of the seven formats (Codec), and what the functions' proofs share.
+pub mod Codec
 pub mod Fields
 pub mod FixedBits
 pub mod Front

@@ -5,14 +5,14 @@ use mathlib.Core.Bool.{Bool, true, false, not}
 use mathlib.Core.List.{List, [], _∷_, _++_}
 use native.Mathlib.Omega.{arith}
 use Rattle.numbers.specs.Bits.{I, O, value, number, bit, bits}
-use Rattle.numbers.proofs.Rows.{value-small, value-bit, number-ends, number-bits}
+use Rattle.numbers.proofs.Rows.{value-small, value-bit, number-joined, number-bits}
 use Rattle.numbers.proofs.Tested.{equal}
 use Rattle.wire.specs.Table.{rowsV}
 
 -- S: 1 0 0 SX SY L M R
 pub sum-S : (sx sy : Bool) (b : ℕ) → b ≤ 7 → 128 + value sx * 16 % 256 + value sy * 8 % 256 + b ≡ number (I ∷ O ∷ O ∷ sx ∷ sy ∷ bit 2 b ∷ bit 1 b ∷ bit 0 b ∷ [])
 unfolding number bits
-sum-S sx sy b h = omega (arith, number-ends (I ∷ O ∷ O ∷ sx ∷ sy ∷ []) 3 b (omega arith), value-small sx, value-small sy)
+sum-S sx sy b h = omega (arith, number-joined (I ∷ O ∷ O ∷ sx ∷ sy ∷ []) 3 b, value-small sx, value-small sy)
 
 -- V: 0 1 L R Y7 Y6 X7 X6
 top-pair : (n : ℕ) → n < 256 → n / 64 ≡ value (bit 7 n) * 2 + value (bit 6 n)
@@ -60,7 +60,7 @@ sum-U b h = equal (λ n. 128 + (7 - n)) (λ n. number (I ∷ O ∷ O ∷ O ∷ O
 -- T: 0 0 0 0 0 L M R
 pub sum-T : (b : ℕ) → b ≤ 7 → b ≡ number (O ∷ O ∷ O ∷ O ∷ O ∷ bit 2 b ∷ bit 1 b ∷ bit 0 b ∷ [])
 unfolding number bits
-sum-T b h = omega (arith, number-ends (O ∷ O ∷ O ∷ O ∷ O ∷ []) 3 b (omega arith))
+sum-T b h = omega (arith, number-joined (O ∷ O ∷ O ∷ O ∷ O ∷ []) 3 b)
 
 -- W: the low and the high four bits of a byte
 pub low-four : (n : ℕ) → number (bits 4 0 n) ≡ n % 16

@@ -5,8 +5,9 @@ use lib.Signed.{mag}
 use mathlib.Core.Path.{_≡_}
 use mir.Syntax.{w16}
 use mir.Val.{toZ, ofZ}
+use native.Mathlib.Omega.{arith}
 use Rattle.numbers.proofs.Twos.{within-near}
-use Rattle.wire.proofs.Accepted.{buttons-fit, x1-held, y1-held, x2-held, y2-held}
+use Rattle.wire.proofs.Codec.Accepted.{parts}
 use Rattle.wire.proofs.Sums.{sum-U}
 use Rattle.wire.specs.Table.{bytesU}
 use Rattle.wire.specs.declared.Format.the-variants.{FiveByte}
@@ -26,19 +27,19 @@ y2-is : (c : tie.Start) → toZ w16 (ofZ w16 (c .args .r .y2)) ≡ c .args .r .y
 y2-is c = search needs
 
 pressed : (c : tie.Start) → c .args .r .buttons ≤ 7
-pressed c = buttons-fit FiveByte (c .args .r) (c .pre)
+pressed c = omega (arith, parts FiveByte (c .args .r) (c .pre) .pressed)
 
 x1-near : (c : tie.Start) → mag (c .args .r .x1) < 128
-x1-near c = within-near 127 (c .args .r .x1) (x1-held FiveByte (c .args .r) (c .pre))
+x1-near c = within-near 127 (c .args .r .x1) (parts FiveByte (c .args .r) (c .pre) .moved .x)
 
 y1-near : (c : tie.Start) → mag (c .args .r .y1) < 128
-y1-near c = within-near 127 (c .args .r .y1) (y1-held FiveByte (c .args .r) (c .pre))
+y1-near c = within-near 127 (c .args .r .y1) (parts FiveByte (c .args .r) (c .pre) .moved .y)
 
 x2-near : (c : tie.Start) → mag (c .args .r .x2) < 128
-x2-near c = within-near 127 (c .args .r .x2) (x2-held FiveByte (c .args .r) (c .pre))
+x2-near c = within-near 127 (c .args .r .x2) (parts FiveByte (c .args .r) (c .pre) .moved .second-x)
 
 y2-near : (c : tie.Start) → mag (c .args .r .y2) < 128
-y2-near c = within-near 127 (c .args .r .y2) (y2-held FiveByte (c .args .r) (c .pre))
+y2-near c = within-near 127 (c .args .r .y2) (parts FiveByte (c .args .r) (c .pre) .moved .second-y)
 
 sub-first : tie.Need-sub-first
 sub-first c = pressed (c .before)

@@ -8,8 +8,9 @@ use mir.Syntax.{w16}
 use mir.Val.{toZ, ofZ}
 use native.Mathlib.Omega.{arith}
 use Rattle.numbers.proofs.Rows.{value-small}
-use Rattle.numbers.proofs.Twos.{within-reach, mag-magnitude}
-use Rattle.wire.proofs.Accepted.{buttons-fit, x1-held, y1-held}
+use Rattle.numbers.proofs.Twos.{mag-magnitude}
+use Rattle.wire.proofs.Codec.Accepted.{parts}
+use Rattle.wire.proofs.Codec.Ranges.{magnitude}
 use Rattle.wire.proofs.Sums.{sum-S}
 use Rattle.wire.specs.Table.{bytesS}
 use Rattle.wire.specs.declared.Format.the-variants.{Mm}
@@ -23,13 +24,13 @@ y1-is : (c : tie.Start) → toZ w16 (ofZ w16 (c .args .r .y1)) ≡ c .args .r .y
 y1-is c = search needs
 
 pressed : (c : tie.Start) → c .args .r .buttons ≤ 7
-pressed c = buttons-fit Mm (c .args .r) (c .pre)
+pressed c = omega (arith, parts Mm (c .args .r) (c .pre) .pressed)
 
 x1-short : (c : tie.Start) → natAbs (c .args .r .x1) ≤ 127
-x1-short c = within-reach 126 127 127 (c .args .r .x1) (x1-held Mm (c .args .r) (c .pre)) (omega arith) (omega arith)
+x1-short c = magnitude 126 (c .args .r .x1) (parts Mm (c .args .r) (c .pre) .moved .x)
 
 y1-short : (c : tie.Start) → natAbs (c .args .r .y1) ≤ 127
-y1-short c = within-reach 126 127 127 (c .args .r .y1) (y1-held Mm (c .args .r) (c .pre)) (omega arith) (omega arith)
+y1-short c = magnitude 126 (c .args .r .y1) (parts Mm (c .args .r) (c .pre) .moved .y)
 
 sign-x : (c : tie.After-sign-bit) → c .sign-bit .result ≤ 1
 sign-x c = rw (c .sign-bit .ensures) (value-small (nonNeg (toZ w16 (ofZ w16 (c .before .before .args .r .x1)))))

@@ -47,9 +47,11 @@ loop-less c = omega arith
 
 loop-again : tie.Need-loop-again Inv-loop μ-loop
 loop-again c =
-    let s = c .before .before in
-    (omega arith, rw (c .before .loop .inv .1)
-    (one-more (s .args .buffer .now) (s .args .t2) (c .before .loop .i) (omega (arith, five-long s)) (omega arith)))
+    let s = c .before .before in (
+      omega arith,
+      rw (c .before .loop .inv .1)
+          (one-more (s .args .buffer .now) (s .args .t2) (c .before .loop .i) (omega (arith, five-long s)) (omega arith)),
+    )
 
 same-length : tie.Need-same-length Inv-loop μ-loop
 same-length c =

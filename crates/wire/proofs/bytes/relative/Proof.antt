@@ -8,7 +8,7 @@ use mir.Val.{toZ, ofZ}
 use native.Mathlib.Omega.{arith}
 use Rattle.numbers.proofs.Twos.{within-near, twos-below}
 use Rattle.numbers.specs.Signed.{twos}
-use Rattle.wire.proofs.Accepted.{buttons-fit, x1-held, y1-held}
+use Rattle.wire.proofs.Codec.Accepted.{parts}
 use Rattle.wire.specs.Table.{rowsA, bytesB}
 use Rattle.wire.specs.declared.Format.the-variants.{Relative}
 use Rattle.wire.proofs.bytes.relative.Statement.{statement}
@@ -20,11 +20,14 @@ x1-is c = search needs
 y1-is : (c : tie.Start) → toZ w16 (ofZ w16 (c .args .r .y1)) ≡ c .args .r .y1
 y1-is c = search needs
 
+pressed : (c : tie.Start) → c .args .r .buttons ≤ 7
+pressed c = omega (arith, parts Relative (c .args .r) (c .pre) .pressed)
+
 x1-near : (c : tie.Start) → mag (c .args .r .x1) < 2048
-x1-near c = within-near 2047 (c .args .r .x1) (x1-held Relative (c .args .r) (c .pre))
+x1-near c = within-near 2047 (c .args .r .x1) (parts Relative (c .args .r) (c .pre) .moved .x)
 
 y1-near : (c : tie.Start) → mag (c .args .r .y1) < 2048
-y1-near c = within-near 2047 (c .args .r .y1) (y1-held Relative (c .args .r) (c .pre))
+y1-near c = within-near 2047 (c .args .r .y1) (parts Relative (c .args .r) (c .pre) .moved .y)
 
 found-x : (c : tie.After-wrapped2) → c .before .before .wrapped .result ≡ twos 2048 (c .before .before .before .before .args .r .x1)
 found-x c = rw (x1-is (c .before .before .before .before)) at (c .before .before .wrapped .ensures)
@@ -39,7 +42,7 @@ wrapped-requires-2 : tie.Need-wrapped-requires-2
 wrapped-requires-2 c κs = let s = c .before .before .before in (rw (y1-is s) (y1-near s), omega arith)
 
 pad-requires : tie.Need-pad-requires
-pad-requires c κs = let s = c .before .before .before .before in (buttons-fit Relative (s .args .r) (s .pre), rw (found-x c) (twos-below 2048 (s .args .r .x1) (x1-near s)), rw (found-y c) (twos-below 2048 (s .args .r .y1) (y1-near s)))
+pad-requires c κs = let s = c .before .before .before .before in (pressed s, rw (found-x c) (twos-below 2048 (s .args .r .x1) (x1-near s)), rw (found-y c) (twos-below 2048 (s .args .r .y1) (y1-near s)))
 
 returns : tie.Need-returns
 unfolding bytesB

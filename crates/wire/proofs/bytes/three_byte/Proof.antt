@@ -5,8 +5,9 @@ use lib.Signed.{mag}
 use mathlib.Core.Path.{_≡_, sym}
 use mir.Syntax.{w16}
 use mir.Val.{toZ, ofZ}
+use native.Mathlib.Omega.{arith}
 use Rattle.numbers.proofs.Twos.{within-near}
-use Rattle.wire.proofs.Accepted.{buttons-fit, x1-held, y1-held}
+use Rattle.wire.proofs.Codec.Accepted.{parts}
 use Rattle.wire.proofs.Sums.{sum-T}
 use Rattle.wire.specs.Table.{bytesT}
 use Rattle.wire.specs.declared.Format.the-variants.{ThreeByte}
@@ -20,13 +21,13 @@ y1-is : (c : tie.Start) → toZ w16 (ofZ w16 (c .args .r .y1)) ≡ c .args .r .y
 y1-is c = search needs
 
 pressed : (c : tie.Start) → c .args .r .buttons ≤ 7
-pressed c = buttons-fit ThreeByte (c .args .r) (c .pre)
+pressed c = omega (arith, parts ThreeByte (c .args .r) (c .pre) .pressed)
 
 x1-near : (c : tie.Start) → mag (c .args .r .x1) < 128
-x1-near c = within-near 127 (c .args .r .x1) (x1-held ThreeByte (c .args .r) (c .pre))
+x1-near c = within-near 127 (c .args .r .x1) (parts ThreeByte (c .args .r) (c .pre) .moved .x)
 
 y1-near : (c : tie.Start) → mag (c .args .r .y1) < 128
-y1-near c = within-near 127 (c .args .r .y1) (y1-held ThreeByte (c .args .r) (c .pre))
+y1-near c = within-near 127 (c .args .r .y1) (parts ThreeByte (c .args .r) (c .pre) .moved .y)
 
 byte-of-requires : tie.Need-byte-of-requires
 byte-of-requires c κs = let s = c .before in rw (x1-is s) (x1-near s)
