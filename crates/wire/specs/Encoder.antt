@@ -1,6 +1,5 @@
 -- What the encoder does, for every letter, report and buffer.
 use Prim.Native.Nat.{ℕ}
-use mathlib.Core.Path.{_≡_}
 use mathlib.Core.Bool.{Bool, not, cond}
 use mathlib.Core.List.{List, _++_}
 use lib.ListN.{length, drop}
@@ -60,7 +59,3 @@ encodeIn (Known f) r buffer =
 
 abbrev pub encodeOf : ℕ → Report → List ℕ → Encoding
 encodeOf letter r buffer = encodeIn (namedBy letter) r buffer
-
--- the promise of `encode`
-abbrev pub EncodePromise : ℕ → Report → List ℕ → Encoded → List ℕ → Type 0
-EncodePromise letter r before answer after = outcome answer after ≡ encodeOf letter r before

@@ -1,5 +1,5 @@
 -- The seven formats, heading by heading of the paper: "Words on the line" (Line, Table, Holds, Fits, Reading) and "Numbers given back"
--- (Numbers, Encoder).
+-- (Numbers, Encoder); and what the public functions promise (Promises).
 pub mod Line
 pub mod Table
 pub mod Holds
@@ -7,3 +7,4 @@ pub mod Fits
 pub mod Reading
 pub mod Numbers
 pub mod Encoder
+pub mod Promises

@@ -1,9 +1,7 @@
 // The seven formats of the old mice: a report and its bytes.
 ghost use mathlib.Core.Path.{_≡_};
-ghost use Rattle.wire.specs.Line.{namedBy, sizeOf, markedOf, sizeBy, markedBy};
-ghost use Rattle.wire.specs.Fits.{fitsBy};
-ghost use Rattle.wire.specs.Reading.{reportBy};
-ghost use Rattle.wire.specs.Encoder.{EncodePromise, refusalOf, lengthOf};
+ghost use Rattle.wire.specs.Line.{namedBy, sizeOf, markedOf};
+ghost use Rattle.wire.specs.Promises.{SizePromise, MarkedPromise, FitsPromise, ReportPromise, EncodePromise, RefusalPromise, LengthPromise};
 
 mod bytes;
 mod digits;
@@ -102,7 +100,7 @@ fn marked_of(f: Format) -> bool
 
 // How many bytes a report has; 0 for a letter that is not in the table.
 pub fn size(letter: u8) -> usize
-    ensures { λ r. ⌜ r ≡ sizeBy letter ⌝ }
+    ensures { λ r. ⌜ SizePromise letter r ⌝ }
 {
     match format_of(letter) {
         Named::Known(f) => size_of(f),
@@ -112,7 +110,7 @@ pub fn size(letter: u8) -> usize
 
 // Whether the first byte of a report is marked.
 pub fn marked(letter: u8) -> bool
-    ensures { λ r. ⌜ r ≡ markedBy letter ⌝ }
+    ensures { λ r. ⌜ MarkedPromise letter r ⌝ }
 {
     match format_of(letter) {
         Named::Known(f) => marked_of(f),
@@ -122,7 +120,7 @@ pub fn marked(letter: u8) -> bool
 
 // Whether a byte is valid at a place of a report: 0 is the first, any other a later one.
 pub fn fits(letter: u8, place: u8, byte: u8) -> bool
-    ensures { λ r. ⌜ r ≡ fitsBy letter place byte ⌝ }
+    ensures { λ r. ⌜ FitsPromise letter place byte r ⌝ }
 {
     match format_of(letter) {
         Named::Known(f) => places::fits_at(f, place, byte),
@@ -132,7 +130,7 @@ pub fn fits(letter: u8, place: u8, byte: u8) -> bool
 
 // The report that bytes stand for; a format of three bytes reads the first three.
 pub fn report_of(letter: u8, bytes: [u8; 5]) -> Report
-    ensures { λ r. ⌜ r ≡ reportBy letter bytes ⌝ }
+    ensures { λ r. ⌜ ReportPromise letter bytes r ⌝ }
 {
     match format_of(letter) {
         Named::Known(f) => reading::report_in(f, bytes),
@@ -164,7 +162,7 @@ pub fn encode(letter: u8, report: Report, buffer: &mut [u8]) -> Encoded
 impl Encoded {
     // The number given back: 0 for success.
     pub fn refusal(self) -> u8
-        ensures { λ r. ⌜ r ≡ refusalOf self ⌝ }
+        ensures { λ r. ⌜ RefusalPromise self r ⌝ }
     {
         match self {
             Encoded::Written(_) => 0,
@@ -177,7 +175,7 @@ impl Encoded {
 
     // The length told: 0 for a refusal.
     pub fn length(self) -> usize
-        ensures { λ r. ⌜ r ≡ lengthOf self ⌝ }
+        ensures { λ r. ⌜ LengthPromise self r ⌝ }
     {
         match self {
             Encoded::Written(n) => n,

@@ -1,0 +1,133 @@
+-- What follows from the promises: one answer for every argument, what a refusal leaves, and what a success writes.
+use Prim.Native.Nat.{ℕ, _<_, _≤_}
+use mathlib.Core.Path.{_≡_, refl, sym, _∙_, ap, ap₂}
+use mathlib.Core.Bool.{Bool, true, false, not, cond}
+use mathlib.Core.List.{List, _++_}
+use borrow.Author.Tests.{le-leb, lt-leb, lt-ltb, le-ltb}
+use lib.ListN.{length, drop}
+use lib.Dec.{eqb, ltb}
+use lib.IntN.{pos}
+use Rattle.numbers.proofs.Tested.{left, right}
+use Rattle.wire.specs.Line.{letterOf, namedBy, sizeOf}
+use Rattle.wire.specs.Table.{bytesOf}
+use Rattle.wire.specs.Holds.{pressable, holds, accepted}
+use Rattle.wire.specs.Encoder.{Encoding, refusalOf, lengthOf, outcome, refused, written, encodeIn}
+use Rattle.wire.specs.Numbers.{success, badButtons, badMovement, shortBuffer}
+use Rattle.wire.specs.Promises.{SizePromise, MarkedPromise, FitsPromise, ReportPromise, EncodePromise, RefusalPromise, LengthPromise}
+use Rattle.wire.specs.declared.Report.{Report}
+use Rattle.wire.specs.declared.Format.{Format}
+use Rattle.wire.specs.declared.Format.the-variants.{Mm, Microsoft, Absolute, Relative, FiveByte, ThreeByte, Hexadecimal}
+use Rattle.wire.specs.declared.Named.{Named}
+use Rattle.wire.specs.declared.Named.the-variants.{Known, Unknown}
+use Rattle.wire.specs.declared.Encoded.{Encoded}
+use Rattle.wire.specs.declared.Encoded.the-variants.{Written, NoSuchLetter, ButtonsAboveSeven, MovementNotHeld, BufferTooShort}
+use Rattle.wire.proofs.Codec.{second-unheld, second-unheld-y}
+
+-- two answers that meet a promise are equal
+pub one-size : (letter : ℕ) {a b : ℕ} → SizePromise letter a → SizePromise letter b → a ≡ b
+one-size letter p q = p ∙ sym q
+
+pub one-marked : (letter : ℕ) {a b : Bool} → MarkedPromise letter a → MarkedPromise letter b → a ≡ b
+one-marked letter p q = p ∙ sym q
+
+pub one-fits : (letter place byte : ℕ) {a b : Bool} → FitsPromise letter place byte a → FitsPromise letter place byte b → a ≡ b
+one-fits letter place byte p q = p ∙ sym q
+
+pub one-report : (letter : ℕ) (bytes : List ℕ) {a b : Report} → ReportPromise letter bytes a → ReportPromise letter bytes b → a ≡ b
+one-report letter bytes p q = p ∙ sym q
+
+pub one-refusal : (encoded : Encoded) {a b : ℕ} → RefusalPromise encoded a → RefusalPromise encoded b → a ≡ b
+one-refusal encoded p q = p ∙ sym q
+
+pub one-length : (encoded : Encoded) {a b : ℕ} → LengthPromise encoded a → LengthPromise encoded b → a ≡ b
+one-length encoded p q = p ∙ sym q
+
+-- the encoder's answer is told by the number given back and the length
+answerOf : ℕ → ℕ → Encoded
+answerOf number told =
+    cond (eqb number 0) (Written told)
+    (cond (eqb number 1) NoSuchLetter
+    (cond (eqb number 3) ButtonsAboveSeven
+    (cond (eqb number 2) MovementNotHeld
+    BufferTooShort)))
+
+same-answer : (a : Encoded) → answerOf (refusalOf a) (lengthOf a) ≡ a
+unfolding answerOf
+same-answer (Written n) = refl
+same-answer NoSuchLetter = refl
+same-answer ButtonsAboveSeven = refl
+same-answer MovementNotHeld = refl
+same-answer BufferTooShort = refl
+
+pub one-encoding : (letter : ℕ) (r : Report) (before : List ℕ) {a b : Encoded} {after behind : List ℕ} → EncodePromise letter r before a after → EncodePromise letter r before b behind → (a ≡ b) × (after ≡ behind)
+one-encoding letter r before {a} {b} p q =
+    let e = p ∙ sym q in
+    (sym (same-answer a) ∙ ap₂ answerOf (ap (λ (x : Encoding). x .refusal) e) (ap (λ (x : Encoding). x .told) e) ∙ same-answer b, ap (λ (x : Encoding). x .buffer) e)
+
+-- a refusal tells no length and writes nothing, whatever the letter, the report and the buffer
+unwritten : (pressed held short : Bool) (f : Format) (r : Report) (before : List ℕ) {x : Encoding} → x ≡ cond (not pressed) (refused badButtons before) (cond (not held) (refused badMovement before) (cond short (refused shortBuffer before) (written f r before))) → (x .refusal ≡ success → ⊥) → x .buffer ≡ before
+unwritten false held short f r before e n = ap (λ (x : Encoding). x .buffer) e
+unwritten true false short f r before e n = ap (λ (x : Encoding). x .buffer) e
+unwritten true true true f r before e n = ap (λ (x : Encoding). x .buffer) e
+unwritten true true false f r before e n = absurd (n (ap (λ (x : Encoding). x .refusal) e))
+
+unchanged : (named : Named) (r : Report) (before : List ℕ) {x : Encoding} → x ≡ encodeIn named r before → (x .refusal ≡ success → ⊥) → x .buffer ≡ before
+unfolding encodeIn
+unchanged Unknown r before e n = ap (λ (x : Encoding). x .buffer) e
+unchanged (Known f) r before e n = unwritten (pressable r) (holds f r) (ltb (length before) (sizeOf f)) f r before e n
+
+no-length : (a : Encoded) → (refusalOf a ≡ success → ⊥) → lengthOf a ≡ 0
+no-length (Written n) h = absurd (h refl)
+no-length NoSuchLetter h = refl
+no-length ButtonsAboveSeven h = refl
+no-length MovementNotHeld h = refl
+no-length BufferTooShort h = refl
+
+pub refusal-leaves : (letter : ℕ) (r : Report) (before : List ℕ) {a : Encoded} {after : List ℕ} → EncodePromise letter r before a after → (refusalOf a ≡ success → ⊥) → (lengthOf a ≡ 0) × (after ≡ before)
+refusal-leaves letter r before {a} p n = (no-length a n, unchanged (namedBy letter) r before p n)
+
+-- the letters of the table
+pub letter-named : (f : Format) → namedBy (letterOf f) ≡ Known f
+unfolding namedBy
+letter-named Mm = refl
+letter-named Microsoft = refl
+letter-named Absolute = refl
+letter-named Relative = refl
+letter-named FiveByte = refl
+letter-named ThreeByte = refl
+letter-named Hexadecimal = refl
+
+-- an answer is what the definition says of a format
+told : (f : Format) (r : Report) (before : List ℕ) {a b : Encoded} {after behind : List ℕ} → EncodePromise (letterOf f) r before a after → outcome b behind ≡ encodeIn (Known f) r before → (a ≡ b) × (after ≡ behind)
+told f r before p q = one-encoding (letterOf f) r before p (rw (letter-named f) q)
+
+-- an accepted report is written at the front of a buffer that is long enough, and nothing after it
+pub accepted-written : (f : Format) (r : Report) (before : List ℕ) {a : Encoded} {after : List ℕ} → accepted f r ≡ true → sizeOf f ≤ length before → EncodePromise (letterOf f) r before a after → (a ≡ Written (sizeOf f)) × (after ≡ bytesOf f r ++ drop (sizeOf f) before)
+unfolding accepted encodeIn
+accepted-written f r before e h p =
+    told f r before p (simp (left (pressable r) (holds f r) e, right (pressable r) (holds f r) e, le-ltb (length before) (sizeOf f) h))
+
+-- what is not accepted, and what finds no room, is refused in the order of the numbers
+pub letter-refused : (letter : ℕ) (r : Report) (before : List ℕ) {a : Encoded} {after : List ℕ} → namedBy letter ≡ Unknown → EncodePromise letter r before a after → (a ≡ NoSuchLetter) × (after ≡ before)
+unfolding encodeIn
+letter-refused letter r before e p = one-encoding letter r before p (rw e)
+
+pub buttons-refused : (f : Format) (r : Report) (before : List ℕ) {a : Encoded} {after : List ℕ} → 7 < r .buttons → EncodePromise (letterOf f) r before a after → (a ≡ ButtonsAboveSeven) × (after ≡ before)
+unfolding encodeIn
+buttons-refused f r before h p = told f r before p (simp (lt-leb (r .buttons) 7 h))
+
+pub movement-refused : (f : Format) (r : Report) (before : List ℕ) {a : Encoded} {after : List ℕ} → r .buttons ≤ 7 → holds f r ≡ false → EncodePromise (letterOf f) r before a after → (a ≡ MovementNotHeld) × (after ≡ before)
+unfolding encodeIn
+movement-refused f r before h e p = told f r before p (simp (le-leb (r .buttons) 7 h, e))
+
+pub room-refused : (f : Format) (r : Report) (before : List ℕ) {a : Encoded} {after : List ℕ} → accepted f r ≡ true → length before < sizeOf f → EncodePromise (letterOf f) r before a after → (a ≡ BufferTooShort) × (after ≡ before)
+unfolding accepted encodeIn
+room-refused f r before e h p =
+    told f r before p (simp (left (pressable r) (holds f r) e, right (pressable r) (holds f r) e, lt-ltb (length before) (sizeOf f) h))
+
+-- a second pair outside U is refused
+pub second-refused : (f : Format) (r : Report) (before : List ℕ) {a : Encoded} {after : List ℕ} → (f ≡ FiveByte → ⊥) → r .buttons ≤ 7 → (r .x2 ≡ pos 0 → ⊥) → EncodePromise (letterOf f) r before a after → (a ≡ MovementNotHeld) × (after ≡ before)
+second-refused f r before u h n = movement-refused f r before h (second-unheld f r u n)
+
+pub second-refused-y : (f : Format) (r : Report) (before : List ℕ) {a : Encoded} {after : List ℕ} → (f ≡ FiveByte → ⊥) → r .buttons ≤ 7 → (r .y2 ≡ pos 0 → ⊥) → EncodePromise (letterOf f) r before a after → (a ≡ MovementNotHeld) × (after ≡ before)
+second-refused-y f r before u h n = movement-refused f r before h (second-unheld-y f r u n)
