@@ -83,8 +83,8 @@ no-length ButtonsAboveSeven h = refl
 no-length MovementNotHeld h = refl
 no-length BufferTooShort h = refl
 
-pub refusal-leaves : (letter : ℕ) (r : Report) (before : List ℕ) {a : Encoded} {after : List ℕ} → EncodePromise letter r before a after → (refusalOf a ≡ success → ⊥) → (lengthOf a ≡ 0) × (after ≡ before)
-refusal-leaves letter r before {a} p n = (no-length a n, unchanged (namedBy letter) r before p n)
+pub refusal-leaves : (letter : ℕ) (r : Report) (before after : List ℕ) (a : Encoded) → EncodePromise letter r before a after → (refusalOf a ≡ success → ⊥) → (lengthOf a ≡ 0) × (after ≡ before)
+refusal-leaves letter r before after a p n = (no-length a n, unchanged (namedBy letter) r before p n)
 
 -- the letters of the table
 pub letter-named : (f : Format) → namedBy (letterOf f) ≡ Known f
@@ -102,32 +102,32 @@ told : (f : Format) (r : Report) (before : List ℕ) {a b : Encoded} {after behi
 told f r before p q = one-encoding (letterOf f) r before p (rw (letter-named f) q)
 
 -- an accepted report is written at the front of a buffer that is long enough, and nothing after it
-pub accepted-written : (f : Format) (r : Report) (before : List ℕ) {a : Encoded} {after : List ℕ} → accepted f r ≡ true → sizeOf f ≤ length before → EncodePromise (letterOf f) r before a after → (a ≡ Written (sizeOf f)) × (after ≡ bytesOf f r ++ drop (sizeOf f) before)
+pub accepted-written : (f : Format) (r : Report) (before after : List ℕ) (a : Encoded) → accepted f r ≡ true → sizeOf f ≤ length before → EncodePromise (letterOf f) r before a after → (a ≡ Written (sizeOf f)) × (after ≡ bytesOf f r ++ drop (sizeOf f) before)
 unfolding accepted encodeIn
-accepted-written f r before e h p =
+accepted-written f r before after a e h p =
     told f r before p (simp (left (pressable r) (holds f r) e, right (pressable r) (holds f r) e, le-ltb (length before) (sizeOf f) h))
 
 -- what is not accepted, and what finds no room, is refused in the order of the numbers
-pub letter-refused : (letter : ℕ) (r : Report) (before : List ℕ) {a : Encoded} {after : List ℕ} → namedBy letter ≡ Unknown → EncodePromise letter r before a after → (a ≡ NoSuchLetter) × (after ≡ before)
+pub letter-refused : (letter : ℕ) (r : Report) (before after : List ℕ) (a : Encoded) → namedBy letter ≡ Unknown → EncodePromise letter r before a after → (a ≡ NoSuchLetter) × (after ≡ before)
 unfolding encodeIn
-letter-refused letter r before e p = one-encoding letter r before p (rw e)
+letter-refused letter r before after a e p = one-encoding letter r before p (rw e)
 
-pub buttons-refused : (f : Format) (r : Report) (before : List ℕ) {a : Encoded} {after : List ℕ} → 7 < r .buttons → EncodePromise (letterOf f) r before a after → (a ≡ ButtonsAboveSeven) × (after ≡ before)
+pub buttons-refused : (f : Format) (r : Report) (before after : List ℕ) (a : Encoded) → 7 < r .buttons → EncodePromise (letterOf f) r before a after → (a ≡ ButtonsAboveSeven) × (after ≡ before)
 unfolding encodeIn
-buttons-refused f r before h p = told f r before p (simp (lt-leb (r .buttons) 7 h))
+buttons-refused f r before after a h p = told f r before p (simp (lt-leb (r .buttons) 7 h))
 
-pub movement-refused : (f : Format) (r : Report) (before : List ℕ) {a : Encoded} {after : List ℕ} → r .buttons ≤ 7 → holds f r ≡ false → EncodePromise (letterOf f) r before a after → (a ≡ MovementNotHeld) × (after ≡ before)
+pub movement-refused : (f : Format) (r : Report) (before after : List ℕ) (a : Encoded) → r .buttons ≤ 7 → holds f r ≡ false → EncodePromise (letterOf f) r before a after → (a ≡ MovementNotHeld) × (after ≡ before)
 unfolding encodeIn
-movement-refused f r before h e p = told f r before p (simp (le-leb (r .buttons) 7 h, e))
+movement-refused f r before after a h e p = told f r before p (simp (le-leb (r .buttons) 7 h, e))
 
-pub room-refused : (f : Format) (r : Report) (before : List ℕ) {a : Encoded} {after : List ℕ} → accepted f r ≡ true → length before < sizeOf f → EncodePromise (letterOf f) r before a after → (a ≡ BufferTooShort) × (after ≡ before)
+pub room-refused : (f : Format) (r : Report) (before after : List ℕ) (a : Encoded) → accepted f r ≡ true → length before < sizeOf f → EncodePromise (letterOf f) r before a after → (a ≡ BufferTooShort) × (after ≡ before)
 unfolding accepted encodeIn
-room-refused f r before e h p =
+room-refused f r before after a e h p =
     told f r before p (simp (left (pressable r) (holds f r) e, right (pressable r) (holds f r) e, lt-ltb (length before) (sizeOf f) h))
 
 -- a second pair outside U is refused
-pub second-refused : (f : Format) (r : Report) (before : List ℕ) {a : Encoded} {after : List ℕ} → (f ≡ FiveByte → ⊥) → r .buttons ≤ 7 → (r .x2 ≡ pos 0 → ⊥) → EncodePromise (letterOf f) r before a after → (a ≡ MovementNotHeld) × (after ≡ before)
-second-refused f r before u h n = movement-refused f r before h (second-unheld f r u n)
+pub second-refused : (f : Format) (r : Report) (before after : List ℕ) (a : Encoded) → (f ≡ FiveByte → ⊥) → r .buttons ≤ 7 → (r .x2 ≡ pos 0 → ⊥) → EncodePromise (letterOf f) r before a after → (a ≡ MovementNotHeld) × (after ≡ before)
+second-refused f r before after a u h n = movement-refused f r before after a h (second-unheld f r u n)
 
-pub second-refused-y : (f : Format) (r : Report) (before : List ℕ) {a : Encoded} {after : List ℕ} → (f ≡ FiveByte → ⊥) → r .buttons ≤ 7 → (r .y2 ≡ pos 0 → ⊥) → EncodePromise (letterOf f) r before a after → (a ≡ MovementNotHeld) × (after ≡ before)
-second-refused-y f r before u h n = movement-refused f r before h (second-unheld-y f r u n)
+pub second-refused-y : (f : Format) (r : Report) (before after : List ℕ) (a : Encoded) → (f ≡ FiveByte → ⊥) → r .buttons ≤ 7 → (r .y2 ≡ pos 0 → ⊥) → EncodePromise (letterOf f) r before a after → (a ≡ MovementNotHeld) × (after ≡ before)
+second-refused-y f r before after a u h n = movement-refused f r before after a h (second-unheld-y f r u n)

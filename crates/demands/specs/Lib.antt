@@ -1,0 +1,4 @@
+-- The user's demands and the paper's figures, as theorems over what the other crates promise.
+pub mod Said
+pub mod Figures
+pub mod Strength

@@ -1,0 +1,41 @@
+-- "Four useless programs have to be caught": what meets the promises is none of them.
+use Prim.Native.Nat.{ℕ}
+use mathlib.Core.Path.{_≡_, sym, _∙_, ap}
+use mathlib.Core.List.{List, [], _∷_}
+use native.Mathlib.Omega.{arith}
+use lib.Dec.{lit≤}
+use lib.IntN.{pos}
+use Rattle.wire.specs.Line.{letterOf}
+use Rattle.wire.specs.Reading.{report}
+use Rattle.wire.specs.Promises.{EncodePromise}
+use Rattle.wire.specs.declared.Report.{Report}
+use Rattle.wire.specs.declared.Encoded.{Encoded}
+use Rattle.wire.specs.declared.Format.the-variants.{Microsoft}
+use Rattle.demands.specs.Figures.{p4, p5}
+
+-- what an encoder does: the answer, and the buffer after it
+pub record Encoder : Type 0 where
+  pub answer : ℕ → Report → List ℕ → Encoded
+  pub buffer : ℕ → Report → List ℕ → List ℕ
+
+-- it meets the promise, for every letter, report and buffer
+abbrev pub Keeps : Encoder → Type 0
+Keeps e = (letter : ℕ) (r : Report) (before : List ℕ) → EncodePromise letter r before (e .answer letter r before) (e .buffer letter r before)
+
+-- "an encoder with one fixed report (2, p4 against p5)": it leaves the same bytes in a buffer, whatever the report
+abbrev pub Fixed : Encoder → Type 0
+Fixed e = (letter : ℕ) (r s : Report) (before : List ℕ) → e .buffer letter r before ≡ e .buffer letter s before
+
+pub no-fixed-encoder : (e : Encoder) → Keeps e → Fixed e → ⊥
+no-fixed-encoder e keeps fixed =
+    let room : List ℕ = 0 ∷ 0 ∷ 0 ∷ [] in
+    let r : Report = report 4 (pos 5) (pos 3) in
+    let s : Report = report 0 (pos 0) (pos 128) in
+    let a = p4 room _ _ (lit≤ tt) (keeps (letterOf Microsoft) r room) .1 in
+    let b = p5 room _ _ (lit≤ tt) (keeps (letterOf Microsoft) s room) .1 in
+    let z : _≡_ {A = ℕ} 0x6C 0x48 = ap first (sym a ∙ fixed (letterOf Microsoft) r s room ∙ b) in
+    omega arith
+  where
+    first : List ℕ → ℕ
+    first [] = 0
+    first (n ∷ ns) = n
