@@ -145,10 +145,12 @@ pub fn encode(letter: u8, report: Report, buffer: &mut [u8]) -> Encoded
     let Named::Known(f) = format_of(letter) else {
         return Encoded::NoSuchLetter;
     };
-    if 7 < report.buttons {
+    let pressable = report.buttons <= 7;
+    let held = holds::holds(f, report);
+    if !pressable {
         return Encoded::ButtonsAboveSeven;
     }
-    if !holds::holds(f, report) {
+    if !held {
         return Encoded::MovementNotHeld;
     }
     let length = size_of(f);

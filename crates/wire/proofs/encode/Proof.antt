@@ -1,10 +1,10 @@
 -- `encode`: each refusal in its turn, and then the bytes.
 use borrow.Author.Needs.{needs}
-use borrow.Author.Tests.{le-leb, lt-leb, lt-ltb, le-ltb, not-true, not-false}
+use borrow.Author.Tests.{lt-ltb, le-ltb, not-true, not-false}
 use mathlib.Core.Path.{sym, _∙_}
 use Rattle.wire.proofs.Front.{size-small, front}
 use Rattle.wire.specs.Encoder.{encodeIn}
-use Rattle.wire.specs.Holds.{accepted}
+use Rattle.wire.specs.Holds.{pressable, accepted}
 use Rattle.wire.proofs.encode.Statement.{statement}
 use Rattle.wire.proofs.encode.Tie as tie
 
@@ -21,27 +21,28 @@ returns : tie.Need-returns
 unfolding encodeIn
 returns c = rw (sym (c .before .before .format-of .ensures) ∙ c .enum-told .given .1)
 
-returns-2 : tie.Need-returns-2
-unfolding encodeIn
-returns-2 c = rw (sym (c .before .before .before .before .before .format-of .ensures) ∙ c .before .before .before .f .given .1) (simp (lt-leb _ _ (c .if1 .taken)))
-
 holds-requires : tie.Need-holds-requires
 holds-requires c κs = search needs
 
+returns-2 : tie.Need-returns-2
+unfolding encodeIn
+returns-2 c = rw (sym (c .before .before .before .before .before .before .format-of .ensures) ∙ c .before .before .before .before .f .given .1) (simp (not-true (pressable (c .before .before .before .before .before .before .before .before .args .report)) (c .if1 .taken)))
+
 returns-3 : tie.Need-returns-3
 unfolding encodeIn
-returns-3 c = rw (sym (c .before .before .before .before .before .before .before .format-of .ensures) ∙ c .before .before .before .before .before .f .given .1) (simp (le-leb _ _ (c .before .before .if1 .left), sym (c .before .holds .ensures) ∙ not-true _ (c .if2 .taken)))
+returns-3 c = rw (sym (c .before .before .before .before .before .before .before .format-of .ensures) ∙ c .before .before .before .before .before .f .given .1) (simp (not-false (pressable (c .before .before .before .before .before .before .before .before .before .args .report)) (c .before .if1 .left), sym (c .before .before .holds .ensures) ∙ not-true _ (c .if2 .taken)))
 
 size-of-requires : tie.Need-size-of-requires
 size-of-requires c κs = search needs
 
 returns-4 : tie.Need-returns-4
 unfolding encodeIn
-returns-4 c = rw (sym (c .before .before .before .before .before .before .before .before .before .format-of .ensures) ∙ c .before .before .before .before .before .before .before .f .given .1) (simp (le-leb _ _ (c .before .before .before .before .if1 .left), sym (c .before .before .before .holds .ensures) ∙ not-false _ (c .before .before .if2 .left), lt-ltb _ _ (rw (c .before .size-of .ensures) at (c .if3 .taken))))
+returns-4 c = rw (sym (c .before .before .before .before .before .before .before .before .before .format-of .ensures) ∙ c .before .before .before .before .before .before .before .f .given .1)
+    (simp (not-false (pressable (c .before .before .before .before .before .before .before .before .before .before .before .args .report)) (c .before .before .before .if1 .left), sym (c .before .before .before .before .holds .ensures) ∙ not-false _ (c .before .before .if2 .left), lt-ltb _ _ (rw (c .before .size-of .ensures) at (c .if3 .taken))))
 
 bytes-of-requires : tie.Need-bytes-of-requires
 unfolding accepted
-bytes-of-requires c κs = simp (le-leb _ _ (c .before .before .before .before .before .if1 .left), sym (c .before .before .before .before .holds .ensures) ∙ not-false _ (c .before .before .before .if2 .left))
+bytes-of-requires c κs = simp (not-false (pressable (c .before .before .before .before .before .before .before .before .before .before .before .before .args .report)) (c .before .before .before .before .if1 .left), sym (c .before .before .before .before .before .holds .ensures) ∙ not-false _ (c .before .before .before .if2 .left))
 
 put-requires : tie.Need-put-requires
 put-requires c κs = (rw (c .before .before .before .size-of .ensures) (size-small (c .before .before .before .before .before .before .before .before .before .f .given .0 .0)), c .before .before .if3 .left)
@@ -56,7 +57,7 @@ returns-5 c = let f = c .before .before .before .before .before .before .before 
     let e = rw (c .before .before .before .bytes-of .ensures, c .before .before .before .before .before .before .size-of .ensures, front f r) at (c .before .before .put .ensures) in
     rw (sym (c .before .before .before .before .before .before .before .before .before .before .before .before .before .before .format-of .ensures) ∙ c .before .before .before .before .before .before .before .before .before .before .before .before .f .given .1)
     (simp
-    (le-leb _ _ (c .before .before .before .before .before .before .before .before .before .if1 .left), sym (c .before .before .before .before .before .before .before .before .holds .ensures) ∙ not-false _ (c .before .before .before .before .before .before .before .if2 .left), le-ltb _ _ (rw (c .before .before .before .before .before .before .size-of .ensures) at (c .before .before .before .before .before .if3 .left)), c .before .before .before .before .before .before .size-of .ensures, e))
+    (not-false (pressable r) (c .before .before .before .before .before .before .before .before .if1 .left), sym (c .before .before .before .before .before .before .before .before .before .holds .ensures) ∙ not-false _ (c .before .before .before .before .before .before .before .if2 .left), le-ltb _ _ (rw (c .before .before .before .before .before .before .size-of .ensures) at (c .before .before .before .before .before .if3 .left)), c .before .before .before .before .before .before .size-of .ensures, e))
 
 pub encode-spec : {M : Type 1} → statement M
 encode-spec =
@@ -66,8 +67,8 @@ encode-spec =
     enum-known-f
     enum-told
     returns
-    returns-2
     holds-requires
+    returns-2
     returns-3
     size-of-requires
     returns-4
