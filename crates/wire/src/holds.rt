@@ -5,6 +5,34 @@ use crate::Format;
 use crate::Range;
 use crate::Report;
 
+// A magnitude of seven bits under a sign.
+const SIGNED_SEVEN: Range = Range {
+    low: -127,
+    high: 127,
+};
+
+// A two's complement byte, and one that is positive to the south.
+const BYTE: Range = Range {
+    low: -128,
+    high: 127,
+};
+
+const SOUTHWARD: Range = Range {
+    low: -127,
+    high: 128,
+};
+
+// Twelve bits: a position, and two's complement.
+const POSITION: Range = Range { low: 0, high: 4095 };
+
+const TWELVE: Range = Range {
+    low: -2048,
+    high: 2047,
+};
+
+// No movement.
+const NONE: Range = Range { low: 0, high: 0 };
+
 impl Range {
     // Whether a movement lies in the range.
     fn has(self, v: i16) -> bool
@@ -18,31 +46,13 @@ fn x_range(f: Format) -> Range
     ensures { λ r. ⌜ r ≡ xRange f ⌝ }
 {
     match f {
-        Format::Mm => Range {
-            low: -127,
-            high: 127,
-        },
-        Format::Microsoft => Range {
-            low: -128,
-            high: 127,
-        },
-        Format::Absolute => Range { low: 0, high: 4095 },
-        Format::Relative => Range {
-            low: -2048,
-            high: 2047,
-        },
-        Format::FiveByte => Range {
-            low: -128,
-            high: 127,
-        },
-        Format::ThreeByte => Range {
-            low: -128,
-            high: 127,
-        },
-        Format::Hexadecimal => Range {
-            low: -128,
-            high: 127,
-        },
+        Format::Mm => SIGNED_SEVEN,
+        Format::Microsoft => BYTE,
+        Format::Absolute => POSITION,
+        Format::Relative => TWELVE,
+        Format::FiveByte => BYTE,
+        Format::ThreeByte => BYTE,
+        Format::Hexadecimal => BYTE,
     }
 }
 
@@ -50,31 +60,13 @@ fn y_range(f: Format) -> Range
     ensures { λ r. ⌜ r ≡ yRange f ⌝ }
 {
     match f {
-        Format::Mm => Range {
-            low: -127,
-            high: 127,
-        },
-        Format::Microsoft => Range {
-            low: -127,
-            high: 128,
-        },
-        Format::Absolute => Range { low: 0, high: 4095 },
-        Format::Relative => Range {
-            low: -2048,
-            high: 2047,
-        },
-        Format::FiveByte => Range {
-            low: -128,
-            high: 127,
-        },
-        Format::ThreeByte => Range {
-            low: -128,
-            high: 127,
-        },
-        Format::Hexadecimal => Range {
-            low: -128,
-            high: 127,
-        },
+        Format::Mm => SIGNED_SEVEN,
+        Format::Microsoft => SOUTHWARD,
+        Format::Absolute => POSITION,
+        Format::Relative => TWELVE,
+        Format::FiveByte => BYTE,
+        Format::ThreeByte => BYTE,
+        Format::Hexadecimal => BYTE,
     }
 }
 
@@ -83,16 +75,13 @@ fn second_range(f: Format) -> Range
     ensures { λ r. ⌜ r ≡ secondRange f ⌝ }
 {
     match f {
-        Format::Mm => Range { low: 0, high: 0 },
-        Format::Microsoft => Range { low: 0, high: 0 },
-        Format::Absolute => Range { low: 0, high: 0 },
-        Format::Relative => Range { low: 0, high: 0 },
-        Format::FiveByte => Range {
-            low: -128,
-            high: 127,
-        },
-        Format::ThreeByte => Range { low: 0, high: 0 },
-        Format::Hexadecimal => Range { low: 0, high: 0 },
+        Format::Mm => NONE,
+        Format::Microsoft => NONE,
+        Format::Absolute => NONE,
+        Format::Relative => NONE,
+        Format::FiveByte => BYTE,
+        Format::ThreeByte => NONE,
+        Format::Hexadecimal => NONE,
     }
 }
 
