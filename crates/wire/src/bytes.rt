@@ -4,11 +4,13 @@ ghost use mathlib.Core.Bool.{true};
 ghost use mathlib.Core.List.{_++_};
 ghost use Prim.Native.Nat.{_≤_, _<_};
 ghost use lib.ListN.{length, take, drop};
+ghost use lib.IntN.{natAbs};
 ghost use lib.Signed.{mag, nonNeg};
-ghost use Rattle.numbers.specs.Bits.{value};
+ghost use Rattle.numbers.specs.Bits.{value, bit};
 ghost use Rattle.numbers.specs.Signed.{twos};
-ghost use Rattle.wire.specs.Table.{five, rowsA, bytesS, bytesV, bytesA, bytesB, bytesU, bytesT, bytesW, bytesOf};
+ghost use Rattle.wire.specs.Table.{five, bytesS, rowsV, rowsA, rowsW, bytesOf};
 ghost use Rattle.wire.specs.Holds.{accepted};
+ghost use Rattle.wire.specs.Reading.{report};
 use crate::Format;
 use crate::Report;
 use crate::digits::digit_of;
@@ -32,29 +34,25 @@ fn byte_of(v: i16) -> u8
 }
 
 // S: a sign bit and a magnitude for each axis.
-fn mm(r: Report) -> [u8; 5]
-    requires { ⌜ accepted Format.Mm r ≡ true ⌝ }
-    ensures { λ b. ⌜ b ≡ five (bytesS r) ⌝ }
+fn rows_s(buttons: u8, x: i16, y: i16) -> [u8; 5]
+    requires { ⌜ (buttons ≤ 7) × (natAbs x ≤ 127) × (natAbs y ≤ 127) ⌝ }
+    ensures { λ b. ⌜ b ≡ five (bytesS (report buttons x y)) ⌝ }
 {
-    let first = 128 + (sign_bit(r.x1) << 4) + (sign_bit(r.y1) << 3) + r.buttons;
-    let x = magnitude(r.x1) as u8;
-    let y = magnitude(r.y1) as u8;
-    [first, x, y, 0, 0]
+    let first = 128 + (sign_bit(x) << 4) + (sign_bit(y) << 3) + buttons;
+    [first, magnitude(x) as u8, magnitude(y) as u8, 0, 0]
 }
 
-// V: the top two bits of either byte stand in the first. M is dropped, and the wire has minus y.
-fn microsoft(r: Report) -> [u8; 5]
-    requires { ⌜ accepted Format.Microsoft r ≡ true ⌝ }
-    ensures { λ b. ⌜ b ≡ five (bytesV r) ⌝ }
+// V: the top two bits of either byte stand in the first, and M is dropped.
+fn rows_v(buttons: u8, x: u8, y: u8) -> [u8; 5]
+    requires { ⌜ buttons ≤ 7 ⌝ }
+    ensures { λ b. ⌜ b ≡ five (rowsV (bit 2 buttons) (bit 0 buttons) x y) ⌝ }
 {
-    let x = byte_of(r.x1);
-    let y = byte_of(-r.y1);
-    let first = 64 + ((r.buttons / 4) << 5) + ((r.buttons % 2) << 4) + ((y >> 6) << 2) + (x >> 6);
+    let first = 64 + ((buttons / 4) << 5) + ((buttons % 2) << 4) + ((y >> 6) << 2) + (x >> 6);
     [first, x % 64, y % 64, 0, 0]
 }
 
 // A, B: two numbers of twelve bits, six to a byte, each byte with its parity.
-fn pad(r: Report, x: u16, y: u16) -> [u8; 5]
+fn rows_a(r: Report, x: u16, y: u16) -> [u8; 5]
     requires { ⌜ (r .buttons ≤ 7) × (x < 4096) × (y < 4096) ⌝ }
     ensures { λ b. ⌜ b ≡ rowsA r x y ⌝ }
 {
@@ -66,53 +64,12 @@ fn pad(r: Report, x: u16, y: u16) -> [u8; 5]
     [b1, b2, b3, b4, b5]
 }
 
-// A: two positions.
-fn absolute(r: Report) -> [u8; 5]
-    requires { ⌜ accepted Format.Absolute r ≡ true ⌝ }
-    ensures { λ b. ⌜ b ≡ bytesA r ⌝ }
+// W: a digit for the buttons, and two for each byte, the low one first.
+fn rows_w(buttons: u8, x: u8, y: u8) -> [u8; 5]
+    requires { ⌜ buttons ≤ 7 ⌝ }
+    ensures { λ b. ⌜ b ≡ rowsW buttons x y ⌝ }
 {
-    pad(r, magnitude(r.x1), magnitude(r.y1))
-}
-
-// B: as A, two's complement.
-fn relative(r: Report) -> [u8; 5]
-    requires { ⌜ accepted Format.Relative r ≡ true ⌝ }
-    ensures { λ b. ⌜ b ≡ bytesB r ⌝ }
-{
-    pad(r, wrapped(r.x1, 2048), wrapped(r.y1, 2048))
-}
-
-// U: the buttons are 0 where pressed, and there are two pairs.
-fn five_byte(r: Report) -> [u8; 5]
-    requires { ⌜ accepted Format.FiveByte r ≡ true ⌝ }
-    ensures { λ b. ⌜ b ≡ bytesU r ⌝ }
-{
-    let first = 128 + (7 - r.buttons);
-    let x1 = byte_of(r.x1);
-    let y1 = byte_of(r.y1);
-    let x2 = byte_of(r.x2);
-    let y2 = byte_of(r.y2);
-    [first, x1, y1, x2, y2]
-}
-
-// T: the buttons, and a byte for each axis.
-fn three_byte(r: Report) -> [u8; 5]
-    requires { ⌜ accepted Format.ThreeByte r ≡ true ⌝ }
-    ensures { λ b. ⌜ b ≡ five (bytesT r) ⌝ }
-{
-    let x = byte_of(r.x1);
-    let y = byte_of(r.y1);
-    [r.buttons, x, y, 0, 0]
-}
-
-// W: a digit for the buttons, and two for each axis, the low one first.
-fn hexadecimal(r: Report) -> [u8; 5]
-    requires { ⌜ accepted Format.Hexadecimal r ≡ true ⌝ }
-    ensures { λ b. ⌜ b ≡ bytesW r ⌝ }
-{
-    let x = byte_of(r.x1);
-    let y = byte_of(r.y1);
-    let b1 = digit_of(r.buttons);
+    let b1 = digit_of(buttons);
     let b2 = digit_of(x % 16);
     let b3 = digit_of(x / 16);
     let b4 = digit_of(y % 16);
@@ -120,19 +77,28 @@ fn hexadecimal(r: Report) -> [u8; 5]
     [b1, b2, b3, b4, b5]
 }
 
-// The bytes of a report, and zeros behind them to make five.
+// The bytes of a report, and zeros behind them to make five. V has minus y on the wire; U has 0 for a pressed button.
 pub(crate) fn bytes_of(f: Format, r: Report) -> [u8; 5]
     requires { ⌜ accepted f r ≡ true ⌝ }
     ensures { λ b. ⌜ b ≡ five (bytesOf f r) ⌝ }
 {
+    let b = r.buttons;
+    let x = r.x1;
+    let y = r.y1;
     match f {
-        Format::Mm => mm(r),
-        Format::Microsoft => microsoft(r),
-        Format::Absolute => absolute(r),
-        Format::Relative => relative(r),
-        Format::FiveByte => five_byte(r),
-        Format::ThreeByte => three_byte(r),
-        Format::Hexadecimal => hexadecimal(r),
+        Format::Mm => rows_s(b, x, y),
+        Format::Microsoft => rows_v(b, byte_of(x), byte_of(-y)),
+        Format::Absolute => rows_a(r, magnitude(x), magnitude(y)),
+        Format::Relative => rows_a(r, wrapped(x, 2048), wrapped(y, 2048)),
+        Format::FiveByte => [
+            128 + (7 - b),
+            byte_of(x),
+            byte_of(y),
+            byte_of(r.x2),
+            byte_of(r.y2),
+        ],
+        Format::ThreeByte => [b, byte_of(x), byte_of(y), 0, 0],
+        Format::Hexadecimal => rows_w(b, byte_of(x), byte_of(y)),
     }
 }
 

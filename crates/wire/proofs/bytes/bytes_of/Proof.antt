@@ -1,94 +1,207 @@
--- `bytes_of`: the bytes of each format.
+-- `bytes_of`: an accepted report keeps to what each row asks.
 use borrow.Author.Needs.{needs}
-use Rattle.wire.specs.Table.{rowsA, rowsW, bytesA, bytesB, bytesU, bytesW}
+use lib.IntN.{pos, negℤ, _-ℤ_}
+use mathlib.Core.Path.{_≡_, sym}
+use mir.Syntax.{w16}
+use mir.Val.{toZ, ofZ}
+use native.Mathlib.Omega.{arith}
+use Rattle.numbers.proofs.Machine.{near-neg, minus-fits, minus-kept}
+use Rattle.numbers.proofs.Twos.{within-near, mag-magnitude, twos-below}
+use Rattle.wire.proofs.Codec.Accepted.{Parts, parts}
+use Rattle.wire.proofs.Codec.Ranges.{at-most, magnitude, south}
+use Rattle.wire.proofs.Sums.{sum-U, sum-T}
+use Rattle.wire.specs.Table.{bytesS, bytesV, bytesA, rowsA, bytesB, bytesU, bytesT, bytesW, rowsW}
+use Rattle.wire.specs.declared.Format.the-variants.{Mm, Microsoft, Absolute, Relative, FiveByte, ThreeByte, Hexadecimal}
+use Rattle.wire.specs.declared.Format.{Format}
 use Rattle.wire.proofs.bytes.bytes_of.Statement.{statement}
 use Rattle.wire.proofs.bytes.bytes_of.Tie as tie
+
+of : (f : Format) (c : tie.Start) → c .args .f ≡ f → Parts f (c .args .r)
+of f c e = parts f (c .args .r) (rw e at (c .pre))
+
+x-is : (c : tie.Start) → toZ w16 (ofZ w16 (c .args .r .x1)) ≡ c .args .r .x1
+x-is c = search needs
+
+y-is : (c : tie.Start) → toZ w16 (ofZ w16 (c .args .r .y1)) ≡ c .args .r .y1
+y-is c = search needs
+
+second-x-is : (c : tie.Start) → toZ w16 (ofZ w16 (c .args .r .x2)) ≡ c .args .r .x2
+second-x-is c = search needs
+
+second-y-is : (c : tie.Start) → toZ w16 (ofZ w16 (c .args .r .y2)) ≡ c .args .r .y2
+second-y-is c = search needs
+
+-- minus y, as the machine has it
+minus-y : (c : tie.Start) → Parts Microsoft (c .args .r) → toZ w16 (ofZ w16 (pos 0 -ℤ toZ w16 (ofZ w16 (c .args .r .y1)))) ≡ negℤ (c .args .r .y1)
+minus-y c p =
+    rw (y-is c) (minus-kept w16 (c .args .r .y1) (omega (arith, near-neg (c .args .r .y1), south 126 (c .args .r .y1) (p .moved .y))))
 
 enum-told : tie.Need-enum-told
 enum-told c = search needs
 
-mm-requires : tie.Need-mm-requires
-mm-requires c κs = rw (c .enum-told .given .1) at (c .before .before .pre)
+rows-s-requires : tie.Need-rows-s-requires
+rows-s-requires c κs = let s = c .before .before .before .before in let p = of Mm s (c .enum-told .given .1) in (omega arith, rw (x-is s) (magnitude 126 (s .args .r .x1) (p .moved .x)), rw (y-is s) (magnitude 126 (s .args .r .y1) (p .moved .y)))
 
 enum-told-2 : tie.Need-enum-told-2
 enum-told-2 c = search needs
 
-microsoft-requires : tie.Need-microsoft-requires
-microsoft-requires c κs = rw (c .enum-told2 .given .1) at (c .before .before .pre)
+byte-of-requires : tie.Need-byte-of-requires
+byte-of-requires c κs = let s = c .before .before .before .before in let p = of Microsoft s (c .enum-told2 .given .1) in rw (x-is s) (within-near 127 (s .args .r .x1) (p .moved .x))
+
+sub-byte-of : tie.Need-sub-byte-of
+sub-byte-of c = let s = c .before .before .before .before .before in let p = of Microsoft s (c .before .enum-told2 .given .1) in rw (y-is s) (minus-fits w16 (s .args .r .y1) (omega (arith, near-neg (s .args .r .y1), south 126 (s .args .r .y1) (p .moved .y))))
+
+byte-of-requires-2 : tie.Need-byte-of-requires-2
+byte-of-requires-2 c κs = let s = c .before .before .before .before .before in let p = of Microsoft s (c .before .enum-told2 .given .1) in rw (minus-y s p) (south 126 (s .args .r .y1) (p .moved .y))
+
+rows-v-requires : tie.Need-rows-v-requires
+rows-v-requires c κs = let s = c .before .before .before .before .before .before in let p = of Microsoft s (c .before .before .enum-told2 .given .1) in omega arith
 
 enum-told-3 : tie.Need-enum-told-3
 enum-told-3 c = search needs
 
-absolute-requires : tie.Need-absolute-requires
-absolute-requires c κs = rw (c .enum-told3 .given .1) at (c .before .before .pre)
+magnitude-requires : tie.Need-magnitude-requires
+magnitude-requires c κs = let s = c .before .before .before .before in let p = of Absolute s (c .enum-told3 .given .1) in rw (x-is s) (omega (arith, mag-magnitude (s .args .r .x1), at-most 4095 (s .args .r .x1) (p .moved .x)))
+
+magnitude-requires-2 : tie.Need-magnitude-requires-2
+magnitude-requires-2 c κs = let s = c .before .before .before .before .before in let p = of Absolute s (c .before .enum-told3 .given .1) in rw (y-is s) (omega (arith, mag-magnitude (s .args .r .y1), at-most 4095 (s .args .r .y1) (p .moved .y)))
+
+rows-a-requires : tie.Need-rows-a-requires
+rows-a-requires c κs = let s = c .before .before .before .before .before .before in let p = of Absolute s (c .before .before .enum-told3 .given .1) in
+    (omega arith, rw (c .before .magnitude .ensures, x-is s) (omega (arith, at-most 4095 (s .args .r .x1) (p .moved .x))), rw (c .magnitude2 .ensures, y-is s) (omega (arith, at-most 4095 (s .args .r .y1) (p .moved .y))))
 
 enum-told-4 : tie.Need-enum-told-4
 enum-told-4 c = search needs
 
-relative-requires : tie.Need-relative-requires
-relative-requires c κs = rw (c .enum-told4 .given .1) at (c .before .before .pre)
+wrapped-requires : tie.Need-wrapped-requires
+wrapped-requires c κs = let s = c .before .before .before .before in let p = of Relative s (c .enum-told4 .given .1) in (rw (x-is s) (within-near 2047 (s .args .r .x1) (p .moved .x)), omega arith)
+
+wrapped-requires-2 : tie.Need-wrapped-requires-2
+wrapped-requires-2 c κs = let s = c .before .before .before .before .before in let p = of Relative s (c .before .enum-told4 .given .1) in (rw (y-is s) (within-near 2047 (s .args .r .y1) (p .moved .y)), omega arith)
+
+rows-a-requires-2 : tie.Need-rows-a-requires-2
+rows-a-requires-2 c κs = let s = c .before .before .before .before .before .before in let p = of Relative s (c .before .before .enum-told4 .given .1) in
+    (omega arith, rw (c .before .wrapped .ensures, x-is s) (twos-below 2048 (s .args .r .x1) (within-near 2047 (s .args .r .x1) (p .moved .x))), rw (c .wrapped2 .ensures, y-is s) (twos-below 2048 (s .args .r .y1) (within-near 2047 (s .args .r .y1) (p .moved .y))))
 
 enum-told-5 : tie.Need-enum-told-5
 enum-told-5 c = search needs
 
-five-byte-requires : tie.Need-five-byte-requires
-five-byte-requires c κs = rw (c .enum-told5 .given .1) at (c .before .before .pre)
+sub-t14 : tie.Need-sub-t14
+sub-t14 c = let s = c .before .before .before .before in let p = of FiveByte s (c .enum-told5 .given .1) in omega arith
+
+add-t15 : tie.Need-add-t15
+add-t15 c = search needs
+
+byte-of-requires-3 : tie.Need-byte-of-requires-3
+byte-of-requires-3 c κs = let s = c .before .before .before .before in let p = of FiveByte s (c .enum-told5 .given .1) in rw (x-is s) (within-near 127 (s .args .r .x1) (p .moved .x))
+
+byte-of-requires-4 : tie.Need-byte-of-requires-4
+byte-of-requires-4 c κs = let s = c .before .before .before .before .before in let p = of FiveByte s (c .before .enum-told5 .given .1) in rw (y-is s) (within-near 127 (s .args .r .y1) (p .moved .y))
+
+byte-of-requires-5 : tie.Need-byte-of-requires-5
+byte-of-requires-5 c κs = let s = c .before .before .before .before .before .before .before in let p = of FiveByte s (c .before .before .before .enum-told5 .given .1) in rw (second-x-is s) (within-near 127 (s .args .r .x2) (p .moved .second-x))
+
+byte-of-requires-6 : tie.Need-byte-of-requires-6
+byte-of-requires-6 c κs = let s = c .before .before .before .before .before .before .before .before .before in let p = of FiveByte s (c .before .before .before .before .before .enum-told5 .given .1) in rw (second-y-is s) (within-near 127 (s .args .r .y2) (p .moved .second-y))
 
 enum-told-6 : tie.Need-enum-told-6
 enum-told-6 c = search needs
 
-three-byte-requires : tie.Need-three-byte-requires
-three-byte-requires c κs = rw (c .enum-told6 .given .1) at (c .before .before .pre)
+byte-of-requires-7 : tie.Need-byte-of-requires-7
+byte-of-requires-7 c κs = let s = c .before .before .before .before in let p = of ThreeByte s (c .enum-told6 .given .1) in rw (x-is s) (within-near 127 (s .args .r .x1) (p .moved .x))
+
+byte-of-requires-8 : tie.Need-byte-of-requires-8
+byte-of-requires-8 c κs = let s = c .before .before .before .before .before in let p = of ThreeByte s (c .before .enum-told6 .given .1) in rw (y-is s) (within-near 127 (s .args .r .y1) (p .moved .y))
 
 enum-told-7 : tie.Need-enum-told-7
 enum-told-7 c = search needs
 
-hexadecimal-requires : tie.Need-hexadecimal-requires
-hexadecimal-requires c κs = rw (c .enum-told7 .given .1) at (c .before .before .pre)
+byte-of-requires-9 : tie.Need-byte-of-requires-9
+byte-of-requires-9 c κs = let s = c .before .before .before .before in let p = of Hexadecimal s (c .enum-told7 .given .1) in rw (x-is s) (within-near 127 (s .args .r .x1) (p .moved .x))
+
+byte-of-requires-10 : tie.Need-byte-of-requires-10
+byte-of-requires-10 c κs = let s = c .before .before .before .before .before in let p = of Hexadecimal s (c .before .enum-told7 .given .1) in rw (y-is s) (within-near 127 (s .args .r .y1) (p .moved .y))
+
+rows-w-requires : tie.Need-rows-w-requires
+rows-w-requires c κs = let s = c .before .before .before .before .before .before in let p = of Hexadecimal s (c .before .before .enum-told7 .given .1) in omega arith
 
 returns : tie.Need-returns
-returns c = rw (c .before .enum-told .given .1) (c .mm .ensures)
+unfolding bytesS
+returns c = let s = c .before .before .before .before .before in rw (c .before .enum-told .given .1) (rw (x-is s, y-is s) at (c .rows-s .ensures))
 
 returns-2 : tie.Need-returns-2
-returns-2 c = rw (c .before .enum-told2 .given .1) (c .microsoft .ensures)
+unfolding bytesV
+returns-2 c = let s = c .before .before .before .before .before .before .before in
+    let p = of Microsoft s (c .before .before .before .enum-told2 .given .1) in
+    rw (c .before .before .before .enum-told2 .given .1)
+    (rw (c .before .before .byte-of .ensures, c .before .byte-of2 .ensures, x-is s, minus-y s p) at (c .rows-v .ensures))
 
 returns-3 : tie.Need-returns-3
 unfolding bytesA rowsA
-returns-3 c = rw (c .before .enum-told3 .given .1) (c .absolute .ensures)
+returns-3 c = let s = c .before .before .before .before .before .before .before in
+    rw (c .before .before .before .enum-told3 .given .1)
+    (rw (c .before .before .magnitude .ensures, c .before .magnitude2 .ensures, x-is s, y-is s) at (c .rows-a .ensures))
 
 returns-4 : tie.Need-returns-4
 unfolding bytesB rowsA
-returns-4 c = rw (c .before .enum-told4 .given .1) (c .relative .ensures)
+returns-4 c = let s = c .before .before .before .before .before .before .before in
+    rw (c .before .before .before .enum-told4 .given .1)
+    (rw (c .before .before .wrapped .ensures, c .before .wrapped2 .ensures, x-is s, y-is s) at (c .rows-a2 .ensures))
 
 returns-5 : tie.Need-returns-5
 unfolding bytesU
-returns-5 c = rw (c .before .enum-told5 .given .1) (c .five-byte .ensures)
+returns-5 c = let s = c .before .before .before .before .before .before .before .before .before .before in
+    let p = of FiveByte s (c .before .before .before .before .before .before .enum-told5 .given .1) in
+    rw (c .before .before .before .before .before .before .enum-told5 .given .1)
+    (simp
+    (sum-U (s .args .r .buttons) (omega arith), c .before .before .before .before .before .byte-of3 .ensures, c .before .before .before .before .byte-of4 .ensures, c .before .before .byte-of5 .ensures, c .byte-of6 .ensures, x-is s, y-is s, second-x-is s, second-y-is s))
 
 returns-6 : tie.Need-returns-6
-returns-6 c = rw (c .before .enum-told6 .given .1) (c .three-byte .ensures)
+unfolding bytesT
+returns-6 c = let s = c .before .before .before .before .before .before in
+    let p = of ThreeByte s (c .before .before .enum-told6 .given .1) in
+    rw (c .before .before .enum-told6 .given .1)
+    (simp (sym (sum-T (s .args .r .buttons) (omega arith)), c .before .byte-of7 .ensures, c .byte-of8 .ensures, x-is s, y-is s))
 
 returns-7 : tie.Need-returns-7
 unfolding bytesW rowsW
-returns-7 c = rw (c .before .enum-told7 .given .1) (c .hexadecimal .ensures)
+returns-7 c = let s = c .before .before .before .before .before .before .before in
+    rw (c .before .before .before .enum-told7 .given .1)
+    (rw (c .before .before .byte-of9 .ensures, c .before .byte-of10 .ensures, x-is s, y-is s) at (c .rows-w .ensures))
 
 pub bytes-of-spec : {M : Type 1} → statement M
 bytes-of-spec =
     tie.close
     (tie.spec
     enum-told
-    mm-requires
+    rows-s-requires
     enum-told-2
-    microsoft-requires
+    byte-of-requires
+    sub-byte-of
+    byte-of-requires-2
+    rows-v-requires
     enum-told-3
-    absolute-requires
+    magnitude-requires
+    magnitude-requires-2
+    rows-a-requires
     enum-told-4
-    relative-requires
+    wrapped-requires
+    wrapped-requires-2
+    rows-a-requires-2
     enum-told-5
-    five-byte-requires
+    sub-t14
+    add-t15
+    byte-of-requires-3
+    byte-of-requires-4
+    byte-of-requires-5
+    byte-of-requires-6
     enum-told-6
-    three-byte-requires
+    byte-of-requires-7
+    byte-of-requires-8
     enum-told-7
-    hexadecimal-requires
+    byte-of-requires-9
+    byte-of-requires-10
+    rows-w-requires
     returns
     returns-2
     returns-3

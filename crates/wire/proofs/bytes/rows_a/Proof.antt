@@ -1,17 +1,17 @@
--- `pad`: the bytes of A and B, of two numbers of twelve bits.
-use Prim.Native.Nat.{ℕ, _+_, _*_, _/_, _%_, _<_, _≤_}
+-- `rows_a`: the rows of A and B, each under its parity.
+use Prim.Native.Nat.{ℕ}
 use borrow.Author.Needs.{needs}
 use lib.ListN.{length}
 use mathlib.Core.Bool.{Bool}
-use mathlib.Core.List.{List, []}
+use mathlib.Core.List.{List}
 use mathlib.Core.Path.{_≡_, refl, sym, _∙_, ap}
 use Rattle.numbers.proofs.Ones.{number-parity}
 use Rattle.numbers.specs.Bits.{number, bits}
 use Rattle.numbers.specs.Parity.{withParity, evened}
 use Rattle.wire.proofs.Sums.{sum-A, sum-low, sum-high}
 use Rattle.wire.specs.Table.{rowsA}
-use Rattle.wire.proofs.bytes.pad.Statement.{statement}
-use Rattle.wire.proofs.bytes.pad.Tie as tie
+use Rattle.wire.proofs.bytes.rows_a.Statement.{statement}
+use Rattle.wire.proofs.bytes.rows_a.Tie as tie
 
 -- seven bits under their parity, from the number that they make
 bits-of : {n : ℕ} (row : List Bool) → n ≡ number row → length row ≡ 7 → evened n ≡ number (withParity row)
@@ -53,8 +53,8 @@ returns c = let s = c .before .before .before .before .before .before in
     simp
     (c .before .before .before .before .with-parity .ensures ∙ bits-of _ (sum-A (s .args .r .buttons) (s .pre .0)) refl, c .before .before .before .with-parity2 .ensures ∙ bits-of _ (sym (sum-low (s .args .x))) refl, c .before .before .with-parity3 .ensures ∙ bits-of _ (sym (sum-high (s .args .x) (s .pre .1))) refl, c .before .with-parity4 .ensures ∙ bits-of _ (sym (sum-low (s .args .y))) refl, c .with-parity5 .ensures ∙ bits-of _ (sym (sum-high (s .args .y) (s .pre .2))) refl)
 
-pub pad-spec : {M : Type 1} → statement M
-pad-spec =
+pub rows-a-spec : {M : Type 1} → statement M
+rows-a-spec =
     tie.close
     (tie.spec
     add-with-parity
