@@ -18,6 +18,7 @@ use Rattle.wire.specs.Fits.{between, fitsFirst, fitsLater, allLater, val
 use Rattle.wire.specs.Reading.{undigit, pair, readW, reportOf}
 use Rattle.wire.specs.declared.Report.{Report}
 use Rattle.wire.specs.declared.Format.the-variants.{Hexadecimal}
+use Rattle.wire.proofs.Fields.{undigit-below}
 use Rattle.wire.proofs.Codec.Shapes.{OfFive, ReadParts, ComesBack, five}
 use Rattle.wire.proofs.Codec.Accepted.{Parts, one-pair, same-pair}
 use Rattle.wire.proofs.Codec.Ranges.{twos-within, twos-back, untwos-within}
@@ -55,10 +56,6 @@ undigit-digit n h = equal (λ n. undigit (digit n)) (λ n. n) 16 tt n h
 digit-undigit : (b : ℕ) → fitsLater Hexadecimal b ≡ true → digit (undigit b) ≡ b
 unfolding fitsLater undigit digit
 digit-undigit b l = equal-if (fitsLater Hexadecimal) (λ b. digit (undigit b)) (λ b. b) 256 tt b (later-byte b l) l
-
-undigit-below : (b : ℕ) → fitsLater Hexadecimal b ≡ true → undigit b < 16
-unfolding fitsLater undigit
-undigit-below b l = ltb-true (undigit b) 16 (agree-if (fitsLater Hexadecimal) (λ b. ltb (undigit b) 16) (λ b. true) 256 tt b (later-byte b l) l)
 
 -- a first digit is a digit, and below 8
 first-digit : (b : ℕ) → fitsFirst Hexadecimal b ≡ true → fitsLater Hexadecimal b ≡ true
@@ -113,7 +110,7 @@ read-W b1 b2 b3 b4 b5 h1 h2 h3 h4 h5 =
 four-back : (b : ℕ) (row : List Bool) → fitsLater Hexadecimal b ≡ true → row ≡ bits 4 0 (undigit b) → digit (number row) ≡ b
 four-back b row l e =
     ap (λ (row : List Bool). digit (number row)) e
-    ∙ ap digit (number-whole 4 (undigit b) (undigit-below b l))
+    ∙ ap digit (number-whole 4 (undigit b) (undigit-below b (later-byte b l)))
     ∙ digit-undigit b l
 
 low : (b c : ℕ) → fitsLater Hexadecimal b ≡ true → digit (number (bits 4 0 (pair b c))) ≡ b
