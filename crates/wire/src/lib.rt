@@ -47,7 +47,7 @@ pub enum Encoded {
 }
 
 // The movements that a format holds, from low to high.
-pub(crate) struct Range {
+pub struct Range {
     pub low: i16,
     pub high: i16,
 }
