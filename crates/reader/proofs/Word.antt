@@ -67,10 +67,10 @@ word-below r w h =
     (λ _ _. omega arith) (λ _ _. omega arith) (λ _. h)
 
 -- a word's bytes, with those kept before, are those in its report, dropped and kept after
-abbrev Kept : Reader → ℕ → Read → Type 0
+abbrev pub Kept : Reader → ℕ → Read → Type 0
 Kept r n s = s .refusal ≡ 0 → n + r .count ≡ sizeBy (r .format) * reportsIn (s .answer) + droppedIn (s .answer) + s .next .count
 
-dropping-is : (size k : ℕ) → size * reportsIn (dropping k) + droppedIn (dropping k) ≡ k
+pub dropping-is : (size k : ℕ) → size * reportsIn (dropping k) + droppedIn (dropping k) ≡ k
 unfolding dropping
 dropping-is size k =
     either (λ a. size * reportsIn a + droppedIn a ≡ k) (eqb k 0) Nothing (Dropped k) (λ e. omega (arith, eqb-true k 0 e)) (λ e. omega arith)
