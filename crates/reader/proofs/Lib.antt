@@ -17,4 +17,7 @@ pub mod Awaiting
 pub mod Front
 pub mod Encoded
 pub mod There
+pub mod Back
+pub mod Useless
+pub mod Sentences
 pub mod Figures

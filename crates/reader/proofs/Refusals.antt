@@ -1,25 +1,26 @@
 -- Refusals: 6 before 4, the old reader, no answer, counts of 0 and an unchanged slice; and 4 in a long read.
-use Prim.Native.Nat.{ℕ, _<_, _+_, _*_}
+use Prim.Native.Nat.{ℕ, _<_, _≤_, _*_}
 use mathlib.Core.Path.{_≡_, refl, sym, _∙_, ap}
 use mathlib.Core.Bool.{Bool, true, false}
 use mathlib.Core.Logic.{_⊎_, inl, inr}
 use mathlib.Core.List.{List, [], _∷_, _++_}
-use native.Mathlib.Nat.{add-zero}
 use native.Mathlib.Omega.{arith}
 use lib.ListN.{length, drop}
 use lib.IntN.{ℤ}
 use borrow.Author.Tests.{lt-leb, ne-eqb}
-use Rattle.wire.specs.Line.{isByte, break, silence}
-use Rattle.wire.specs.Numbers.{badState, badLetter, badWord}
+use Rattle.wire.specs.Line.{break, silence}
+use Rattle.wire.specs.Numbers.{success, badState, badLetter, badWord}
 use Rattle.reader.specs.State.{fresh}
 use Rattle.reader.specs.Good.{known, good}
-use Rattle.reader.specs.Rules.{refusing, wordOf}
+use Rattle.reader.specs.Rules.{entered, refusing, finishes, keep, start, lose, breakOf, silenceOf, wordOf}
 use Rattle.reader.specs.Line.{Long, whole, stopped, joined, lineOf}
 use Rattle.reader.specs.Promises.{FreshPromise, StepPromise, ReadPromise, newReader, freshOf, stepOf, readOf}
 use Rattle.reader.specs.declared.Reader.{Reader}
 use Rattle.reader.specs.declared.NewReader.{NewReader}
 use Rattle.reader.specs.declared.Read.{Read}
 use Rattle.reader.specs.declared.Reading.{Reading}
+use Rattle.reader.proofs.Choices.{either}
+use Rattle.reader.proofs.Word.{by-rules, by-kind}
 use Rattle.reader.proofs.View.{Stops, Takes, view}
 use Rattle.reader.proofs.Permitted.{step-is}
 use Rattle.reader.proofs.Goodness.{step-word, read-line}
@@ -28,6 +29,9 @@ use Rattle.reader.proofs.Goodness.{step-word, read-line}
 pub unknown-letter : (letter : ℕ) (a : NewReader) → known letter ≡ false → FreshPromise letter a → a ≡ newReader badLetter (fresh 0x55)
 unfolding freshOf
 unknown-letter letter a k e = rw (e, k)
+
+abbrev Taken : Read → Type 0
+Taken s = s .refusal ≡ success
 
 -- 6: whatever the word
 pub bad-state : (r : Reader) (w : ℕ) (s : Read) → good r ≡ false → StepPromise r w s → s ≡ refusing badState r
@@ -47,6 +51,15 @@ above r w h =
 
 pub bad-word : (r : Reader) (w : ℕ) (s : Read) → good r ≡ true → silence < w → StepPromise r w s → s ≡ refusing badWord r
 bad-word r w s g h e = step-is r w s e ∙ step-word r w g ∙ above r w h
+
+-- and no other: a good reader takes every line word
+pub takes-line-words : (r : Reader) (w : ℕ) (s : Read) → good r ≡ true → w ≤ silence → StepPromise r w s → s .refusal ≡ success
+unfolding keep start lose breakOf silenceOf
+takes-line-words r w s g h e =
+    rw (step-is r w s e ∙ step-word r w g)
+    (by-kind Taken r w
+    (λ _. by-rules Taken r (entered (r .format) w) (λ _. refl) (λ _ _. either Taken (finishes r) _ _ (λ _. refl) (λ _. refl)) (λ _ _ _. refl) (λ _ _ _. refl))
+    (λ _ _. refl) (λ _ _. refl) (λ b. absurd (omega arith)))
 
 -- "4 in a long read, which returns the reader, reports and counts as they stand before the bad word"
 abbrev pub withRefusal : ℕ → Long → Long

@@ -166,6 +166,9 @@ sent letter p before after e h z = go (namedBy letter) refl
           are = rw (size, buffer) (take-at (bytesOf f p) (drop (sizeOf f) before) (sizeOf f) (codec.bytes-length f p));
         }
 
+pub sent-length : (letter : ℕ) (p : Report) (before after : List ℕ) (e : Encoded) → EncodePromise letter p before e after → refusalOf e ≡ success → length (take (lengthOf e) after) ≡ lengthOf e
+sent-length letter p before after e h z = let t = sent letter p before after e h z in ap length (t .are) ∙ codec.bytes-length (t .f) p ∙ sym (t .sized)
+
 carried-is : (letter : ℕ) (f : Format) (p : Report) → namedBy letter ≡ Known f → accepted f p ≡ true → reportOf f (bytesOf f p) ≡ carriedBy letter p
 unfolding carriedBy
 carried-is letter f p named taken = rw named (codec.there f p taken)
