@@ -20,4 +20,6 @@ pub mod There
 pub mod Back
 pub mod Useless
 pub mod Sentences
+pub mod Nowhere
 pub mod Figures
+pub mod Examples

@@ -43,7 +43,7 @@ awaits-only-unmarked r g w =
     let o = only-unmarked (r .awaiting) (markedBy (r .format)) (eqb (r .count) 0) (parts r g .awaits) w in (o .0, eqb-true (r .count) 0 (o .1))
 
 -- so that a marked format never awaits
-never-awaits : (r : Reader) → good r ≡ true → markedBy (r .format) ≡ true → r .awaiting ≡ false
+pub never-awaits : (r : Reader) → good r ≡ true → markedBy (r .format) ≡ true → r .awaiting ≡ false
 never-awaits r g m = refused (r .awaiting) (λ w. holds (sym (awaits-only-unmarked r g w .0) ∙ m))
 
 -- in a marked format no valid first byte is a valid later one
