@@ -1,19 +1,19 @@
 -- A fresh reader of U, T or W hands out nothing before the first silence, whatever the words.
-use Prim.Native.Nat.{ℕ, _+_, _*_}
-use mathlib.Core.Path.{_≡_, refl, sym, _∙_, ap}
-use mathlib.Core.Bool.{Bool, true, false, not, _||_}
+use Prim.Native.Nat.{ℕ}
+use mathlib.Core.Path.{_≡_, refl, _∙_, ap}
+use mathlib.Core.Bool.{true, false}
 use mathlib.Core.Logic.{_⊎_, inl, inr}
-use mathlib.Core.List.{List, [], _∷_, map}
+use mathlib.Core.List.{List, [], _∷_}
 use native.Mathlib.Omega.{arith}
 use lib.Dec.{eqb}
-use lib.ListN.{length, drop}
+use lib.ListN.{length}
 use lib.IntN.{ℤ}
 use borrow.Author.Tests.{eqb-false}
 use Rattle.wire.specs.Line.{silence, markedBy}
 use Rattle.reader.specs.State.{fresh}
 use Rattle.reader.specs.Good.{known, good}
 use Rattle.reader.specs.Rules.{dropping, byteOf, breakOf, wordOf}
-use Rattle.reader.specs.Line.{Long, whole, lineOf}
+use Rattle.reader.specs.Line.{Long, lineOf}
 use Rattle.reader.specs.Counts.{reportsIn, reportsAmong}
 use Rattle.reader.specs.Promises.{FreshPromise, ReadPromise, newReader, freshOf}
 use Rattle.reader.specs.Runs.{stepsOf, StepsPromise, answers, hasSilence}

@@ -1,7 +1,7 @@
 -- Worked reads: the conditions of the laws, met and not met.
 use mathlib.Core.Path.{_≡_, refl}
-use mathlib.Core.Bool.{true, false}
-use mathlib.Core.List.{List, [], _∷_}
+use mathlib.Core.Bool.{false}
+use mathlib.Core.List.{[], _∷_}
 use lib.ListN.{replicate}
 use lib.IntN.{ℤ, pos}
 use Rattle.numbers.specs.Bits.{bit, bits, number}

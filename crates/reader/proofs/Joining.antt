@@ -11,13 +11,13 @@ use lib.Seq.{take-append-add, drop-append-add}
 use lib.IntN.{ℤ}
 use Rattle.reader.specs.Good.{good}
 use Rattle.reader.specs.Rules.{wordOf}
-use Rattle.reader.specs.Line.{Long, whole, stopped, joined, lineOf}
+use Rattle.reader.specs.Line.{Long, whole, joined, lineOf}
 use Rattle.reader.specs.Promises.{ReadPromise, readOf}
 use Rattle.reader.specs.declared.Reader.{Reader}
 use Rattle.reader.specs.declared.Reading.{Reading}
 use Rattle.reader.proofs.View.{Stops, Takes, view}
 use Rattle.reader.proofs.Joined.{joined-none, joined-joined}
-use Rattle.reader.proofs.Goodness.{read-line, line-stays-good}
+use Rattle.reader.proofs.Goodness.{line-stays-good}
 
 -- what was read, and then what is read of a part behind it
 abbrev thenLine : Long → List ℕ → Long

@@ -23,3 +23,4 @@ pub mod Sentences
 pub mod Nowhere
 pub mod Figures
 pub mod Examples
+pub mod Wrong

@@ -1,15 +1,14 @@
 -- "(wrong fixed bits, odd count of ones in A or B, 128 and over in V, in W no hex digit, or a first digit above 7)": such a byte "is dropped
 -- with the k kept, k+1; U, T, W then await silence".
 use Prim.Native.Nat.{ℕ, _+_, _<_, _≤_}
-use mathlib.Core.Path.{_≡_, refl, _∙_, ap}
-use mathlib.Core.Bool.{Bool, true, false, not, cond, _&&_, _||_}
+use mathlib.Core.Path.{_≡_, refl}
+use mathlib.Core.Bool.{Bool, true, false, not, cond, _&&_}
 use native.Mathlib.Omega.{arith}
-use lib.Count.{ones, onesIn}
-use lib.Dec.{T, ltb, eqb}
-use borrow.Author.Tests.{le-ltb, lt-ltb, lt-leb}
+use lib.Dec.{ltb, eqb}
+use borrow.Author.Tests.{le-ltb, lt-leb}
 use Rattle.numbers.specs.Bits.{bit}
 use Rattle.numbers.specs.Parity.{even}
-use Rattle.numbers.proofs.Tested.{upto, same, agree-if}
+use Rattle.numbers.proofs.Tested.{agree-if}
 use Rattle.wire.specs.Line.{namedBy, markedOf, markedBy}
 use Rattle.wire.specs.Fits.{like, isDigit, fitsAt, fitsFirst, fitsLater, fitsBy}
 use Rattle.wire.specs.declared.Format.{Format}

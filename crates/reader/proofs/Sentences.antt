@@ -1,26 +1,26 @@
 -- Sentences of "The reader" that follow from its rules.
 use Prim.Native.Nat.{ℕ, zero, suc, _+_, _<_, _≤_}
-use mathlib.Core.Path.{_≡_, refl, sym, _∙_, ap}
-use mathlib.Core.Bool.{Bool, true, false, not, cond, _&&_, _||_}
-use mathlib.Core.List.{List, [], _∷_}
+use mathlib.Core.Path.{_≡_, refl, sym, _∙_}
+use mathlib.Core.Bool.{Bool, true, false, not, _&&_, _||_}
+use mathlib.Core.List.{[], _∷_}
 use native.Mathlib.Omega.{arith}
 use lib.ListN.{length, getD, replicate, getD-replicate}
 use lib.Seq.{ext-getD, length-take-le}
-use lib.Dec.{T, ltb, eqb, eqb·suc-zero}
-use borrow.Author.Tests.{le-leb, le-ltb, eqb-true, ne-eqb, eqb-false, eq-eqb}
-use Rattle.numbers.proofs.Tested.{left, right, refused, holds}
-use Rattle.wire.specs.Line.{isByte, namedBy, ofNamed, sizeBy, markedOf, markedBy}
-use Rattle.wire.specs.Fits.{fitsAt, fitsFirst, fitsLater, fitsBy}
+use lib.Dec.{eqb, eqb·suc-zero}
+use borrow.Author.Tests.{le-leb, le-ltb, eqb-true, ne-eqb}
+use Rattle.numbers.proofs.Tested.{refused, holds}
+use Rattle.wire.specs.Line.{namedBy, ofNamed, sizeBy, markedOf, markedBy}
+use Rattle.wire.specs.Fits.{fitsAt, fitsBy}
 use Rattle.wire.specs.declared.Named.{Named}
 use Rattle.wire.specs.declared.Named.the-variants.{Known, Unknown}
 use Rattle.wire.proofs.Codec.{mark}
-use Rattle.reader.specs.State.{reader, keptIn, unmarked, noBytes, fresh}
+use Rattle.reader.specs.State.{reader, keptIn, fresh}
 use Rattle.reader.specs.Good.{placed, good}
-use Rattle.reader.specs.Rules.{entered, answered, dropping, alone, fitting, starting, more, keep, start, lose, byteOf, wordOf}
+use Rattle.reader.specs.Rules.{entered, answered, dropping, keep, start, lose, byteOf, wordOf}
 use Rattle.reader.specs.Promises.{StepPromise}
 use Rattle.reader.specs.declared.Reader.{Reader}
 use Rattle.reader.specs.declared.Read.{Read}
-use Rattle.reader.specs.declared.Answer.the-variants.{Nothing, Dropped}
+use Rattle.reader.specs.declared.Answer.the-variants.{Dropped}
 use Rattle.reader.proofs.Letters.{at-most-five, at-least-three}
 use Rattle.reader.proofs.Good.{parts}
 use Rattle.reader.proofs.Permitted.{step-is}

@@ -12,7 +12,7 @@ use borrow.Author.Tests.{eqb-true, ltb-false}
 use Rattle.wire.specs.Line.{sizeBy}
 use Rattle.reader.specs.State.{fiveOf}
 use Rattle.reader.specs.Rules.{wordOf}
-use Rattle.reader.specs.Line.{Long, stopped, joined, noRoom, lineOf}
+use Rattle.reader.specs.Line.{stopped, joined, noRoom, lineOf}
 use Rattle.reader.specs.Counts.{byteIn, reportsIn}
 use Rattle.reader.specs.declared.Reader.{Reader}
 use Rattle.reader.specs.declared.Answer.{Answer}

@@ -1,7 +1,7 @@
 -- One word: the format stays, the bytes kept stay below the size, and none is lost from the count.
 use Prim.Native.Nat.{ℕ, _+_, _*_, _<_}
-use mathlib.Core.Path.{_≡_, refl, sym}
-use mathlib.Core.Bool.{Bool, true, false}
+use mathlib.Core.Path.{_≡_, refl}
+use mathlib.Core.Bool.{true, false}
 use native.Mathlib.Omega.{arith}
 use lib.Dec.{eqb}
 use borrow.Author.Tests.{eqb-true, eqb-false, leb-false}
@@ -10,7 +10,6 @@ use Rattle.reader.specs.Rules.{entered, refusing, dropping, alone, fitti
 use Rattle.reader.specs.Counts.{byteIn, reportsIn, droppedIn}
 use Rattle.reader.specs.declared.Reader.{Reader}
 use Rattle.reader.specs.declared.Read.{Read}
-use Rattle.reader.specs.declared.Answer.{Answer}
 use Rattle.reader.specs.declared.Answer.the-variants.{Nothing, Dropped}
 use Rattle.reader.proofs.Choices.{either}
 use Rattle.reader.proofs.Letters.{at-least-three}

@@ -1,9 +1,9 @@
 -- What one word does, rule by rule.
 use Prim.Native.Nat.{ℕ, _+_}
-use mathlib.Core.Bool.{Bool, true, false, not, cond, _&&_}
+use mathlib.Core.Bool.{Bool, false, cond, _&&_}
 use mathlib.Core.List.{List, [], _∷_}
 use lib.ListN.{set}
-use lib.Dec.{ltb, eqb}
+use lib.Dec.{eqb}
 use Rattle.wire.specs.Line.{isByte, break, silence, sizeBy, markedBy}
 use Rattle.wire.specs.Fits.{fitsBy}
 use Rattle.wire.specs.Reading.{reportBy}
