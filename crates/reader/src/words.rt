@@ -76,6 +76,17 @@ impl Reader {
         answered(self, Answer::Nothing)
     }
 
+    // Whether a byte fits the place that is next: the first, or a later one.
+    fn fits(self, byte: u8) -> bool
+        ensures { λ r. ⌜ r ≡ fitting self byte ⌝ }
+    {
+        if self.count == 0 {
+            wire::fits(self.format, 0, byte)
+        } else {
+            wire::fits(self.format, 1, byte)
+        }
+    }
+
     // Whether a byte is a valid first byte of a marked format.
     fn starts(self, marked: bool, byte: u8) -> bool
         requires { ⌜ marked ≡ markedBy (self .format) ⌝ }
@@ -120,7 +131,7 @@ impl Reader {
         if self.awaiting {
             return answered(self, Answer::Dropped(1));
         }
-        if wire::fits(self.format, self.count, byte) {
+        if self.fits(byte) {
             return self.keep(size, byte);
         }
         if self.starts(marked, byte) {
