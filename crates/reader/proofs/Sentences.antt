@@ -23,6 +23,7 @@ use Rattle.reader.specs.declared.Read.{Read}
 use Rattle.reader.specs.declared.Answer.the-variants.{Dropped}
 use Rattle.reader.proofs.Letters.{at-most-five, at-least-three}
 use Rattle.reader.proofs.Good.{parts}
+use Rattle.reader.proofs.Word.{lost-is}
 use Rattle.reader.proofs.Permitted.{step-is}
 use Rattle.reader.proofs.Goodness.{step-word}
 
@@ -80,17 +81,16 @@ module _ (r : Reader) (b : ℕ) (s : Read) (g : good r ≡ true) (byte : b ≤ 2
           rw (never-awaits r g m, z, h, zeros r g z, ne-eqb 1 (sizeBy (r .format)) ne)
       go (suc n) z = rw (never-awaits r g m, z, first-not-later (r .format) n b m h, m, h)
 
-  -- "In a marked format with none kept, a valid later byte is dropped alone."
-  pub later-alone : markedBy (r .format) ≡ true → r .count ≡ 0 → fitsBy (r .format) 1 b ≡ true → s ≡ answered r (Dropped 1)
-  unfolding byteOf lose
-  later-alone m z h =
-      let first : fitsBy (r .format) 0 b ≡ false = refused (fitsBy (r .format) 0 b) (λ f. holds (sym (first-not-later (r .format) 0 b m f) ∙ h)) in
-      byte-is ∙ rw (never-awaits r g m, z, first, m, zeros r g z)
-
   -- "A byte that none of these rules takes [..] is dropped with the k kept, k+1; U, T, W then await silence"
   pub lost : r .awaiting ≡ false → fitsBy (r .format) (r .count) b ≡ false → markedBy (r .format) && fitsBy (r .format) 0 b ≡ false → s ≡ answered (fresh (r .format)) (Dropped (r .count + 1))
-  unfolding byteOf lose
-  lost w f h = byte-is ∙ rw (w, f, h)
+  unfolding lose
+  lost w f h = byte-is ∙ lost-is r b w f h
+
+  -- "In a marked format with none kept, a valid later byte is dropped alone": the reader is as it was
+  pub later-alone : markedBy (r .format) ≡ true → r .count ≡ 0 → fitsBy (r .format) 1 b ≡ true → s ≡ answered r (Dropped 1)
+  later-alone m z h =
+      let first : fitsBy (r .format) 0 b ≡ false = refused (fitsBy (r .format) 0 b) (λ f. holds (sym (first-not-later (r .format) 0 b m f) ∙ h)) in
+      lost (never-awaits r g m) (rw (z, first)) (rw (m, first)) ∙ rw (never-awaits r g m, z, m, zeros r g z)
 
   -- "where each byte is dropped alone"
   pub awaiting-alone : r .awaiting ≡ true → s ≡ answered r (Dropped 1)
