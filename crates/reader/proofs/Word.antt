@@ -2,12 +2,14 @@
 use Prim.Native.Nat.{ℕ, _+_, _*_, _<_}
 use mathlib.Core.Path.{_≡_, refl, sym, _∙_}
 use mathlib.Core.Bool.{true, false, cond, _&&_}
+use mathlib.Core.Logic.{_⊎_, inl, inr}
 use native.Mathlib.Omega.{arith}
 use lib.Dec.{eqb}
 use borrow.Author.Tests.{eqb-true, eqb-false, leb-false}
 use Rattle.numbers.proofs.Tested.{left, right, holds}
 use Rattle.wire.specs.Line.{isByte, break, silence, sizeBy, markedBy}
 use Rattle.wire.specs.Fits.{fitsBy}
+use Rattle.wire.specs.Numbers.{success, badWord}
 use Rattle.reader.specs.Rules.{entered, refusing, dropping, alone, fitting, finishes, starting, straying, keep, start, stray, lose, byteOf, breakOf, silenceOf, wordOf}
 use Rattle.reader.specs.Counts.{byteIn, reportsIn, droppedIn}
 use Rattle.reader.specs.declared.Reader.{Reader}
@@ -108,3 +110,14 @@ word-kept r w =
     (λ e _ _. rw e (omega (arith, dropping-is (sizeBy (r .format)) (r .count))))
     (λ e _ _. rw e (omega (arith, dropping-is (sizeBy (r .format)) (r .count))))
     (λ _ e. absurd (eqb-false 4 0 refl e))
+
+-- a word is refused with 4 where it is above 257, and else not
+abbrev pub Numbered : ℕ → Read → Type 0
+Numbered w s = (s .refusal ≡ success) ⊎ ((s .refusal ≡ badWord) × (silence < w))
+
+pub word-number : (r : Reader) (w : ℕ) → Numbered w (wordOf r w)
+unfolding keep start lose breakOf silenceOf
+word-number r w =
+    by-kind (Numbered w) r w
+    (λ _. by-rules (Numbered w) r (entered (r .format) w) (λ _. inl refl) (λ _ _. either (Numbered w) (finishes r) _ _ (λ _. inl refl) (λ _. inl refl)) (λ _ _ _. inl refl) (λ _ _ _. inl refl))
+    (λ _ _. inl refl) (λ _ _. inl refl) (λ h. inr (refl, h))
