@@ -1,0 +1,56 @@
+-- What a good reader has, part by part.
+use Prim.Native.Nat.{ℕ, zero, suc, _<_}
+use mathlib.Core.Path.{_≡_, refl}
+use mathlib.Core.Bool.{Bool, true, false, _&&_}
+use native.Mathlib.Omega.{arith}
+use lib.ListN.{length, getD}
+use lib.Dec.{eqb, T}
+use borrow.Author.Tests.{ltb-true, lt-ltb, eqb-true, eq-eqb, eqb-false}
+use Rattle.numbers.proofs.Tested.{left, right}
+use Rattle.wire.specs.Line.{sizeBy}
+use Rattle.reader.specs.Good.{known, belowSize, placed, each, allPlaced, awaitsRightly, good}
+use Rattle.reader.specs.declared.Reader.{Reader}
+
+-- a test that holds at each place
+pub each-at : (test : ℕ → Bool) (n : ℕ) → each test n ≡ true → (i : ℕ) → i < n → test i ≡ true
+each-at test zero e i h = absurd (omega arith)
+each-at test (suc n) e i h = go (each-at test n (left (each test n) (test n) e) i) (eqb i n) refl
+  where
+    go : (i < n → test i ≡ true) → (t : Bool) → eqb i n ≡ t → test i ≡ true
+    go ih true q = rw (eqb-true i n q) (right (each test n) (test n) e)
+    go ih false q = let d = eqb-false i n q in ih (omega arith)
+
+pub each-of : (test : ℕ → Bool) (n : ℕ) → ((i : ℕ) → i < n → test i ≡ true) → each test n ≡ true
+each-of test zero h = refl
+each-of test (suc n) h = rw (each-of test n (λ i l. h i (omega arith)), h n (omega arith))
+
+pub record Parts (r : Reader) : Type 0 where
+  pub of-known : known (r .format) ≡ true
+  pub below : r .count < sizeBy (r .format)
+  pub five : length (r .kept) ≡ 5
+  pub places : (i : ℕ) → i < 5 → placed r i (getD (r .kept) i 0) ≡ true
+  pub awaits : awaitsRightly r ≡ true
+
+pub parts : (r : Reader) → good r ≡ true → Parts r
+unfolding good
+parts r g =
+    let three = left (known (r .format) && belowSize r && allPlaced r) (awaitsRightly r) g in
+    let two = left (known (r .format) && belowSize r) (allPlaced r) three in
+    let all = right (known (r .format) && belowSize r) (allPlaced r) three in
+    let test : ℕ → Bool = λ i. placed r i (getD (r .kept) i 0) in
+    record {
+      of-known = left (known (r .format)) (belowSize r) two;
+      below = ltb-true _ _ (right (known (r .format)) (belowSize r) two);
+      five = eqb-true _ _ (left (eqb (length (r .kept)) 5) (each test 5) all);
+      places = each-at test 5 (right (eqb (length (r .kept)) 5) (each test 5) all);
+      awaits = right (known (r .format) && belowSize r && allPlaced r) (awaitsRightly r) g;
+    }
+
+pub made : (r : Reader) → Parts r → good r ≡ true
+unfolding good
+made r p =
+    let test : ℕ → Bool = λ i. placed r i (getD (r .kept) i 0) in
+    rw (p .of-known, lt-ltb _ _ (p .below), eq-eqb _ _ (p .five), each-of test 5 (p .places)) (p .awaits)
+
+pub below-size : (r : Reader) → good r ≡ true → r .count < sizeBy (r .format)
+below-size r g = parts r g .below

@@ -1,0 +1,62 @@
+-- Letters: the size of a known one is 3 to 5, and of any other 0.
+use Prim.Native.Nat.{ℕ, _<_, _≤_}
+use mathlib.Core.Path.{_≡_, refl, sym}
+use mathlib.Core.Bool.{Bool, true, false, not, _&&_}
+use native.Mathlib.Omega.{arith}
+use lib.Dec.{eqb, ltb}
+use borrow.Author.Tests.{le-ltb}
+use Rattle.wire.specs.Line.{namedBy, ofNamed, sizeOf, sizeBy}
+use Rattle.wire.specs.declared.Format.{Format}
+use Rattle.wire.specs.declared.Format.the-variants.{Mm, Microsoft, Absolute, Relative, FiveByte, ThreeByte, Hexadecimal}
+use Rattle.wire.specs.declared.Named.{Named}
+use Rattle.wire.specs.declared.Named.the-variants.{Known, Unknown}
+use Rattle.wire.proofs.Front.{size-small}
+use Rattle.reader.specs.Good.{known}
+
+pub at-most-five : (letter : ℕ) → sizeBy letter ≤ 5
+unfolding sizeBy
+at-most-five letter = go (namedBy letter)
+  where
+    go : (n : Named) → ofNamed 0 sizeOf n ≤ 5
+    go (Known f) = size-small f
+    go Unknown = omega arith
+
+pub at-least-three : (letter n : ℕ) → n < sizeBy letter → 3 ≤ sizeBy letter
+unfolding sizeBy
+at-least-three letter n = go (namedBy letter)
+  where
+    go : (m : Named) → n < ofNamed 0 sizeOf m → 3 ≤ ofNamed 0 sizeOf m
+    go (Known Mm) h = omega arith
+    go (Known Microsoft) h = omega arith
+    go (Known Absolute) h = omega arith
+    go (Known Relative) h = omega arith
+    go (Known FiveByte) h = omega arith
+    go (Known ThreeByte) h = omega arith
+    go (Known Hexadecimal) h = omega arith
+    go Unknown h = absurd (omega arith)
+
+size-some : (f : Format) → eqb (sizeOf f) 0 ≡ false
+size-some Mm = refl
+size-some Microsoft = refl
+size-some Absolute = refl
+size-some Relative = refl
+size-some FiveByte = refl
+size-some ThreeByte = refl
+size-some Hexadecimal = refl
+
+pub known-sized : (letter : ℕ) → known letter ≡ not (eqb (sizeBy letter) 0)
+unfolding known sizeBy
+known-sized letter = go (namedBy letter)
+  where
+    go : (n : Named) → ofNamed false (λ f. true) n ≡ not (eqb (ofNamed 0 sizeOf n) 0)
+    go (Known f) = rw (size-some f)
+    go Unknown = refl
+
+-- so that what is below the size is below the size of a known format
+pub known-below : (letter n : ℕ) → known letter && ltb n (sizeBy letter) ≡ ltb n (sizeBy letter)
+unfolding known sizeBy
+known-below letter n = go (namedBy letter)
+  where
+    go : (m : Named) → ofNamed false (λ f. true) m && ltb n (ofNamed 0 sizeOf m) ≡ ltb n (ofNamed 0 sizeOf m)
+    go (Known f) = refl
+    go Unknown = sym (le-ltb n 0 (omega arith))

@@ -1,0 +1,9 @@
+pub mod Choices
+pub mod Letters
+pub mod Good
+pub mod Word
+pub mod Turn
+pub mod View
+pub mod Joined
+pub mod Loop
+pub mod Figures

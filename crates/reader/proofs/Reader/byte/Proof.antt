@@ -1,0 +1,63 @@
+-- `byte`: each rule in its turn.
+use borrow.Author.Needs.{needs}
+use native.Mathlib.Omega.{arith}
+use mathlib.Core.Path.{sym, _∙_}
+use Rattle.reader.specs.Rules.{byteOf}
+use Rattle.reader.proofs.Letters.{at-most-five}
+use Rattle.reader.proofs.Reader.byte.Statement.{statement}
+use Rattle.reader.proofs.Reader.byte.Tie as tie
+
+answered-requires : tie.Need-answered-requires
+answered-requires c κs = search needs
+
+returns : tie.Need-returns
+unfolding byteOf
+returns c = simp (c .before .if1 .taken) (c .answered .ensures)
+
+fits-requires : tie.Need-fits-requires
+fits-requires c κs = search needs
+
+keep-requires : tie.Need-keep-requires
+keep-requires c κs = search needs
+
+returns-2 : tie.Need-returns-2
+unfolding byteOf
+returns-2 c = let b = c .before in
+    simp (b .before .before .if1 .left, sym (b .before .fits2 .ensures) ∙ b .if2 .taken) (c .keep .ensures)
+
+starts-requires : tie.Need-starts-requires
+starts-requires c κs = search needs
+
+start-requires : tie.Need-start-requires
+start-requires c κs = search needs
+
+returns-3 : tie.Need-returns-3
+unfolding byteOf
+returns-3 c = let b = c .before .before .before in
+    simp (b .before .before .if1 .left, sym (b .before .fits2 .ensures) ∙ b .if2 .left, sym (c .before .before .starts .ensures) ∙ c .before .if3 .taken)
+    (c .start .ensures)
+
+lose-requires : tie.Need-lose-requires
+lose-requires c κs = let s = c .before .before .before .before .before in
+    (omega (arith, s .pre .0, s .pre .1, at-most-five (s .args .self .format)), s .pre .2)
+
+returns-4 : tie.Need-returns-4
+unfolding byteOf
+returns-4 c = let b = c .before .before .before in
+    simp (b .before .before .if1 .left, sym (b .before .fits2 .ensures) ∙ b .if2 .left, sym (c .before .before .starts .ensures) ∙ c .before .if3 .left)
+    (c .lose .ensures)
+
+pub byte-spec : {M : Type 1} → statement M
+byte-spec =
+    tie.close
+    (tie.spec
+    answered-requires
+    returns
+    fits-requires
+    keep-requires
+    returns-2
+    starts-requires
+    start-requires
+    returns-3
+    lose-requires
+    returns-4)

@@ -1,0 +1,102 @@
+-- `first`: each case of the word's answer.
+use borrow.Author.Needs.{needs}
+use denote.Ref.{now}
+use mathlib.Core.Path.{_∙_, ap}
+use Rattle.reader.specs.Line.{whole}
+use Rattle.reader.proofs.Turn.{refused, nothing, dropped, no-room, report}
+use Rattle.reader.proofs.Reader.first.Statement.{statement}
+use Rattle.reader.proofs.Reader.first.Tie as tie
+
+shared-slice-read-word : tie.Need-shared-slice-read-word
+shared-slice-read-word c = search needs
+
+word-requires : tie.Need-word-requires
+word-requires c κs = search needs
+
+reading-requires : tie.Need-reading-requires
+reading-requires c κs = search needs
+
+returns : tie.Need-returns
+returns c = let b = c .before in
+    let s = b .before .before .before .before .before in
+    rw (c .reading .ensures)
+    (refused (s .args .self) (now (s .args .words)) (now (s .args .out)) (b .before .before .word .result) (s .pre .3) (b .before .before .word .ensures) (b .if1 .taken))
+
+enum-told : tie.Need-enum-told
+enum-told c = search needs
+
+reading-requires-2 : tie.Need-reading-requires-2
+reading-requires-2 c κs = search needs
+
+enum-known-answer : tie.Need-enum-known-answer
+enum-known-answer c = search needs
+
+cast-reading : tie.Need-cast-reading
+cast-reading c = search needs
+
+reading-requires-3 : tie.Need-reading-requires-3
+reading-requires-3 c κs = search needs
+
+enum-known-answer-2 : tie.Need-enum-known-answer-2
+enum-known-answer-2 c = search needs
+
+reading-requires-4 : tie.Need-reading-requires-4
+reading-requires-4 c κs = search needs
+
+returns-2 : tie.Need-returns-2
+returns-2 c = let b = c .before .before .before .before .before .before in
+    let s = b .before .before .before .before .before in
+    rw (c .reading4 .ensures)
+    (no-room (s .args .self) (now (s .args .words)) (now (s .args .out)) (b .before .before .word .result) (s .pre .3) (b .before .before .word .ensures) (c .before .before .before .answer2 .given .0 .0) (b .if1 .left) (c .before .before .before .answer2 .given .1) (c .before .if2 .taken))
+
+put-requires : tie.Need-put-requires
+put-requires c κs = search needs
+
+reading-requires-5 : tie.Need-reading-requires-5
+reading-requires-5 c κs = search needs
+
+returns-3 : tie.Need-returns-3
+returns-3 c = let b = c .before .before .before .before in
+    let s = b .before .before .before .before .before in
+    rw (c .reading2 .ensures)
+    (nothing (s .args .self) (now (s .args .words)) (now (s .args .out)) (b .before .before .word .result) (s .pre .3) (b .before .before .word .ensures) (b .if1 .left) (c .before .enum-told .given .1))
+
+returns-4 : tie.Need-returns-4
+returns-4 c = let b = c .before .before .before .before .before in
+    let s = b .before .before .before .before .before in
+    rw (c .reading3 .ensures)
+    (dropped (s .args .self) (now (s .args .words)) (now (s .args .out)) (b .before .before .word .result) (s .pre .3) (b .before .before .word .ensures) (c .before .before .answer .given .0 .0) (b .if1 .left) (c .before .before .answer .given .1))
+
+same-length : tie.Need-same-length
+same-length c = search needs
+
+returns-5 : tie.Need-returns-5
+returns-5 c = let b = c .before .before .before .before .before .before .before .before .before in
+    let s = b .before .before .before .before .before in
+    let a = c .before .before .before .before .before .before .answer2 .given in
+    rw (c .reading5 .ensures)
+    (ap (whole _) (c .before .before .put .ensures)
+    ∙ report (s .args .self) (now (s .args .words)) (now (s .args .out)) (b .before .before .word .result) (s .pre .3) (b .before .before .word .ensures) (a .0 .0) (b .if1 .left) (a .1) (c .before .before .before .before .if2 .left))
+
+pub first-spec : {M : Type 1} → statement M
+first-spec =
+    tie.close
+    (tie.spec
+    shared-slice-read-word
+    word-requires
+    reading-requires
+    returns
+    enum-told
+    reading-requires-2
+    enum-known-answer
+    cast-reading
+    reading-requires-3
+    enum-known-answer-2
+    reading-requires-4
+    returns-2
+    put-requires
+    reading-requires-5
+    returns-3
+    returns-4
+    same-length
+    returns-5)

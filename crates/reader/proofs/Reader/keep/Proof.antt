@@ -1,0 +1,59 @@
+-- `keep`: the byte goes behind the kept, and the last gives the report.
+use borrow.Author.Needs.{needs}
+use native.Mathlib.Omega.{arith}
+use mathlib.Core.Path.{sym, _∙_}
+use borrow.Author.Tests.{eq-eqb, ne-eqb}
+use Rattle.reader.specs.Rules.{keep}
+use Rattle.reader.proofs.Letters.{at-most-five}
+use Rattle.reader.proofs.Reader.keep.Statement.{statement}
+use Rattle.reader.proofs.Reader.keep.Tie as tie
+
+cast-at : tie.Need-cast-at
+cast-at c = search needs
+
+array-write-kept : tie.Need-array-write-kept
+array-write-kept c = omega (arith, at-most-five (c .before .before .args .self .format))
+
+add-if1 : tie.Need-add-if1
+add-if1 c = search needs
+
+report-of-requires : tie.Need-report-of-requires
+report-of-requires c κs = search needs
+
+no-bytes-requires : tie.Need-no-bytes-requires
+no-bytes-requires c κs = search needs
+
+answered-requires : tie.Need-answered-requires
+answered-requires c κs = search needs
+
+returns : tie.Need-returns
+unfolding keep
+returns c = let b = c .before .before .before in
+    simp (eq-eqb _ _ (b .if1 .taken ∙ b .before .before .before .pre .1))
+    (rw (c .before .no-bytes .ensures, c .before .before .report-of .ensures) at (c .answered .ensures))
+
+add-t16 : tie.Need-add-t16
+add-t16 c = omega (arith, at-most-five (c .before .before .before .before .args .self .format))
+
+answered-requires-2 : tie.Need-answered-requires-2
+answered-requires-2 c κs = search needs
+
+returns-2 : tie.Need-returns-2
+unfolding keep
+returns-2 c = let b = c .before .before in
+    simp (ne-eqb _ _ (λ e. b .if1 .left (e ∙ sym (b .before .before .before .pre .1)))) (c .answered2 .ensures)
+
+pub keep-spec : {M : Type 1} → statement M
+keep-spec =
+    tie.close
+    (tie.spec
+    cast-at
+    array-write-kept
+    add-if1
+    report-of-requires
+    no-bytes-requires
+    answered-requires
+    returns
+    add-t16
+    answered-requires-2
+    returns-2)

@@ -1,0 +1,56 @@
+-- `word`: a byte as it entered, a break, a silence, or none of these.
+use borrow.Author.Needs.{needs}
+use borrow.Author.Tests.{le-leb, lt-leb, ne-eqb}
+use Rattle.reader.specs.Rules.{breakOf, silenceOf, wordOf}
+use Rattle.reader.proofs.Reader.word.Statement.{statement}
+use Rattle.reader.proofs.Reader.word.Tie as tie
+
+cast-entered : tie.Need-cast-entered
+cast-entered c = search needs
+
+entered-requires : tie.Need-entered-requires
+entered-requires c κs = search needs
+
+byte-requires : tie.Need-byte-requires
+byte-requires c κs = search needs
+
+returns : tie.Need-returns
+unfolding wordOf
+returns c = simp (le-leb _ _ (c .before .before .if1 .taken)) (rw (c .before .entered .ensures) at (c .byte .ensures))
+
+pause-requires : tie.Need-pause-requires
+pause-requires c κs = search needs
+
+pause-requires-2 : tie.Need-pause-requires-2
+pause-requires-2 c κs = search needs
+
+refusing-requires : tie.Need-refusing-requires
+refusing-requires c κs = search needs
+
+returns-2 : tie.Need-returns-2
+unfolding wordOf breakOf
+returns-2 c = rw (c .before .match .keys1) (rw (c .before .before .before .pre .2) at (c .pause .ensures))
+
+returns-3 : tie.Need-returns-3
+unfolding wordOf silenceOf
+returns-3 c = rw (c .before .match .keys2) (c .pause2 .ensures)
+
+returns-4 : tie.Need-returns-4
+unfolding wordOf
+returns-4 c = let n = c .before .match .rest in
+    simp (lt-leb _ _ (c .before .before .if1 .left), ne-eqb _ _ (n .0 .1), ne-eqb _ _ (n .1)) (c .refusing .ensures)
+
+pub word-spec : {M : Type 1} → statement M
+word-spec =
+    tie.close
+    (tie.spec
+    cast-entered
+    entered-requires
+    byte-requires
+    returns
+    pause-requires
+    pause-requires-2
+    refusing-requires
+    returns-2
+    returns-3
+    returns-4)

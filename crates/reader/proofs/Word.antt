@@ -1,0 +1,93 @@
+-- One word: the format stays, the bytes kept stay below the size, and none is lost from the count.
+use Prim.Native.Nat.{ℕ, _+_, _*_, _<_}
+use mathlib.Core.Path.{_≡_, refl, sym}
+use mathlib.Core.Bool.{Bool, true, false}
+use native.Mathlib.Omega.{arith}
+use lib.Dec.{eqb}
+use borrow.Author.Tests.{eqb-true, eqb-false}
+use Rattle.wire.specs.Line.{isByte, break, silence, sizeBy}
+use Rattle.reader.specs.Rules.{entered, refusing, dropping, alone, fitting, finishes, starting, keep, start, lose, byteOf, breakOf, silenceOf, wordOf}
+use Rattle.reader.specs.Counts.{byteIn, reportsIn, droppedIn}
+use Rattle.reader.specs.declared.Reader.{Reader}
+use Rattle.reader.specs.declared.Read.{Read}
+use Rattle.reader.specs.declared.Answer.{Answer}
+use Rattle.reader.specs.declared.Answer.the-variants.{Nothing, Dropped}
+use Rattle.reader.proofs.Choices.{either}
+use Rattle.reader.proofs.Letters.{at-least-three}
+
+-- a byte goes by one of the four rules
+pub by-rules : (P : Read → Type 0) (r : Reader) (b : ℕ)
+    → (r .awaiting ≡ true → P (alone r))
+    → (r .awaiting ≡ false → fitting r b ≡ true → P (keep r b))
+    → (r .awaiting ≡ false → fitting r b ≡ false → starting r b ≡ true → P (start r b))
+    → (r .awaiting ≡ false → fitting r b ≡ false → starting r b ≡ false → P (lose r))
+    → P (byteOf r b)
+unfolding byteOf
+by-rules P r b waits keeps starts loses =
+    either P (r .awaiting) _ _ waits
+    (λ w. either P (fitting r b) _ _ (keeps w)
+    (λ f. either P (starting r b) _ _ (starts w f) (loses w f)))
+
+-- and a word is a byte, a break, a silence or refused
+pub by-kind : (P : Read → Type 0) (r : Reader) (w : ℕ)
+    → (isByte w ≡ true → P (byteOf r (entered (r .format) w)))
+    → (isByte w ≡ false → w ≡ break → P (breakOf r))
+    → (isByte w ≡ false → w ≡ silence → P (silenceOf r))
+    → (isByte w ≡ false → P (refusing 4 r))
+    → P (wordOf r w)
+unfolding wordOf
+by-kind P r w byte broken quiet bad =
+    either P (isByte w) _ _ byte
+    (λ n. either P (eqb w break) _ _ (λ e. broken n (eqb-true w break e))
+    (λ _. either P (eqb w silence) _ _ (λ e. quiet n (eqb-true w silence e)) (λ _. bad n)))
+
+-- the format stays
+abbrev Same : Reader → Read → Type 0
+Same r s = s .next .format ≡ r .format
+
+pub word-format : (r : Reader) (w : ℕ) → wordOf r w .next .format ≡ r .format
+unfolding keep start lose breakOf silenceOf
+word-format r w =
+    by-kind (Same r) r w
+    (λ _. by-rules (Same r) r (entered (r .format) w) (λ _. refl) (λ _ _. either (Same r) (finishes r) _ _ (λ _. refl) (λ _. refl)) (λ _ _ _. refl) (λ _ _ _. refl))
+    (λ _ _. refl) (λ _ _. refl) (λ _. refl)
+
+-- the bytes kept stay below a size that is above them
+abbrev Below : ℕ → Read → Type 0
+Below size s = s .next .count < size
+
+pub word-below : (r : Reader) (w : ℕ) → r .count < sizeBy (r .format) → wordOf r w .next .count < sizeBy (r .format)
+unfolding keep start lose breakOf silenceOf
+word-below r w h =
+    by-kind (Below (sizeBy (r .format))) r w
+    (λ _. by-rules (Below (sizeBy (r .format))) r (entered (r .format) w) (λ _. h)
+    (λ _ _. either (Below (sizeBy (r .format))) (finishes r) _ _ (λ _. omega arith) (λ e. omega (arith, eqb-false (r .count + 1) (sizeBy (r .format)) e)))
+    (λ _ _ _. omega (arith, at-least-three (r .format) (r .count) h))
+    (λ _ _ _. omega arith))
+    (λ _ _. omega arith) (λ _ _. omega arith) (λ _. h)
+
+-- a word's bytes, with those kept before, are those in its report, dropped and kept after
+abbrev Kept : Reader → ℕ → Read → Type 0
+Kept r n s = s .refusal ≡ 0 → n + r .count ≡ sizeBy (r .format) * reportsIn (s .answer) + droppedIn (s .answer) + s .next .count
+
+dropping-is : (size k : ℕ) → size * reportsIn (dropping k) + droppedIn (dropping k) ≡ k
+unfolding dropping
+dropping-is size k =
+    either (λ a. size * reportsIn a + droppedIn a ≡ k) (eqb k 0) Nothing (Dropped k) (λ e. omega (arith, eqb-true k 0 e)) (λ e. omega arith)
+
+byte-kept : (r : Reader) (b : ℕ) → Kept r 1 (byteOf r b)
+unfolding keep start lose
+byte-kept r b =
+    by-rules (Kept r 1) r b (λ _ _. omega arith)
+    (λ _ _. either (Kept r 1) (finishes r) _ _ (λ e _. omega (arith, eqb-true (r .count + 1) (sizeBy (r .format)) e)) (λ _ _. omega arith))
+    (λ _ _ _ _. omega (arith, dropping-is (sizeBy (r .format)) (r .count)))
+    (λ _ _ _ _. omega arith)
+
+pub word-kept : (r : Reader) (w : ℕ) → Kept r (byteIn w) (wordOf r w)
+unfolding breakOf silenceOf
+word-kept r w =
+    by-kind (Kept r (byteIn w)) r w
+    (λ e. rw e (byte-kept r (entered (r .format) w)))
+    (λ e _ _. rw e (omega (arith, dropping-is (sizeBy (r .format)) (r .count))))
+    (λ e _ _. rw e (omega (arith, dropping-is (sizeBy (r .format)) (r .count))))
+    (λ _ e. absurd (eqb-false 4 0 refl e))

@@ -1,0 +1,26 @@
+-- What is counted: bytes in, bytes in reports, bytes dropped. "256 and 257 are never counted as bytes."
+use Prim.Native.Nat.{ℕ, _+_}
+use mathlib.Core.Bool.{cond}
+use mathlib.Core.List.{List, [], _∷_}
+use Rattle.wire.specs.Line.{isByte}
+use Rattle.reader.specs.declared.Answer.{Answer}
+use Rattle.reader.specs.declared.Answer.the-variants.{Nothing, Report, Dropped}
+
+-- the bytes among words
+abbrev pub byteIn : ℕ → ℕ
+byteIn w = cond (isByte w) 1 0
+
+unfoldable pub bytesIn : List ℕ → ℕ
+bytesIn [] = 0
+bytesIn (w ∷ words) = byteIn w + bytesIn words
+
+-- the reports and the dropped bytes of an answer
+abbrev pub reportsIn : Answer → ℕ
+reportsIn Nothing = 0
+reportsIn (Report p) = 1
+reportsIn (Dropped k) = 0
+
+abbrev pub droppedIn : Answer → ℕ
+droppedIn Nothing = 0
+droppedIn (Report p) = 0
+droppedIn (Dropped k) = k

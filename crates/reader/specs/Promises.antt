@@ -1,0 +1,50 @@
+-- What is promised of `Reader::fresh`, `Reader::step` and `Reader::read`. "Tested in that order, where they apply; 0 is success."
+use Prim.Native.Nat.{ℕ}
+use mathlib.Core.Path.{_≡_}
+use mathlib.Core.Bool.{cond}
+use mathlib.Core.List.{List}
+use lib.IntN.{ℤ}
+use Rattle.wire.specs.Line.{letterOf}
+use Rattle.wire.specs.Numbers.{success, badState, badLetter}
+use Rattle.wire.specs.declared.Format.the-variants.{FiveByte}
+use Rattle.reader.specs.State.{fresh, numbersOf}
+use Rattle.reader.specs.Good.{known, good}
+use Rattle.reader.specs.Rules.{refusing, wordOf}
+use Rattle.reader.specs.Line.{Long, whole, stopped, lineOf}
+use Rattle.reader.specs.declared.Reader.{Reader}
+use Rattle.reader.specs.declared.NewReader.{NewReader}
+use Rattle.reader.specs.declared.Read.{Read}
+use Rattle.reader.specs.declared.Reading.{Reading}
+
+-- "a format letter not in the table", 1; "(1 for a new reader: a fresh one of U)"
+abbrev pub newReader : ℕ → Reader → NewReader
+newReader n r = record { refusal = n; reader = r }
+
+unfoldable pub freshOf : ℕ → NewReader
+freshOf letter = cond (known letter) (newReader success (fresh letter)) (newReader badLetter (fresh (letterOf FiveByte)))
+
+abbrev pub FreshPromise : ℕ → NewReader → Type 0
+FreshPromise letter answer = answer ≡ freshOf letter
+
+-- "a state that breaks the rules below", 6, before "a line word above 257", 4
+unfoldable pub stepOf : Reader → ℕ → Read
+stepOf r w = cond (good r) (wordOf r w) (refusing badState r)
+
+-- what a step leaves behind: the number given back, the reader, and the numbers of the answer
+pub record Step : Type 0 where
+  pub refusal : ℕ
+  pub next : Reader
+  pub numbers : List ℤ
+
+abbrev pub outcome : Read → Step
+outcome s = record { refusal = s .refusal; next = s .next; numbers = numbersOf (s .answer) }
+
+abbrev pub StepPromise : Reader → ℕ → Read → Type 0
+StepPromise r w answer = outcome answer ≡ outcome (stepOf r w)
+
+-- a long read: 6 before all, and then the line
+unfoldable pub readOf : Reader → List ℕ → List ℤ → Long
+readOf r words out = cond (good r) (lineOf r words out) (stopped badState r out)
+
+abbrev pub ReadPromise : Reader → List ℕ → List ℤ → Reading → List ℤ → Type 0
+ReadPromise r words before answer after = whole answer after ≡ readOf r words before

@@ -1,0 +1,32 @@
+// The rules of a good reader.
+ghost use mathlib.Core.Path.{_≡_};
+ghost use Rattle.wire.specs.Line.{sizeBy, markedBy};
+ghost use Rattle.reader.specs.Good.{placed, good};
+use crate::Reader;
+
+impl Reader {
+    // Whether a place holds what it may: a byte that is valid there, or 0 where none is kept.
+    fn holds(self, place: u8, byte: u8) -> bool
+        ensures { λ r. ⌜ r ≡ placed self place byte ⌝ }
+    {
+        if place < self.count {
+            return wire::fits(self.format, place, byte);
+        }
+        byte == 0
+    }
+
+    // Whether the reader is good, with the size and the mark of its format.
+    pub(crate) fn good(self, size: usize, marked: bool) -> bool
+        requires { ⌜ (size ≡ sizeBy (self .format)) × (marked ≡ markedBy (self .format)) ⌝ }
+        ensures { λ r. ⌜ r ≡ good self ⌝ }
+    {
+        let k = self.kept;
+        let below = (self.count as usize) < size;
+        let placed = self.holds(0, k[0])
+            & self.holds(1, k[1])
+            & self.holds(2, k[2])
+            & self.holds(3, k[3])
+            & self.holds(4, k[4]);
+        below & placed & (!self.awaiting | (!marked & (self.count == 0)))
+    }
+}
