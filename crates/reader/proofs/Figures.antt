@@ -1,28 +1,50 @@
--- trial
-use mathlib.Core.Path.{_≡_, refl}
+-- The paper's figures of reading, on the promises: p3 and p7, read; p11; p12.
+use Prim.Native.Nat.{ℕ}
+use mathlib.Core.Path.{_≡_, refl, _∙_, ap}
 use mathlib.Core.Bool.{true, false}
-use mathlib.Core.List.{[], _∷_}
-use lib.IntN.{pos}
+use mathlib.Core.List.{List, [], _∷_}
 use lib.Count.{ones, onesIn}
-use Rattle.wire.specs.Line.{namedBy, sizeBy, markedBy}
-use Rattle.wire.specs.Fits.{fitsBy, fitsAt, fitsFirst, fitsLater, like}
-use Rattle.wire.specs.Reading.{reportBy, readS}
+use lib.IntN.{pos}
 use Rattle.numbers.specs.Bits.{bit, bits, number}
-use Rattle.numbers.specs.Signed.{signed, untwos}
-use Rattle.reader.specs.State.{noBytes, ready, fresh}
-use Rattle.reader.specs.Good.{good, known, placed}
-use Rattle.reader.specs.Rules.{entered, dropping, keep, start, lose, byteOf, breakOf, silenceOf, wordOf}
-use Rattle.reader.specs.Line.{lineOf, whole}
-use Rattle.reader.specs.Promises.{readOf}
+use Rattle.numbers.specs.Signed.{signed, untwos, minus}
+use Rattle.wire.specs.Line.{namedBy, sizeBy, markedBy}
+use Rattle.wire.specs.Fits.{like, fitsFirst, fitsLater, fitsAt, fitsBy}
+use Rattle.wire.specs.Reading.{report, readS, readW, undigit, reportBy}
+use Rattle.reader.specs.State.{fresh, ready}
+use Rattle.reader.specs.Good.{known, placed, good}
+use Rattle.reader.specs.Rules.{entered, answered, dropping, keep, start, lose, byteOf, wordOf}
+use Rattle.reader.specs.Promises.{FreshPromise, StepPromise, freshOf, stepOf}
+use Rattle.reader.specs.Runs.{stepsOf, StepsPromise, answers}
+use Rattle.reader.specs.declared.NewReader.{NewReader}
+use Rattle.reader.specs.declared.Read.{Read}
+use Rattle.reader.specs.declared.Answer.{Answer}
+use Rattle.reader.specs.declared.Answer.the-variants.{Nothing, Report, Dropped}
+use Rattle.reader.proofs.Permitted.{step-is, steps-are}
 
-t : readOf (fresh 85) (0x85 ∷ 0 ∷ []) [] ≡ whole (record { refusal = 0; next = fresh 85; taken = 2; reports = 0; dropped = 2 }) []
-unfolding readOf lineOf wordOf byteOf keep start lose breakOf silenceOf dropping entered good known placed namedBy sizeBy markedBy fitsBy fitsAt fitsFirst fitsLater like reportBy readS bit bits number signed ones onesIn
-t = refl
+-- p3: W 36 33 45 35 32: L and M, -29, 37
+pub p3-read : (steps : List Read) → StepsPromise (ready 0x57) (0x36 ∷ 0x33 ∷ 0x45 ∷ 0x35 ∷ 0x32 ∷ []) steps
+    → answers steps ≡ Nothing ∷ Nothing ∷ Nothing ∷ Nothing ∷ Report (report 6 (minus 29) (pos 37)) ∷ []
+unfolding stepsOf stepOf good known placed wordOf byteOf keep entered namedBy sizeBy markedBy fitsBy fitsAt fitsFirst fitsLater reportBy readW undigit untwos number bits bit
+p3-read steps e = rw (steps-are _ _ steps e)
 
-t2 : readOf (fresh 83) (0x94 ∷ 5 ∷ 0x98 ∷ 0 ∷ 0 ∷ []) (pos 9 ∷ pos 9 ∷ pos 9 ∷ pos 9 ∷ pos 9 ∷ pos 9 ∷ []) ≡ whole (record { refusal = 0; next = fresh 83; taken = 5; reports = 1; dropped = 2 }) (pos 0 ∷ pos 0 ∷ pos 0 ∷ pos 0 ∷ pos 0 ∷ pos 9 ∷ [])
-unfolding readOf lineOf wordOf byteOf keep start lose breakOf silenceOf dropping entered good known placed namedBy sizeBy markedBy fitsBy fitsAt fitsFirst fitsLater like reportBy readS bit bits number signed ones onesIn
-t2 = refl
+-- p7: S 98 00 00 is the zero report; 80 00 00 reads the same
+pub p7-read : (steps : List Read) → StepsPromise (ready 0x53) (0x98 ∷ 0x00 ∷ 0x00 ∷ []) steps
+    → answers steps ≡ Nothing ∷ Nothing ∷ Report (report 0 (pos 0) (pos 0)) ∷ []
+unfolding stepsOf stepOf good known placed wordOf byteOf keep entered namedBy sizeBy markedBy fitsBy fitsAt fitsFirst fitsLater like reportBy readS signed number bits bit
+p7-read steps e = rw (steps-are _ _ steps e)
 
-t3 : readOf (fresh 66) (0x40 ∷ []) [] ≡ whole (record { refusal = 0; next = fresh 66; taken = 1; reports = 0; dropped = 1 }) []
-unfolding readOf lineOf wordOf byteOf keep start lose breakOf silenceOf dropping entered good known placed namedBy sizeBy markedBy fitsBy fitsAt fitsFirst fitsLater like reportBy readS bit bits number signed ones onesIn
-t3 = refl
+pub p7-read-minus : (steps : List Read) → StepsPromise (ready 0x53) (0x80 ∷ 0x00 ∷ 0x00 ∷ []) steps
+    → answers steps ≡ Nothing ∷ Nothing ∷ Report (report 0 (pos 0) (pos 0)) ∷ []
+unfolding stepsOf stepOf good known placed wordOf byteOf keep entered namedBy sizeBy markedBy fitsBy fitsAt fitsFirst fitsLater like reportBy readS signed number bits bit
+p7-read-minus steps e = rw (steps-are _ _ steps e)
+
+-- p11: B byte 40: dropped, odd ones
+pub p11 : (s : Read) → StepPromise (fresh 0x42) 0x40 s → s ≡ answered (fresh 0x42) (Dropped 1)
+unfolding stepOf good known placed wordOf byteOf keep lose entered namedBy sizeBy markedBy fitsBy fitsAt fitsFirst fitsLater like bit ones onesIn
+p11 s e = step-is (fresh 0x42) 0x40 s e
+
+-- p12: fresh U reader, 85 00: each dropped alone
+pub p12 : (a : NewReader) (steps : List Read) → FreshPromise 0x55 a → StepsPromise (a .reader) (0x85 ∷ 0x00 ∷ []) steps
+    → answers steps ≡ Dropped 1 ∷ Dropped 1 ∷ []
+unfolding freshOf stepsOf stepOf good known placed wordOf byteOf entered namedBy sizeBy markedBy
+p12 a steps e h = rw (steps-are (a .reader) (0x85 ∷ 0x00 ∷ []) steps h, e)

@@ -1,10 +1,10 @@
 -- Letters: the size of a known one is 3 to 5, and of any other 0.
 use Prim.Native.Nat.{ℕ, _<_, _≤_}
-use mathlib.Core.Path.{_≡_, refl, sym}
+use mathlib.Core.Path.{_≡_, refl, sym, _∙_}
 use mathlib.Core.Bool.{Bool, true, false, not, _&&_}
 use native.Mathlib.Omega.{arith}
 use lib.Dec.{eqb, ltb}
-use borrow.Author.Tests.{le-ltb}
+use borrow.Author.Tests.{le-ltb, eqb-false, not-true}
 use Rattle.wire.specs.Line.{namedBy, ofNamed, sizeOf, sizeBy}
 use Rattle.wire.specs.declared.Format.{Format}
 use Rattle.wire.specs.declared.Format.the-variants.{Mm, Microsoft, Absolute, Relative, FiveByte, ThreeByte, Hexadecimal}
@@ -51,6 +51,9 @@ known-sized letter = go (namedBy letter)
     go : (n : Named) → ofNamed false (λ f. true) n ≡ not (eqb (ofNamed 0 sizeOf n) 0)
     go (Known f) = rw (size-some f)
     go Unknown = refl
+
+pub size-positive : (letter : ℕ) → known letter ≡ true → 0 < sizeBy letter
+size-positive letter k = let e = eqb-false (sizeBy letter) 0 (not-true _ (sym (known-sized letter) ∙ k)) in omega arith
 
 -- so that what is below the size is below the size of a known format
 pub known-below : (letter n : ℕ) → known letter && ltb n (sizeBy letter) ≡ ltb n (sizeBy letter)

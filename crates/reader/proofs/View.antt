@@ -13,7 +13,7 @@ use Rattle.wire.specs.Line.{sizeBy}
 use Rattle.reader.specs.State.{fiveOf}
 use Rattle.reader.specs.Rules.{wordOf}
 use Rattle.reader.specs.Line.{Long, stopped, joined, noRoom, lineOf}
-use Rattle.reader.specs.Counts.{byteIn}
+use Rattle.reader.specs.Counts.{byteIn, reportsIn}
 use Rattle.reader.specs.declared.Reader.{Reader}
 use Rattle.reader.specs.declared.Answer.{Answer}
 use Rattle.reader.specs.declared.Answer.the-variants.{Nothing, Report, Dropped}
@@ -29,6 +29,7 @@ pub record Takes (r : Reader) (w : ℕ) (out : List ℤ) : Type 0 where
   pub n : ℕ
   pub d : ℕ
   pub front : List ℤ
+  pub reports : n ≡ reportsIn (wordOf r w .answer)
   pub sized : length front ≡ 5 * n
   pub room : 5 * n ≤ length out
   pub kept : byteIn w + r .count ≡ sizeBy (r .format) * n + d + wordOf r w .next .count
@@ -41,9 +42,9 @@ view r w out = go (eqb (wordOf r w .refusal) 0) refl (wordOf r w .answer) refl (
     go : (t : Bool) → eqb (wordOf r w .refusal) 0 ≡ t → (a : Answer) → wordOf r w .answer ≡ a → (u : Bool) → noRoom out ≡ u → Stops r w out ⊎ Takes r w out
     go false e a ea u eu = inl (record { n = wordOf r w .refusal; is = λ ws. rw e })
     go true e Nothing ea u eu =
-        inr (record { n = 0; d = 0; front = []; sized = refl; room = omega arith; kept = rw ea at (word-kept r w (eqb-true _ _ e)); is = λ ws. rw (e, ea) })
+        inr (record { n = 0; d = 0; front = []; reports = rw ea; sized = refl; room = omega arith; kept = rw ea at (word-kept r w (eqb-true _ _ e)); is = λ ws. rw (e, ea) })
     go true e (Dropped k) ea u eu =
-        inr (record { n = 0; d = k; front = []; sized = refl; room = omega arith; kept = rw ea at (word-kept r w (eqb-true _ _ e)); is = λ ws. rw (e, ea) })
+        inr (record { n = 0; d = k; front = []; reports = rw ea; sized = refl; room = omega arith; kept = rw ea at (word-kept r w (eqb-true _ _ e)); is = λ ws. rw (e, ea) })
     go true e (Report p) ea true eu = inl (record { n = 0; is = λ ws. rw (e, ea, eu) })
     go true e (Report p) ea false eu =
-        inr (record { n = 1; d = 0; front = fiveOf p; sized = refl; room = ltb-false _ _ eu; kept = rw ea at (word-kept r w (eqb-true _ _ e)); is = λ ws. rw (e, ea, eu) })
+        inr (record { n = 1; d = 0; front = fiveOf p; reports = rw ea; sized = refl; room = ltb-false _ _ eu; kept = rw ea at (word-kept r w (eqb-true _ _ e)); is = λ ws. rw (e, ea, eu) })

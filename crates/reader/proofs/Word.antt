@@ -4,7 +4,7 @@ use mathlib.Core.Path.{_≡_, refl, sym}
 use mathlib.Core.Bool.{Bool, true, false}
 use native.Mathlib.Omega.{arith}
 use lib.Dec.{eqb}
-use borrow.Author.Tests.{eqb-true, eqb-false}
+use borrow.Author.Tests.{eqb-true, eqb-false, leb-false}
 use Rattle.wire.specs.Line.{isByte, break, silence, sizeBy}
 use Rattle.reader.specs.Rules.{entered, refusing, dropping, alone, fitting, finishes, starting, keep, start, lose, byteOf, breakOf, silenceOf, wordOf}
 use Rattle.reader.specs.Counts.{byteIn, reportsIn, droppedIn}
@@ -33,13 +33,14 @@ pub by-kind : (P : Read → Type 0) (r : Reader) (w : ℕ)
     → (isByte w ≡ true → P (byteOf r (entered (r .format) w)))
     → (isByte w ≡ false → w ≡ break → P (breakOf r))
     → (isByte w ≡ false → w ≡ silence → P (silenceOf r))
-    → (isByte w ≡ false → P (refusing 4 r))
+    → (silence < w → P (refusing 4 r))
     → P (wordOf r w)
 unfolding wordOf
 by-kind P r w byte broken quiet bad =
     either P (isByte w) _ _ byte
     (λ n. either P (eqb w break) _ _ (λ e. broken n (eqb-true w break e))
-    (λ _. either P (eqb w silence) _ _ (λ e. quiet n (eqb-true w silence e)) (λ _. bad n)))
+    (λ b. either P (eqb w silence) _ _ (λ e. quiet n (eqb-true w silence e))
+    (λ s. bad (omega (arith, leb-false w 255 n, eqb-false w break b, eqb-false w silence s)))))
 
 -- the format stays
 abbrev Same : Reader → Read → Type 0
@@ -67,10 +68,10 @@ word-below r w h =
     (λ _ _. omega arith) (λ _ _. omega arith) (λ _. h)
 
 -- a word's bytes, with those kept before, are those in its report, dropped and kept after
-abbrev Kept : Reader → ℕ → Read → Type 0
+abbrev pub Kept : Reader → ℕ → Read → Type 0
 Kept r n s = s .refusal ≡ 0 → n + r .count ≡ sizeBy (r .format) * reportsIn (s .answer) + droppedIn (s .answer) + s .next .count
 
-dropping-is : (size k : ℕ) → size * reportsIn (dropping k) + droppedIn (dropping k) ≡ k
+pub dropping-is : (size k : ℕ) → size * reportsIn (dropping k) + droppedIn (dropping k) ≡ k
 unfolding dropping
 dropping-is size k =
     either (λ a. size * reportsIn a + droppedIn a ≡ k) (eqb k 0) Nothing (Dropped k) (λ e. omega (arith, eqb-true k 0 e)) (λ e. omega arith)

@@ -2,7 +2,9 @@
 use Prim.Native.Nat.{ℕ, _+_}
 use mathlib.Core.Bool.{cond}
 use mathlib.Core.List.{List, [], _∷_}
+use lib.IntN.{ℤ}
 use Rattle.wire.specs.Line.{isByte}
+use Rattle.reader.specs.State.{fiveOf}
 use Rattle.reader.specs.declared.Answer.{Answer}
 use Rattle.reader.specs.declared.Answer.the-variants.{Nothing, Report, Dropped}
 
@@ -20,7 +22,17 @@ reportsIn Nothing = 0
 reportsIn (Report p) = 1
 reportsIn (Dropped k) = 0
 
+unfoldable pub reportsAmong : List Answer → ℕ
+reportsAmong [] = 0
+reportsAmong (a ∷ answers) = reportsIn a + reportsAmong answers
+
 abbrev pub droppedIn : Answer → ℕ
 droppedIn Nothing = 0
 droppedIn (Report p) = 0
 droppedIn (Dropped k) = k
+
+-- and the numbers that it writes
+abbrev pub writtenIn : Answer → List ℤ
+writtenIn Nothing = []
+writtenIn (Report p) = fiveOf p
+writtenIn (Dropped k) = []

@@ -1,7 +1,9 @@
--- The reader, heading by heading of the paper: "The reader" (State, Rules, Line, Counts) and "Numbers given back" (Good, Promises).
+-- The reader, heading by heading of the paper: "The reader" (State, Rules, Line), "Numbers given back" (Good, Promises), and what the laws count and
+-- run (Counts, Runs).
 pub mod State
 pub mod Good
 pub mod Rules
 pub mod Line
 pub mod Counts
 pub mod Promises
+pub mod Runs

@@ -1,0 +1,120 @@
+-- A fresh reader of U, T or W hands out nothing before the first silence, whatever the words.
+use Prim.Native.Nat.{ℕ, _+_, _*_}
+use mathlib.Core.Path.{_≡_, refl, sym, _∙_, ap}
+use mathlib.Core.Bool.{Bool, true, false, not, _||_}
+use mathlib.Core.Logic.{_⊎_, inl, inr}
+use mathlib.Core.List.{List, [], _∷_, map}
+use native.Mathlib.Omega.{arith}
+use lib.Dec.{eqb}
+use lib.ListN.{length, drop}
+use lib.IntN.{ℤ}
+use borrow.Author.Tests.{eqb-false}
+use Rattle.wire.specs.Line.{silence, markedBy}
+use Rattle.reader.specs.State.{fresh}
+use Rattle.reader.specs.Good.{known, good}
+use Rattle.reader.specs.Rules.{dropping, byteOf, breakOf, wordOf}
+use Rattle.reader.specs.Line.{Long, whole, lineOf}
+use Rattle.reader.specs.Counts.{reportsIn, reportsAmong}
+use Rattle.reader.specs.Promises.{FreshPromise, ReadPromise, newReader, freshOf}
+use Rattle.reader.specs.Runs.{stepsOf, StepsPromise, answers, hasSilence}
+use Rattle.reader.specs.declared.Reader.{Reader}
+use Rattle.reader.specs.declared.NewReader.{NewReader}
+use Rattle.reader.specs.declared.Read.{Read}
+use Rattle.reader.specs.declared.Reading.{Reading}
+use Rattle.reader.specs.declared.Answer.{Answer}
+use Rattle.reader.specs.declared.Answer.the-variants.{Nothing, Dropped}
+use Rattle.reader.proofs.Choices.{either, or-left, or-right}
+use Rattle.reader.proofs.Word.{by-kind, word-format}
+use Rattle.reader.proofs.Keeps.{word-good}
+use Rattle.reader.proofs.View.{Stops, Takes, view}
+use Rattle.reader.proofs.Permitted.{steps-are}
+use Rattle.reader.proofs.Goodness.{step-word, read-line, fresh-is-good}
+
+-- an awaiting reader of an unmarked format
+record Waits (r : Reader) : Type 0 where
+  is-good : good r ≡ true
+  unmarked : markedBy (r .format) ≡ false
+  awaiting : r .awaiting ≡ true
+
+-- no word but a silence makes it hand out a report or end its waiting
+record Waited (s : Read) : Type 0 where
+  none : reportsIn (s .answer) ≡ 0
+  still : s .next .awaiting ≡ true
+
+dropping-reports : (k : ℕ) → reportsIn (dropping k) ≡ 0
+unfolding dropping
+dropping-reports k = either (λ (a : Answer). reportsIn a ≡ 0) (eqb k 0) Nothing (Dropped k) (λ _. refl) (λ _. refl)
+
+word-waits : (r : Reader) (w : ℕ) → Waits r → eqb w silence ≡ false → Waited (wordOf r w)
+unfolding byteOf breakOf
+word-waits r w h n =
+    by-kind Waited r w
+    (λ _. rw (h .awaiting) (record { none = refl; still = refl }))
+    (λ _ _. record { none = dropping-reports (r .count); still = rw (h .unmarked) })
+    (λ _ e. absurd (eqb-false w silence n e))
+    (λ _. record { none = refl; still = h .awaiting })
+
+next-waits : (r : Reader) (w : ℕ) → Waits r → eqb w silence ≡ false → Waits (wordOf r w .next)
+next-waits r w h n =
+    record { is-good = word-good r (h .is-good) w; unmarked = rw (word-format r w) (h .unmarked); awaiting = word-waits r w h n .still }
+
+-- over steps
+steps-wait : (words : List ℕ) (r : Reader) → Waits r → hasSilence words ≡ false → reportsAmong (answers (stepsOf r words)) ≡ 0
+unfolding stepsOf reportsAmong hasSilence
+steps-wait [] r h n = refl
+steps-wait (w ∷ words) r h n =
+    let quiet = or-left (eqb w silence) (hasSilence words) n in
+    let rest = steps-wait words (wordOf r w .next) (next-waits r w h quiet) (or-right (eqb w silence) (hasSilence words) n) in
+    rw (step-word r w (h .is-good)) (omega (arith, word-waits r w h quiet .none, rest))
+
+-- and over a line
+empty : (l : List ℤ) → length l ≡ 0 → l ≡ []
+empty [] e = refl
+empty (x ∷ l) e = absurd (omega arith)
+
+abbrev Nothing-out : List ℤ → Long → Type 0
+Nothing-out out l = (l .reading .reports ≡ 0) × (l .out ≡ out)
+
+line-waits : (words : List ℕ) (r : Reader) (out : List ℤ) → Waits r → hasSilence words ≡ false → Nothing-out out (lineOf r words out)
+unfolding lineOf hasSilence
+line-waits [] r out h n = (refl, refl)
+line-waits (w ∷ words) r out h n = go (line-waits words) (view r w out)
+  where
+    go : ((r : Reader) (out : List ℤ) → Waits r → hasSilence words ≡ false → Nothing-out out (lineOf r words out)) → Stops r w out ⊎ Takes r w out → Nothing-out out (lineOf r (w ∷ words) out)
+    go ih (inl s) = rw (s .is words) (refl, refl)
+    go ih (inr t) =
+        let quiet = or-left (eqb w silence) (hasSilence words) n in
+        let none : t .n ≡ 0 = t .reports ∙ word-waits r w h quiet .none in
+        let front : t .front ≡ [] = empty (t .front) (omega (arith, t .sized)) in
+        let rest = ih (wordOf r w .next) out (next-waits r w h quiet) (or-right (eqb w silence) (hasSilence words) n) in
+        rw (t .is words, front, none) (omega (arith, rest .0), rest .1)
+
+-- a fresh reader of an unmarked format waits
+fresh-waits : (letter : ℕ) (a : NewReader) → known letter ≡ true → markedBy letter ≡ false → FreshPromise letter a → Waits (a .reader)
+unfolding freshOf
+fresh-waits letter a k m e =
+    let i : a ≡ newReader 0 (fresh letter) = e ∙ rw k in
+    record { is-good = fresh-is-good letter a e; unmarked = rw i m; awaiting = rw (i, m) }
+
+pub nothing-before-silence : (letter : ℕ) (a : NewReader) (words : List ℕ) (steps : List Read)
+    → known letter ≡ true
+    → markedBy letter ≡ false
+    → FreshPromise letter a
+    → hasSilence words ≡ false
+    → StepsPromise (a .reader) words steps
+    → reportsAmong (answers steps) ≡ 0
+nothing-before-silence letter a words steps k m e n p =
+    rw (steps-are (a .reader) words steps p) (steps-wait words (a .reader) (fresh-waits letter a k m e) n)
+
+pub nothing-read-before-silence : (letter : ℕ) (a : NewReader) (words : List ℕ) (out : List ℤ) (b : Reading) (after : List ℤ)
+    → known letter ≡ true
+    → markedBy letter ≡ false
+    → FreshPromise letter a
+    → hasSilence words ≡ false
+    → ReadPromise (a .reader) words out b after
+    → (b .reports ≡ 0) × (after ≡ out)
+nothing-read-before-silence letter a words out b after k m e n p =
+    let waits = fresh-waits letter a k m e in
+    let i = p ∙ read-line (a .reader) words out (waits .is-good) in
+    let none = line-waits words (a .reader) out waits n in
+    (ap (λ (l : Long). l .reading .reports) i ∙ none .0, ap (λ (l : Long). l .out) i ∙ none .1)

@@ -1,0 +1,156 @@
+-- Back: for every good reader and every word that it answers by a report, the encoder accepts that report into any buffer that is long enough
+-- and writes the kept bytes and this word, a minus zero's sign bit set to 1 and nothing else changed.
+use Prim.Native.Nat.{ℕ, suc, _+_, _<_, _≤_}
+use mathlib.Core.Path.{_≡_, refl, sym, _∙_, ap}
+use mathlib.Core.Bool.{Bool, true, false}
+use mathlib.Core.List.{List, [], _∷_, _++_}
+use native.Mathlib.Numerals.{add-one}
+use native.Mathlib.Omega.{arith}
+use lib.ListN.{length, getD, take, drop, set, length-append, length-set}
+use lib.Seq.{take-suc-set, getD-take, getD-set-same, getD-set-other, length-take-le}
+use lib.Dec.{ltb, eqb, eqb·suc-zero}
+use borrow.Author.Tests.{lt-ltb, eqb-true, eqb-false, eq-eqb}
+use Rattle.numbers.proofs.Tested.{holds}
+use Rattle.wire.specs.Line.{namedBy, ofNamed, sizeOf, sizeBy}
+use Rattle.wire.specs.Fits.{fitsAt, fitsFirst, fitsLater, fitsBy, allLater, valid}
+use Rattle.wire.specs.Reading.{reportOf, reportBy}
+use Rattle.wire.specs.Numbers.{success}
+use Rattle.wire.specs.Encoder.{Encoding, EncodePromise, refusalOf, lengthOf, written, encodeIn}
+use Rattle.wire.specs.declared.Report.{Report}
+use Rattle.wire.specs.declared.Format.{Format}
+use Rattle.wire.specs.declared.Named.{Named}
+use Rattle.wire.specs.declared.Named.the-variants.{Known, Unknown}
+use Rattle.wire.specs.declared.Encoded.{Encoded}
+use Rattle.wire.proofs.Codec as codec
+use Rattle.reader.specs.State.{keptIn}
+use Rattle.reader.specs.Good.{known, placed, good}
+use Rattle.reader.specs.Rules.{entered, dropping, more, finishes, keep, start, lose, breakOf, silenceOf, wordOf}
+use Rattle.reader.specs.Promises.{StepPromise}
+use Rattle.reader.specs.Runs.{settledBy}
+use Rattle.reader.specs.declared.Reader.{Reader}
+use Rattle.reader.specs.declared.Read.{Read}
+use Rattle.reader.specs.declared.Answer.{Answer}
+use Rattle.reader.specs.declared.Answer.the-variants as answer
+use Rattle.reader.proofs.Choices.{either}
+use Rattle.reader.proofs.Letters.{at-most-five}
+use Rattle.reader.proofs.Good.{Parts, parts}
+use Rattle.reader.proofs.Word.{by-rules, by-kind}
+use Rattle.reader.proofs.Permitted.{step-is}
+use Rattle.reader.proofs.Goodness.{step-word}
+use Rattle.reader.proofs.Front.{same-front}
+use Rattle.reader.proofs.Encoded.{accepts}
+
+-- a word that is answered by a report is a byte that fits the last place
+record Finished (r : Reader) (w : ℕ) (p : Report) : Type 0 where
+  fit : fitsBy (r .format) (r .count) w ≡ true
+  last : r .count + 1 ≡ sizeBy (r .format)
+  is : p ≡ reportBy (r .format) (more r w)
+
+dropped-no-report : (k : ℕ) (p : Report) → dropping k ≡ answer.Report p → ⊥
+unfolding dropping
+dropped-no-report k p =
+    either (λ (a : Answer). a ≡ answer.Report p → ⊥) (eqb k 0) answer.Nothing (answer.Dropped k)
+    (λ _ e. let z : _≡_ {A = ℕ} 0 1 = cc in omega arith)
+    (λ _ e. let z : _≡_ {A = ℕ} 0 1 = cc in omega arith)
+
+abbrev Finishing : Reader → ℕ → Report → Read → Type 0
+Finishing r w p s = s .answer ≡ answer.Report p → Finished r w p
+
+finished : (r : Reader) (w : ℕ) (p : Report) → wordOf r w .answer ≡ answer.Report p → Finished r w p
+unfolding entered keep start lose breakOf silenceOf
+finished r w p =
+    by-kind (Finishing r w p) r w
+    (λ _. by-rules (Finishing r w p) r w
+    (λ _ e. let z : _≡_ {A = ℕ} 0 1 = cc in absurd (omega arith))
+    (λ _ fit. either (Finishing r w p) (finishes r) _ _
+    (λ last e. record { fit = fit; last = eqb-true (r .count + 1) (sizeBy (r .format)) last; is = cc })
+    (λ _ e. let z : _≡_ {A = ℕ} 0 1 = cc in absurd (omega arith)))
+    (λ _ _ _ e. absurd (dropped-no-report (r .count) p e))
+    (λ _ _ _ e. let z : _≡_ {A = ℕ} 0 1 = cc in absurd (omega arith)))
+    (λ _ _ e. absurd (dropped-no-report (r .count) p e))
+    (λ _ _ e. absurd (dropped-no-report (r .count) p e))
+    (λ _ e. let z : _≡_ {A = ℕ} 0 1 = cc in absurd (omega arith))
+
+-- bytes that fit, place by place, are valid
+later-valid : (f : Format) (bs : List ℕ) → ((i : ℕ) → i < length bs → fitsLater f (getD bs i 0) ≡ true) → allLater f bs ≡ true
+unfolding allLater
+later-valid f [] h = refl
+later-valid f (b ∷ bs) h = rw (h 0 (omega arith), later-valid f bs (λ i l. h (suc i) (omega arith)))
+
+fits-valid : (f : Format) (bs : List ℕ) → length bs ≡ sizeOf f → 0 < length bs → ((i : ℕ) → i < length bs → fitsAt f i (getD bs i 0) ≡ true) → valid f bs ≡ true
+unfolding valid fitsAt
+fits-valid f [] size some h = absurd (omega arith)
+fits-valid f (b ∷ bs) size some h =
+    rw (eq-eqb (length (b ∷ bs)) (sizeOf f) size, h 0 (omega arith), later-valid f bs (λ i l. rw (eqb·suc-zero i) at (h (suc i) (omega arith))))
+
+-- the kept bytes and the last one
+module _ (r : Reader) (w : ℕ) (p : Report) (f : Format) (g : good r ≡ true) (named : namedBy (r .format) ≡ Known f) (d : Finished r w p) where
+  abbrev has : Parts r
+  has = parts r g
+
+  abbrev bytes : List ℕ
+  bytes = keptIn r ++ w ∷ []
+
+  size-is : sizeBy (r .format) ≡ sizeOf f
+  unfolding sizeBy
+  size-is = rw named
+
+  room : r .count < length (r .kept)
+  room = omega (arith, has .below, has .five, at-most-five (r .format))
+
+  bytes-are : bytes ≡ take (suc (r .count)) (more r w)
+  bytes-are = sym (take-suc-set (r .kept) (r .count) w room)
+
+  bytes-at : (i : ℕ) → i < suc (r .count) → getD bytes i 0 ≡ getD (more r w) i 0
+  bytes-at i h = rw (bytes-are, getD-take (suc (r .count)) (more r w) i 0 h)
+
+  bytes-length : length bytes ≡ sizeOf f
+  bytes-length = rw (length-append (keptIn r) (w ∷ []), length-take-le (r .count) (r .kept) (omega (arith, room))) (d .last ∙ size-is)
+
+  more-fits : (i : ℕ) → i < suc (r .count) → fitsAt f i (getD (more r w) i 0) ≡ true
+  unfolding fitsBy placed
+  more-fits i h = go (eqb i (r .count)) refl
+    where
+      go : (t : Bool) → eqb i (r .count) ≡ t → fitsAt f i (getD (more r w) i 0) ≡ true
+      go true e = rw (eqb-true i (r .count) e, getD-set-same (r .kept) (r .count) w 0 room) (rw named at (d .fit))
+      go false e =
+          let ne = eqb-false i (r .count) e in
+          let at-i = has .places i (omega (arith, room, has .five)) in
+          rw (getD-set-other (r .kept) (r .count) i w 0 ne) (rw (lt-ltb i (r .count) (omega arith), named) at at-i)
+
+  bytes-valid : valid f bytes ≡ true
+  bytes-valid =
+      fits-valid f bytes bytes-length (omega (arith, bytes-length, size-is, d .last))
+      (λ i h. rw (bytes-at i (omega (arith, bytes-length, size-is, d .last))) (more-fits i (omega (arith, bytes-length, size-is, d .last))))
+
+  report-is : p ≡ reportOf f bytes
+  unfolding reportBy
+  report-is =
+      d .is
+      ∙ rw named (same-front f (more r w) bytes (λ i h. sym (bytes-at i (omega (arith, size-is, d .last)))))
+
+  encodes : (buffer : List ℕ) → sizeOf f ≤ length buffer → encodeIn (Known f) p buffer ≡ record { refusal = success; told = sizeOf f; buffer = settledBy (r .format) bytes ++ drop (sizeOf f) buffer }
+  unfolding settledBy
+  encodes buffer h =
+      rw report-is (accepts f (reportOf f bytes) buffer (codec.read-accepted f bytes bytes-valid) h ∙ rw (named, codec.back f bytes bytes-valid))
+
+pub back : (r : Reader) (w : ℕ) (s : Read) (p : Report) (before after : List ℕ) (e : Encoded)
+    → good r ≡ true
+    → StepPromise r w s
+    → s .answer ≡ answer.Report p
+    → sizeBy (r .format) ≤ length before
+    → EncodePromise (r .format) p before e after
+    → (refusalOf e ≡ success)
+    × (lengthOf e ≡ sizeBy (r .format))
+    × (after ≡ settledBy (r .format) (keptIn r ++ w ∷ []) ++ drop (sizeBy (r .format)) before)
+unfolding known
+back r w s p before after e g h a room n = go (namedBy (r .format)) refl
+  where
+    go : (m : Named) → namedBy (r .format) ≡ m → (refusalOf e ≡ success) × (lengthOf e ≡ sizeBy (r .format)) × (after ≡ settledBy (r .format) (keptIn r ++ w ∷ []) ++ drop (sizeBy (r .format)) before)
+    go Unknown q = absurd (holds (rw q at (parts r g .of-known)))
+    go (Known f) q =
+        let i = ap (λ (t : Read). t .answer) (step-is r w s h ∙ step-word r w g) in
+        let d = finished r w p (sym i ∙ a) in
+        let z = size-is r w p f g q d in
+        let out = (rw q at n) ∙ encodes r w p f g q d before (rw z at room) in
+        rw z (ap (λ (l : Encoding). l .refusal) out, ap (λ (l : Encoding). l .told) out, ap (λ (l : Encoding). l .buffer) out)

@@ -1,0 +1,95 @@
+-- "bytes in plus kept before equal bytes in reports plus dropped plus kept after"
+use Prim.Native.Nat.{ℕ, _+_, _*_, _<_}
+use mathlib.Core.Path.{_≡_, refl, sym, _∙_, ap, subst}
+use mathlib.Core.Bool.{true}
+use mathlib.Core.Logic.{_⊎_, inl, inr}
+use mathlib.Core.List.{List, [], _∷_}
+use native.Mathlib.Numerals.{one-add}
+use native.Mathlib.Omega.{arith}
+use lib.ListN.{take, drop}
+use lib.Dec.{eqb}
+use lib.IntN.{ℤ}
+use borrow.Author.Tests.{eqb-false}
+use Rattle.wire.specs.Line.{break, silence, sizeBy}
+use Rattle.wire.specs.Numbers.{badState}
+use Rattle.reader.specs.Good.{good}
+use Rattle.reader.specs.Rules.{entered, refusing, dropping, finishes, keep, start, lose, breakOf, silenceOf, wordOf}
+use Rattle.reader.specs.Line.{Long, stopped, lineOf}
+use Rattle.reader.specs.Counts.{byteIn, bytesIn, reportsIn, droppedIn}
+use Rattle.reader.specs.Promises.{StepPromise, ReadPromise, stepOf, readOf}
+use Rattle.reader.specs.declared.Reader.{Reader}
+use Rattle.reader.specs.declared.Read.{Read}
+use Rattle.reader.specs.declared.Reading.{Reading}
+use Rattle.reader.specs.declared.Answer.{Answer}
+use Rattle.reader.specs.declared.Answer.the-variants.{Nothing, Report, Dropped}
+use Rattle.reader.proofs.Choices.{either}
+use Rattle.reader.proofs.Word.{by-rules, by-kind, Kept, dropping-is, word-kept, word-format}
+use Rattle.reader.proofs.View.{Stops, Takes, view}
+use Rattle.reader.proofs.Permitted.{step-is}
+use Rattle.reader.proofs.Goodness.{step-word}
+
+-- a step that is not refused
+pub step-counts : (r : Reader) (w : ℕ) (s : Read) → StepPromise r w s → s .refusal ≡ 0
+    → byteIn w + r .count ≡ sizeBy (r .format) * reportsIn (s .answer) + droppedIn (s .answer) + s .next .count
+unfolding stepOf
+step-counts r w s e =
+    rw (step-is r w s e)
+    (either (Kept r (byteIn w)) (good r) (wordOf r w) (refusing badState r) (λ _. word-kept r w) (λ _ z. absurd (eqb-false badState 0 refl z)))
+
+-- a line, over the words taken
+abbrev Counted : ℕ → Reader → List ℕ → Reading → Type 0
+Counted size r words a = bytesIn (take (a .taken) words) + r .count ≡ size * a .reports + a .dropped + a .next .count
+
+line-counts : (size : ℕ) (words : List ℕ) (r : Reader) (out : List ℤ) → sizeBy (r .format) ≡ size → Counted size r words (lineOf r words out .reading)
+unfolding lineOf bytesIn
+line-counts size [] r out z = omega arith
+line-counts size (w ∷ words) r out z = go (line-counts size words) (view r w out)
+  where
+    go : ((r : Reader) (out : List ℤ) → sizeBy (r .format) ≡ size → Counted size r words (lineOf r words out .reading)) → Stops r w out ⊎ Takes r w out → Counted size r (w ∷ words) (lineOf r (w ∷ words) out .reading)
+    go ih (inl s) = rw (s .is words) (omega arith)
+    go ih (inr t) =
+        let next = wordOf r w .next in
+        let rest = lineOf next words (drop (5 * t .n) out) in
+        let k = rw z at (t .kept) in
+        rw (t .is words, one-add (rest .reading .taken)) (omega (arith, k, ih next (drop (5 * t .n) out) (ap sizeBy (word-format r w) ∙ z)))
+
+-- a long read, also at a stop for room and at a bad word
+pub read-counts : (r : Reader) (words : List ℕ) (out : List ℤ) (a : Reading) (after : List ℤ) → ReadPromise r words out a after
+    → bytesIn (take (a .taken) words) + r .count ≡ sizeBy (r .format) * a .reports + a .dropped + a .next .count
+unfolding readOf bytesIn
+read-counts r words out a after e =
+    rw (ap (λ (l : Long). l .reading) e)
+    (either (λ (l : Long). Counted (sizeBy (r .format)) r words (l .reading)) (good r) (lineOf r words out) (stopped badState r out)
+    (λ _. line-counts (sizeBy (r .format)) words r out refl) (λ _. omega arith))
+
+-- "where none is dropped the answer is nothing": never "dropped 0"
+abbrev SomeDropped : Answer → Type 0
+SomeDropped Nothing = Unit
+SomeDropped (Report p) = Unit
+SomeDropped (Dropped k) = 0 < k
+
+abbrev Fine : Read → Type 0
+Fine s = SomeDropped (s .answer)
+
+dropping-some : (k : ℕ) → SomeDropped (dropping k)
+unfolding dropping
+dropping-some k = either SomeDropped (eqb k 0) Nothing (Dropped k) (λ _. tt) (λ e. let n = eqb-false k 0 e in omega arith)
+
+word-drops-some : (r : Reader) (w : ℕ) → Fine (wordOf r w)
+unfolding keep start lose breakOf silenceOf
+word-drops-some r w =
+    by-kind Fine r w
+    (λ _. by-rules Fine r (entered (r .format) w) (λ _. omega arith) (λ _ _. either Fine (finishes r) _ _ (λ _. tt) (λ _. tt)) (λ _ _ _. dropping-some (r .count)) (λ _ _ _. omega arith))
+    (λ _ _. dropping-some (r .count)) (λ _ _. dropping-some (r .count)) (λ _. tt)
+
+pub never-dropped-none : (r : Reader) (w : ℕ) (s : Read) → StepPromise r w s → s .answer ≡ Dropped 0 → ⊥
+unfolding stepOf
+never-dropped-none r w s e z =
+    let some = either Fine (good r) (wordOf r w) (refusing badState r) (λ _. word-drops-some r w) (λ _. tt) in
+    omega (arith, subst SomeDropped (sym (ap (λ (t : Read). t .answer) (step-is r w s e)) ∙ z) some)
+
+-- "256 and 257 are never counted as bytes": they drop the kept bytes and no more
+pub pause-counts-none : (r : Reader) (w : ℕ) (s : Read) → StepPromise r w s → good r ≡ true → (w ≡ break) ⊎ (w ≡ silence) → droppedIn (s .answer) ≡ r .count
+unfolding breakOf silenceOf wordOf
+pause-counts-none r w s e g (inl z) = rw (step-is r w s e ∙ step-word r w g, z) (omega (arith, dropping-is 0 (r .count)))
+pause-counts-none r w s e g (inr z) = rw (step-is r w s e ∙ step-word r w g, z) (omega (arith, dropping-is 0 (r .count)))

@@ -1,0 +1,61 @@
+-- No reader that we make is ever refused: a fresh one is good, and every step and read of a good one gives a good one of the same format.
+use Prim.Native.Nat.{ℕ, _*_}
+use mathlib.Core.Path.{_≡_, refl, sym, _∙_, ap}
+use mathlib.Core.Bool.{Bool, true, false, cond}
+use mathlib.Core.Logic.{_⊎_, inl, inr}
+use mathlib.Core.List.{List, [], _∷_}
+use lib.ListN.{drop}
+use lib.IntN.{ℤ}
+use Rattle.wire.specs.Line.{letterOf, namedBy}
+use Rattle.wire.specs.declared.Format.the-variants.{FiveByte}
+use Rattle.reader.specs.State.{fresh}
+use Rattle.reader.specs.Good.{known, good}
+use Rattle.reader.specs.Rules.{wordOf}
+use Rattle.reader.specs.Line.{Long, lineOf}
+use Rattle.reader.specs.Promises.{FreshPromise, StepPromise, ReadPromise, newReader, freshOf, stepOf, readOf}
+use Rattle.reader.specs.declared.Reader.{Reader}
+use Rattle.reader.specs.declared.NewReader.{NewReader}
+use Rattle.reader.specs.declared.Read.{Read}
+use Rattle.reader.specs.declared.Reading.{Reading}
+use Rattle.reader.proofs.Choices.{either}
+use Rattle.reader.proofs.Word.{word-format}
+use Rattle.reader.proofs.Keeps.{fresh-good, word-good}
+use Rattle.reader.proofs.View.{Stops, Takes, view}
+use Rattle.reader.proofs.Permitted.{step-is}
+
+-- to a good reader a step is the word
+pub step-word : (r : Reader) (w : ℕ) → good r ≡ true → stepOf r w ≡ wordOf r w
+unfolding stepOf
+step-word r w g = rw g
+
+-- and a read is the line
+pub read-line : (r : Reader) (words : List ℕ) (out : List ℤ) → good r ≡ true → readOf r words out ≡ lineOf r words out
+unfolding readOf
+read-line r words out g = rw g
+
+pub fresh-is-good : (letter : ℕ) (a : NewReader) → FreshPromise letter a → good (a .reader) ≡ true
+unfolding freshOf known namedBy
+fresh-is-good letter a e =
+    rw e
+    (either (λ (n : NewReader). good (n .reader) ≡ true) (known letter) (newReader 0 (fresh letter)) (newReader 1 (fresh (letterOf FiveByte)))
+    (fresh-good letter) (λ _. fresh-good (letterOf FiveByte) refl))
+
+pub step-stays-good : (r : Reader) (w : ℕ) (s : Read) → good r ≡ true → StepPromise r w s → (good (s .next) ≡ true) × (s .next .format ≡ r .format)
+step-stays-good r w s g e = let i = step-is r w s e ∙ step-word r w g in (rw i (word-good r g w), rw i (word-format r w))
+
+-- over a line
+abbrev Stays : Reader → Reader → Type 0
+Stays r next = (good next ≡ true) × (next .format ≡ r .format)
+
+pub line-stays-good : (words : List ℕ) (r : Reader) (out : List ℤ) → good r ≡ true → Stays r (lineOf r words out .reading .next)
+unfolding lineOf
+line-stays-good [] r out g = (g, refl)
+line-stays-good (w ∷ words) r out g = go (line-stays-good words) (view r w out)
+  where
+    go : ((r : Reader) (out : List ℤ) → good r ≡ true → Stays r (lineOf r words out .reading .next)) → Stops r w out ⊎ Takes r w out → Stays r (lineOf r (w ∷ words) out .reading .next)
+    go ih (inl s) = rw (s .is words) (g, refl)
+    go ih (inr t) = let h = ih (wordOf r w .next) (drop (5 * t .n) out) (word-good r g w) in rw (t .is words) (h .0, h .1 ∙ word-format r w)
+
+pub read-stays-good : (r : Reader) (words : List ℕ) (out : List ℤ) (a : Reading) (after : List ℤ) → good r ≡ true → ReadPromise r words out a after → (good (a .next) ≡ true) × (a .next .format ≡ r .format)
+read-stays-good r words out a after g e =
+    rw (ap (λ (l : Long). l .reading .next) (e ∙ read-line r words out g)) (line-stays-good words r out g)

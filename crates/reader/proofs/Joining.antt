@@ -1,0 +1,81 @@
+-- "The part of the line from any word on may be handed over, with the reader that came back and the unused part of the lent slice; if the
+-- words before it were all taken, the results join as one."
+use Prim.Native.Nat.{ℕ, _+_, _*_}
+use mathlib.Core.Path.{_≡_, refl, sym, _∙_, ap}
+use mathlib.Core.Bool.{Bool, true, false}
+use mathlib.Core.Logic.{_⊎_, inl, inr}
+use mathlib.Core.List.{List, [], _∷_, _++_}
+use native.Mathlib.Omega.{arith}
+use lib.ListN.{length, take, drop}
+use lib.Seq.{take-append-add, drop-append-add}
+use lib.IntN.{ℤ}
+use Rattle.reader.specs.Good.{good}
+use Rattle.reader.specs.Rules.{wordOf}
+use Rattle.reader.specs.Line.{Long, whole, stopped, joined, lineOf}
+use Rattle.reader.specs.Promises.{ReadPromise, readOf}
+use Rattle.reader.specs.declared.Reader.{Reader}
+use Rattle.reader.specs.declared.Reading.{Reading}
+use Rattle.reader.proofs.View.{Stops, Takes, view}
+use Rattle.reader.proofs.Joined.{joined-none, joined-joined}
+use Rattle.reader.proofs.Goodness.{read-line, line-stays-good}
+
+-- what was read, and then what is read of a part behind it
+abbrev thenLine : Long → List ℕ → Long
+thenLine l q =
+    joined (l .reading .taken) (l .reading .reports) (l .reading .dropped) (take (5 * l .reading .reports) (l .out))
+    (lineOf (l .reading .next) q (drop (5 * l .reading .reports) (l .out)))
+
+-- the numbers written by two, one after the other
+module _ (front rest : List ℤ) (n m : ℕ) (sized : length front ≡ 5 * n) where
+  at-seam : 5 * (n + m) ≡ length front + 5 * m
+  at-seam = omega arith
+
+  take-seam : take (5 * (n + m)) (front ++ rest) ≡ front ++ take (5 * m) rest
+  take-seam = rw (at-seam, take-append-add)
+
+  drop-seam : drop (5 * (n + m)) (front ++ rest) ≡ drop (5 * m) rest
+  drop-seam = rw (at-seam, drop-append-add)
+
+then-joined : (t n d : ℕ) (front : List ℤ) (l : Long) (q : List ℕ) → length front ≡ 5 * n → thenLine (joined t n d front l) q ≡ joined t n d front (thenLine l q)
+then-joined t n d front l q h =
+    rw (take-seam front (l .out) n (l .reading .reports) h, drop-seam front (l .out) n (l .reading .reports) h)
+    (sym (joined-joined t n d _ _ _ front _ _))
+
+join-line : (p q : List ℕ) (r : Reader) (out : List ℤ) → lineOf r p out .reading .taken ≡ length p → lineOf r (p ++ q) out ≡ thenLine (lineOf r p out) q
+unfolding lineOf
+join-line [] q r out h = sym (joined-none (lineOf r q out))
+join-line (w ∷ p) q r out h = go (join-line p q) (view r w out)
+  where
+    go : ((r : Reader) (out : List ℤ) → lineOf r p out .reading .taken ≡ length p → lineOf r (p ++ q) out ≡ thenLine (lineOf r p out) q) → Stops r w out ⊎ Takes r w out → lineOf r (w ∷ (p ++ q)) out ≡ thenLine (lineOf r (w ∷ p) out) q
+    go ih (inl s) = let z = rw (s .is p) at h in absurd (omega arith)
+    go ih (inr t) =
+        let z = rw (t .is p) at h in
+        let next = wordOf r w .next in
+        let e : lineOf next p (drop (5 * t .n) out) .reading .taken ≡ length p = omega arith in
+        t .is (p ++ q)
+        ∙ ap (joined 1 (t .n) (t .d) (t .front)) (ih next (drop (5 * t .n) out) e)
+        ∙ sym (then-joined 1 (t .n) (t .d) (t .front) (lineOf next p (drop (5 * t .n) out)) q (t .sized))
+        ∙ ap (λ (l : Long). thenLine l q) (sym (t .is p))
+
+-- the same of three reads: of p ++ q, of p, and of q with the reader that came back and the unused part of the slice
+join-read : (p q : List ℕ) (r : Reader) (out : List ℤ) (b : Long) → b ≡ readOf r p out → b .reading .taken ≡ length p
+    → readOf r (p ++ q) out ≡ joined (b .reading .taken) (b .reading .reports) (b .reading .dropped) (take (5 * b .reading .reports) (b .out)) (readOf (b .reading .next) q (drop (5 * b .reading .reports) (b .out)))
+unfolding readOf
+join-read p q r out b e t = go (good r) refl p q e t
+  where
+    go : (u : Bool) → good r ≡ u → (p q : List ℕ) → b ≡ readOf r p out → b .reading .taken ≡ length p
+        → readOf r (p ++ q) out ≡ joined (b .reading .taken) (b .reading .reports) (b .reading .dropped) (take (5 * b .reading .reports) (b .out)) (readOf (b .reading .next) q (drop (5 * b .reading .reports) (b .out)))
+    go true g p q e t =
+        let i = rw g at e in
+        rw g (rw (i, line-stays-good p r out g .0) (join-line p q r out (rw i at t)))
+    go false g [] q e t = rw (g, rw g at e, g)
+    go false g (w ∷ p) q e t = absurd (omega (arith, rw (rw g at e) at t))
+
+pub joining : (r : Reader) (p q : List ℕ) (out : List ℤ) (a b c : Reading) (x y z : List ℤ)
+    → ReadPromise r p out b y
+    → b .taken ≡ length p
+    → ReadPromise (b .next) q (drop (5 * b .reports) y) c z
+    → ReadPromise r (p ++ q) out a x
+    → whole a x ≡ joined (b .taken) (b .reports) (b .dropped) (take (5 * b .reports) y) (whole c z)
+joining r p q out a b c x y z f t h e =
+    e ∙ join-read p q r out (whole b y) f t ∙ ap (joined (b .taken) (b .reports) (b .dropped) (take (5 * b .reports) y)) (sym h)

@@ -1,0 +1,63 @@
+-- "Each public operation's promise determines one answer, and every number in the lent slice after it, refused or not".
+use Prim.Native.Nat.{ℕ}
+use mathlib.Core.Path.{_≡_, refl, sym, _∙_, ap}
+use mathlib.Core.List.{List, [], _∷_}
+use native.Mathlib.Omega.{arith}
+use lib.ListN.{length}
+use lib.IntN.{ℤ, pos}
+use Rattle.wire.specs.declared.Report.{Report}
+use Rattle.wire.proofs.Codec.Accepted.{same-report}
+use Rattle.reader.specs.State.{fiveOf, numbersOf}
+use Rattle.reader.specs.Line.{Long}
+use Rattle.reader.specs.Promises.{Step, FreshPromise, StepPromise, ReadPromise, stepOf}
+use Rattle.reader.specs.Runs.{stepsOf, StepsPromise}
+use Rattle.reader.specs.declared.Reader.{Reader}
+use Rattle.reader.specs.declared.NewReader.{NewReader}
+use Rattle.reader.specs.declared.Read.{Read}
+use Rattle.reader.specs.declared.Reading.{Reading}
+use Rattle.reader.specs.declared.Answer.{Answer}
+use Rattle.reader.specs.declared.Answer.the-variants as answer
+
+-- an answer is told by its numbers
+none-some : {A : Type 0} {x : ℤ} {l : List ℤ} → [] ≡ x ∷ l → A
+none-some e = absurd (omega (arith, ap length e))
+
+one-five : {A : Type 0} {k : ℤ} {p : Report} → k ∷ [] ≡ fiveOf p → A
+one-five e = absurd (omega (arith, ap length e))
+
+pub by-numbers : (a b : Answer) → numbersOf a ≡ numbersOf b → a ≡ b
+by-numbers answer.Nothing answer.Nothing e = refl
+by-numbers answer.Nothing (answer.Report q) e = none-some e
+by-numbers answer.Nothing (answer.Dropped j) e = none-some e
+by-numbers (answer.Report p) answer.Nothing e = none-some (sym e)
+by-numbers (answer.Report p) (answer.Report q) e = ap answer.Report (same-report (cc) (cc) (cc) (cc) (cc))
+by-numbers (answer.Report p) (answer.Dropped j) e = one-five (sym e)
+by-numbers (answer.Dropped k) answer.Nothing e = none-some (sym e)
+by-numbers (answer.Dropped k) (answer.Report q) e = one-five e
+by-numbers (answer.Dropped k) (answer.Dropped j) e = cc
+
+-- so that what a step's promise permits is its definition's answer
+same-read : {s t : Read} → s .refusal ≡ t .refusal → s .next ≡ t .next → s .answer ≡ t .answer → s ≡ t
+same-read n r a = λ i. record { refusal = n i; next = r i; answer = a i }
+
+pub step-is : (r : Reader) (w : ℕ) (s : Read) → StepPromise r w s → s ≡ stepOf r w
+step-is r w s e =
+    same-read (ap (λ (o : Step). o .refusal) e) (ap (λ (o : Step). o .next) e)
+    (by-numbers (s .answer) (stepOf r w .answer) (ap (λ (o : Step). o .numbers) e))
+
+pub steps-are : (r : Reader) (words : List ℕ) (steps : List Read) → StepsPromise r words steps → steps ≡ stepsOf r words
+unfolding stepsOf StepsPromise
+steps-are r [] [] e = refl
+steps-are r [] (s ∷ steps) e = absurd e
+steps-are r (w ∷ words) [] e = absurd e
+steps-are r (w ∷ words) (s ∷ steps) e = let i = step-is r w s (e .0) in let j = steps-are (s .next) words steps (e .1) in cc
+
+-- one answer
+pub one-fresh : (letter : ℕ) (a b : NewReader) → FreshPromise letter a → FreshPromise letter b → a ≡ b
+one-fresh letter a b e f = e ∙ sym f
+
+pub one-step : (r : Reader) (w : ℕ) (a b : Read) → StepPromise r w a → StepPromise r w b → a ≡ b
+one-step r w a b e f = step-is r w a e ∙ sym (step-is r w b f)
+
+pub one-read : (r : Reader) (words : List ℕ) (out : List ℤ) (a b : Reading) (x y : List ℤ) → ReadPromise r words out a x → ReadPromise r words out b y → (a ≡ b) × (x ≡ y)
+one-read r words out a b x y e f = (ap (λ (l : Long). l .reading) (e ∙ sym f), ap (λ (l : Long). l .out) (e ∙ sym f))

@@ -1,0 +1,130 @@
+-- Refusals: 6 before 4, the old reader, no answer, counts of 0 and an unchanged slice; and 4 in a long read.
+use Prim.Native.Nat.{ℕ, _<_, _≤_, _*_}
+use mathlib.Core.Path.{_≡_, refl, sym, _∙_, ap}
+use mathlib.Core.Bool.{Bool, true, false}
+use mathlib.Core.Logic.{_⊎_, inl, inr}
+use mathlib.Core.List.{List, [], _∷_, _++_}
+use native.Mathlib.Omega.{arith}
+use lib.ListN.{length, drop}
+use lib.IntN.{ℤ}
+use borrow.Author.Tests.{lt-leb, ne-eqb}
+use Rattle.wire.specs.Line.{break, silence}
+use Rattle.wire.specs.Numbers.{success, badState, badLetter, badWord}
+use Rattle.reader.specs.State.{fresh}
+use Rattle.reader.specs.Good.{known, good}
+use Rattle.reader.specs.Rules.{entered, refusing, finishes, keep, start, lose, breakOf, silenceOf, wordOf}
+use Rattle.reader.specs.Line.{Long, whole, stopped, joined, lineOf}
+use Rattle.reader.specs.Promises.{FreshPromise, StepPromise, ReadPromise, newReader, freshOf, stepOf, readOf}
+use Rattle.reader.specs.declared.Reader.{Reader}
+use Rattle.reader.specs.declared.NewReader.{NewReader}
+use Rattle.reader.specs.declared.Read.{Read}
+use Rattle.reader.specs.declared.Reading.{Reading}
+use Rattle.reader.proofs.Choices.{either}
+use Rattle.reader.proofs.Word.{by-rules, by-kind}
+use Rattle.reader.proofs.View.{Stops, Takes, view}
+use Rattle.reader.proofs.Permitted.{step-is}
+use Rattle.reader.proofs.Goodness.{step-word, read-line}
+
+-- "(1 for a new reader: a fresh one of U)"
+pub unknown-letter : (letter : ℕ) (a : NewReader) → known letter ≡ false → FreshPromise letter a → a ≡ newReader badLetter (fresh 0x55)
+unfolding freshOf
+unknown-letter letter a k e = rw (e, k)
+
+abbrev Taken : Read → Type 0
+Taken s = s .refusal ≡ success
+
+-- 6: whatever the word
+pub bad-state : (r : Reader) (w : ℕ) (s : Read) → good r ≡ false → StepPromise r w s → s ≡ refusing badState r
+unfolding stepOf
+bad-state r w s g e = rw (step-is r w s e, g)
+
+pub bad-state-read : (r : Reader) (words : List ℕ) (out : List ℤ) (a : Reading) (after : List ℤ) → good r ≡ false → ReadPromise r words out a after → whole a after ≡ stopped badState r out
+unfolding readOf
+bad-state-read r words out a after g e = rw (e, g)
+
+-- 4: a line word above 257, to a good reader
+above : (r : Reader) (w : ℕ) → silence < w → wordOf r w ≡ refusing badWord r
+unfolding wordOf
+above r w h =
+    simp
+    (lt-leb w 255 (omega arith), ne-eqb w break (λ e. omega arith), ne-eqb w silence (λ e. omega arith))
+
+pub bad-word : (r : Reader) (w : ℕ) (s : Read) → good r ≡ true → silence < w → StepPromise r w s → s ≡ refusing badWord r
+bad-word r w s g h e = step-is r w s e ∙ step-word r w g ∙ above r w h
+
+-- and no other: a good reader takes every line word
+pub takes-line-words : (r : Reader) (w : ℕ) (s : Read) → good r ≡ true → w ≤ silence → StepPromise r w s → s .refusal ≡ success
+unfolding keep start lose breakOf silenceOf
+takes-line-words r w s g h e =
+    rw (step-is r w s e ∙ step-word r w g)
+    (by-kind Taken r w
+    (λ _. by-rules Taken r (entered (r .format) w) (λ _. refl) (λ _ _. either Taken (finishes r) _ _ (λ _. refl) (λ _. refl)) (λ _ _ _. refl) (λ _ _ _. refl))
+    (λ _ _. refl) (λ _ _. refl) (λ b. absurd (omega arith)))
+
+-- "4 in a long read, which returns the reader, reports and counts as they stand before the bad word"
+abbrev pub withRefusal : ℕ → Long → Long
+withRefusal n l =
+    whole
+    (record {
+      refusal = n;
+      next = l .reading .next;
+      taken = l .reading .taken;
+      reports = l .reading .reports;
+      dropped = l .reading .dropped;
+    })
+    (l .out)
+
+line-bad-word : (p q : List ℕ) (w : ℕ) (r : Reader) (out : List ℤ) → silence < w → lineOf r p out .reading .taken ≡ length p → lineOf r (p ++ w ∷ q) out ≡ withRefusal badWord (lineOf r p out)
+unfolding lineOf
+line-bad-word [] q w r out b h = rw (above r w b)
+line-bad-word (v ∷ p) q w r out b h = go (line-bad-word p q w) (view r v out)
+  where
+    go : ((r : Reader) (out : List ℤ) → silence < w → lineOf r p out .reading .taken ≡ length p → lineOf r (p ++ w ∷ q) out ≡ withRefusal badWord (lineOf r p out)) → Stops r v out ⊎ Takes r v out → lineOf r (v ∷ (p ++ w ∷ q)) out ≡ withRefusal badWord (lineOf r (v ∷ p) out)
+    go ih (inl s) = let z = rw (s .is p) at h in absurd (omega arith)
+    go ih (inr t) =
+        let z = rw (t .is p) at h in
+        let next = wordOf r v .next in
+        let e : lineOf next p (drop (5 * t .n) out) .reading .taken ≡ length p = omega arith in
+        t .is (p ++ w ∷ q)
+        ∙ ap (joined 1 (t .n) (t .d) (t .front)) (ih next (drop (5 * t .n) out) b e)
+        ∙ ap (withRefusal badWord) (sym (t .is p))
+
+pub bad-word-read : (r : Reader) (p q : List ℕ) (w : ℕ) (out : List ℤ) (a b : Reading) (x y : List ℤ)
+    → good r ≡ true
+    → silence < w
+    → ReadPromise r p out b y
+    → b .taken ≡ length p
+    → ReadPromise r (p ++ w ∷ q) out a x
+    → whole a x ≡ withRefusal badWord (whole b y)
+bad-word-read r p q w out a b x y g h f t e =
+    let i = f ∙ read-line r p out g in
+    e ∙ read-line r (p ++ w ∷ q) out g ∙ line-bad-word p q w r out h (sym (ap (λ (l : Long). l .reading .taken) i) ∙ t) ∙ ap (withRefusal badWord) (sym i)
+
+-- "a bad word behind a stop for room is not reached": where words are left, what follows them changes nothing
+line-stopped : (p q : List ℕ) (r : Reader) (out : List ℤ) → lineOf r p out .reading .taken < length p → lineOf r (p ++ q) out ≡ lineOf r p out
+unfolding lineOf
+line-stopped [] q r out h = absurd (omega arith)
+line-stopped (v ∷ p) q r out h = go (line-stopped p q) (view r v out)
+  where
+    go : ((r : Reader) (out : List ℤ) → lineOf r p out .reading .taken < length p → lineOf r (p ++ q) out ≡ lineOf r p out) → Stops r v out ⊎ Takes r v out → lineOf r (v ∷ (p ++ q)) out ≡ lineOf r (v ∷ p) out
+    go ih (inl s) = s .is (p ++ q) ∙ sym (s .is p)
+    go ih (inr t) =
+        let z = rw (t .is p) at h in
+        let next = wordOf r v .next in
+        let e : lineOf next p (drop (5 * t .n) out) .reading .taken < length p = omega arith in
+        t .is (p ++ q) ∙ ap (joined 1 (t .n) (t .d) (t .front)) (ih next (drop (5 * t .n) out) e) ∙ sym (t .is p)
+
+pub not-reached : (r : Reader) (p q : List ℕ) (out : List ℤ) (a b : Reading) (x y : List ℤ)
+    → ReadPromise r p out b y
+    → b .taken < length p
+    → ReadPromise r (p ++ q) out a x
+    → (a ≡ b) × (x ≡ y)
+unfolding readOf
+not-reached r p q out a b x y f t e = go (good r) refl
+  where
+    go : (u : Bool) → good r ≡ u → (a ≡ b) × (x ≡ y)
+    go true g =
+        let i = rw g at f in
+        let j = (rw g at e) ∙ line-stopped p q r out (rw (ap (λ (l : Long). l .reading .taken) i) at t) ∙ sym i in
+        (ap (λ (l : Long). l .reading) j, ap (λ (l : Long). l .out) j)
+    go false g = let i = (rw g at e) ∙ sym (rw g at f) in (ap (λ (l : Long). l .reading) i, ap (λ (l : Long). l .out) i)

@@ -1,0 +1,46 @@
+-- Steps, one after the other: the answers over a list of words.
+use Prim.Native.Nat.{ℕ}
+use mathlib.Core.Bool.{Bool, false, _||_}
+use mathlib.Core.List.{List, [], _∷_, map}
+use lib.Dec.{eqb}
+use Rattle.wire.specs.Line.{namedBy, ofNamed, silence}
+use Rattle.wire.specs.Holds.{carried}
+use Rattle.wire.specs.Reading.{settled}
+use Rattle.wire.specs.declared.Report.{Report}
+use Rattle.reader.specs.Promises.{StepPromise, stepOf}
+use Rattle.reader.specs.declared.Reader.{Reader}
+use Rattle.reader.specs.declared.Read.{Read}
+use Rattle.reader.specs.declared.Answer.{Answer}
+
+-- the steps of a reader over words
+unfoldable pub stepsOf : Reader → List ℕ → List Read
+stepsOf r [] = []
+stepsOf r (w ∷ words) = stepOf r w ∷ stepsOf (stepOf r w .next) words
+
+-- any steps that the promise permits: each starts with the reader that came back from the one before
+unfoldable pub StepsPromise : Reader → List ℕ → List Read → Type 0
+StepsPromise r [] [] = Unit
+StepsPromise r [] (s ∷ steps) = ⊥
+StepsPromise r (w ∷ words) [] = ⊥
+StepsPromise r (w ∷ words) (s ∷ steps) = StepPromise r w s × StepsPromise (s .next) words steps
+
+-- their answers, and the reader that comes back from the last
+abbrev pub answers : List Read → List Answer
+answers steps = map (λ (s : Read). s .answer) steps
+
+abbrev pub readerAfter : Reader → List Read → Reader
+readerAfter r [] = r
+readerAfter r (s ∷ steps) = readerAfter (s .next) steps
+
+-- whether a silence is among words
+unfoldable pub hasSilence : List ℕ → Bool
+hasSilence [] = false
+hasSilence (w ∷ words) = eqb w silence || hasSilence words
+
+-- a report as its format carries it, by letter
+unfoldable pub carriedBy : ℕ → Report → Report
+carriedBy letter p = ofNamed p (λ f. carried f p) (namedBy letter)
+
+-- bytes with a minus zero's sign bit set to 1, by letter
+unfoldable pub settledBy : ℕ → List ℕ → List ℕ
+settledBy letter bytes = ofNamed bytes (λ f. settled f bytes) (namedBy letter)
