@@ -8,7 +8,8 @@ use lib.Seq.{drop-drop}
 use lib.IntN.{ℤ}
 use Rattle.wire.specs.Line.{namedBy}
 use Rattle.wire.specs.Numbers.{success}
-use Rattle.wire.specs.Encoder.{EncodePromise, refusalOf, lengthOf}
+use Rattle.wire.specs.Encoder.{refusalOf, lengthOf}
+use Rattle.wire.specs.Promises.{EncodePromise}
 use Rattle.wire.specs.declared.Report.{Report}
 use Rattle.wire.specs.declared.Encoded.{Encoded}
 use Rattle.reader.specs.State.{fresh, ready, fiveOf}
