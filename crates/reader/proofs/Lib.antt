@@ -20,4 +20,8 @@ pub mod There
 pub mod Back
 pub mod Useless
 pub mod Sentences
+pub mod Lines
+pub mod Framed
+pub mod Took
+pub mod Segments
 pub mod Figures
