@@ -24,4 +24,7 @@ pub mod Lines
 pub mod Framed
 pub mod Took
 pub mod Segments
+pub mod Handed
+pub mod Stretch
+pub mod Damaged
 pub mod Figures

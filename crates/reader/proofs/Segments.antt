@@ -2,7 +2,7 @@
 use Prim.Native.Nat.{ℕ, suc, _+_, _≤_, _<_}
 use mathlib.Core.Path.{_≡_, refl, ap}
 use mathlib.Core.Bool.{true}
-use mathlib.Core.List.{List, [], _∷_, _++_, map}
+use mathlib.Core.List.{List, [], _∷_, _++_, map, append-assoc}
 use native.Mathlib.Nat.{add-zero, zero-add, add-suc, suc-add}
 use native.Mathlib.Numerals.{add-one}
 use native.Mathlib.Omega.{arith}
@@ -63,6 +63,10 @@ words-of (brokenReply n bytes) = refl
 pub same-words : (passages : List Passage) → words (segments passages) ≡ passageWords passages
 same-words [] = refl
 same-words (p ∷ passages) = rw (words-of p, same-words passages)
+
+pub words-append : (l m : List Passage) → passageWords (l ++ m) ≡ passageWords l ++ passageWords m
+words-append [] m = refl
+words-append (p ∷ l) m = rw (words-append l m, append-assoc)
 
 -- and none is broken off where no passage is
 pub calm : (passages : List Passage) → Unbroken passages → Calm (segments passages)
@@ -127,8 +131,21 @@ module _ (f : Format) where
   same-finished [] s = refl
   same-finished (p ∷ passages) s = rw (finished-of p (s .0), same-finished passages (s .1))
 
+  -- sound passages, and reports of passages, in two parts
+  pub sound-left : (l m : List Passage) → Sound f (l ++ m) → Sound f l
+  sound-left [] m s = tt
+  sound-left (p ∷ l) m s = (s .0, sound-left l m (s .1))
+
+  pub sound-right : (l m : List Passage) → Sound f (l ++ m) → Sound f m
+  sound-right [] m s = s
+  sound-right (p ∷ l) m s = sound-right l m (s .1)
+
+  pub finished-append : (l m : List Passage) → finishedReports f (l ++ m) ≡ finishedReports f l ++ finishedReports f m
+  finished-append [] m = refl
+  finished-append (p ∷ l) m = rw (finished-append l m, append-assoc)
+
   -- the words of a line are legal
-  fits-legal : (k bytes : List ℕ) → Fits (frameOf f) k bytes → Legal bytes
+  pub fits-legal : (k bytes : List ℕ) → Fits (frameOf f) k bytes → Legal bytes
   fits-legal k [] h = tt
   fits-legal k (b ∷ bytes) h = (omega (arith, laws f .byte k b (h .0)), fits-legal (k ++ (b ∷ [])) bytes (h .1))
 
@@ -141,7 +158,9 @@ module _ (f : Format) where
   legal-words [] h = tt
   legal-words (s ∷ l) h = legal-append (line.wordsOf s) (words l) (legal-of s (h .0)) (legal-words l (h .1))
 
+  pub passages-legal : (passages : List Passage) → Sound f passages → Legal (passageWords passages)
+  passages-legal passages s = rw same-words at (legal-words (segments passages) (sound passages s))
+
   pub line-legal : (passages : List Passage) (going : Going) → Sound f passages → SoundGoing f going → Legal (passageWords passages ++ goingWords going)
   line-legal passages going s g =
-      legal-append (passageWords passages) (goingWords going) (rw same-words at (legal-words (segments passages) (sound passages s)))
-      (fits-legal [] (goingWords going) (sound-going going g .0))
+      legal-append (passageWords passages) (goingWords going) (passages-legal passages s) (fits-legal [] (goingWords going) (sound-going going g .0))

@@ -9,7 +9,6 @@ use lib.Seq.{drop-drop}
 use lib.IntN.{ℤ}
 use borrow.Author.Tests.{le-ltb}
 use Rattle.wire.specs.Line.{letterOf, namedBy}
-use Rattle.wire.specs.Numbers.{success}
 use Rattle.wire.specs.declared.Report.{Report}
 use Rattle.wire.specs.declared.Format.{Format}
 use Rattle.wire.specs.declared.Named.the-variants.{Known}
@@ -30,15 +29,8 @@ use Rattle.reader.proofs.Word.{word-format}
 use Rattle.reader.proofs.Keeps.{word-good}
 use Rattle.reader.proofs.Goodness.{step-word, read-line, fresh-is-good}
 use Rattle.reader.proofs.Permitted.{steps-are}
-use Rattle.reader.proofs.Lines.{Legal, handedOut, numbers}
+use Rattle.reader.proofs.Lines.{Legal, handedOut, numbers, Took}
 use Rattle.reader.proofs.Framed.{word-like, fresh-named}
-
--- what the read gives back, and the lent slice after it: the numbers of the reports found, and then its old numbers
-pub record Took (words : List ℕ) (found : List Report) (before : List ℤ) (b : Reading) (after : List ℤ) : Type 0 where
-  pub refusal : b .refusal ≡ success
-  pub taken : b .taken ≡ length words
-  pub reports : b .reports ≡ length found
-  pub written : after ≡ numbers found ++ drop (5 * length found) before
 
 abbrev TookLong : List ℕ → List Report → List ℤ → Long → Type 0
 TookLong words found before l = Took words found before (l .reading) (l .out)
