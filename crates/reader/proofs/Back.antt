@@ -14,7 +14,8 @@ use Rattle.wire.specs.Line.{namedBy, sizeOf, sizeBy}
 use Rattle.wire.specs.Fits.{fitsAt, fitsLater, fitsBy, allLater, valid}
 use Rattle.wire.specs.Reading.{reportOf, reportBy}
 use Rattle.wire.specs.Numbers.{success}
-use Rattle.wire.specs.Encoder.{Encoding, EncodePromise, refusalOf, lengthOf, encodeIn}
+use Rattle.wire.specs.Encoder.{Encoding, refusalOf, lengthOf, encodeIn}
+use Rattle.wire.specs.Promises.{EncodePromise}
 use Rattle.wire.specs.declared.Report.{Report}
 use Rattle.wire.specs.declared.Format.{Format}
 use Rattle.wire.specs.declared.Named.{Named}

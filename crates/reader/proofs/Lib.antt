@@ -25,6 +25,13 @@ pub mod Back
 pub mod Useless
 pub mod Sentences
 pub mod Nowhere
+pub mod Lines
+pub mod Framed
+pub mod Took
+pub mod Segments
+pub mod Handed
+pub mod Stretch
+pub mod Damaged
 pub mod Figures
 pub mod Examples
 pub mod Wrong

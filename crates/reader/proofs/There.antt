@@ -19,7 +19,8 @@ use Rattle.wire.specs.Holds.{accepted}
 use Rattle.wire.specs.Fits.{fitsAt, fitsFirst, fitsBy, allLater, valid}
 use Rattle.wire.specs.Reading.{reportOf, reportBy}
 use Rattle.wire.specs.Numbers.{success}
-use Rattle.wire.specs.Encoder.{Encoding, EncodePromise, refusalOf, lengthOf, outcome, encodeIn}
+use Rattle.wire.specs.Encoder.{Encoding, refusalOf, lengthOf, outcome, encodeIn}
+use Rattle.wire.specs.Promises.{EncodePromise}
 use Rattle.wire.specs.declared.Report.{Report}
 use Rattle.wire.specs.declared.Format.{Format}
 use Rattle.wire.specs.declared.Named.{Named}

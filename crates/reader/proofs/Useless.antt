@@ -10,7 +10,8 @@ use Rattle.numbers.specs.Bits.{bit}
 use Rattle.wire.specs.Line.{namedBy, sizeBy, markedBy}
 use Rattle.wire.specs.Fits.{like, fitsFirst, fitsLater, fitsAt, fitsBy}
 use Rattle.wire.specs.Numbers.{success}
-use Rattle.wire.specs.Encoder.{EncodePromise, refusalOf, lengthOf}
+use Rattle.wire.specs.Encoder.{refusalOf, lengthOf}
+use Rattle.wire.specs.Promises.{EncodePromise}
 use Rattle.wire.specs.declared.Report.{Report}
 use Rattle.wire.specs.declared.Encoded.{Encoded}
 use Rattle.reader.specs.State.{fresh, ready, fiveOf}

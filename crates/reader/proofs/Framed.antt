@@ -1,0 +1,233 @@
+-- The reader of each format does what the reader of its frame does, word by word.
+use Prim.Native.Nat.{ℕ, zero, suc, _<_, _≤_}
+use mathlib.Core.Path.{_≡_, refl, sym, _∙_, ap}
+use mathlib.Core.Bool.{Bool, true, false, not, cond, _&&_}
+use mathlib.Core.List.{List, [], _∷_, _++_, map}
+use native.Mathlib.Numerals.{add-one}
+use native.Mathlib.Omega.{arith}
+use lib.ListN.{length, take, length-append}
+use lib.Seq.{length-take-le, take-suc-set, getD-take}
+use lib.Dec.{eqb}
+use borrow.Author.Tests.{leb-true, leb-false, eqb-true, eqb-false, ne-eqb, not-true}
+use Rattle.numbers.proofs.Tested.{left, right}
+use Rattle.wire.specs.Line.{isByte, letterOf, namedBy, sizeOf, markedOf, sizeBy, markedBy}
+use Rattle.wire.specs.Fits.{fitsAt, fitsBy}
+use Rattle.wire.specs.Reading.{reportOf, reportBy}
+use Rattle.wire.specs.Numbers.{success}
+use Rattle.wire.specs.declared.Report.{Report}
+use Rattle.wire.specs.declared.Format.{Format}
+use Rattle.wire.specs.declared.Format.the-variants.{Mm, Microsoft, Absolute, Relative, FiveByte, ThreeByte, Hexadecimal}
+use Rattle.wire.specs.declared.Named.the-variants.{Known}
+use Rattle.wire.proofs.Answers.{letter-named}
+use Rattle.wire.proofs.Codec.{fits-byte, mark}
+use Rattle.frames.specs.Frame.{Frame, State, has, waits, moveOf, fresh, whole, keep, step}
+use Rattle.frames.specs.Frame as frame
+use Rattle.frames.specs.Line.{Laws, Marked}
+use Rattle.reader.specs.State.{keptIn, unmarked}
+use Rattle.reader.specs.State as reader
+use Rattle.reader.specs.Good.{known, good}
+use Rattle.reader.specs.Rules.{entered, dropping, fitting, more, starting, byteOf, breakOf, silenceOf, wordOf}
+use Rattle.reader.specs.Rules as rules
+use Rattle.reader.specs.Promises.{FreshPromise, stepOf, freshOf}
+use Rattle.reader.specs.Runs.{stepsOf, StepsPromise, answers}
+use Rattle.reader.specs.declared.Reader.{Reader}
+use Rattle.reader.specs.declared.NewReader.{NewReader}
+use Rattle.reader.specs.declared.Read.{Read}
+use Rattle.reader.specs.declared.Answer.{Answer}
+use Rattle.reader.specs.declared.Answer.the-variants as answer
+use Rattle.reader.proofs.Letters.{at-most-five}
+use Rattle.reader.proofs.Good.{Parts, parts}
+use Rattle.reader.proofs.Word.{by-rules, word-format}
+use Rattle.reader.proofs.Keeps.{word-good}
+use Rattle.reader.proofs.Goodness.{step-word, fresh-is-good}
+use Rattle.reader.proofs.Permitted.{steps-are}
+use Rattle.reader.proofs.Lines.{Legal}
+use Rattle.reader.proofs.Front.{same-front}
+
+-- the frame of a format: its bytes, size and mark by the table
+abbrev pub frameOf : Format → Frame Report
+frameOf f = record { fits = λ k b. fitsAt f (length k) b; size = λ b. sizeOf f; marked = markedOf f; decode = reportOf f }
+
+pub two : (f : Format) → 2 ≤ sizeOf f
+two Mm = omega arith
+two Microsoft = omega arith
+two Absolute = omega arith
+two Relative = omega arith
+two FiveByte = omega arith
+two ThreeByte = omega arith
+two Hexadecimal = omega arith
+
+pub laws : (f : Format) → Laws (frameOf f)
+laws f = record { byte = λ k b h. fits-byte f (length k) b h; long = λ b h. two f }
+
+pub is-marked : (f : Format) → markedOf f ≡ true → Marked (frameOf f)
+unfolding fitsAt
+is-marked f m = record { laws = laws f; is = m; apart = λ a k b h. rw (ne-eqb (suc (length k)) 0 (λ e. omega arith)) (mark f b m h) }
+
+-- what a reader keeps, or that it waits; and what it answers
+abbrev pub stateOf : Reader → State
+stateOf r = cond (r .awaiting) waits (has (keptIn r))
+
+abbrev pub told : frame.Answer Report → Answer
+told frame.nothing = answer.Nothing
+told (frame.report p) = answer.Report p
+told (frame.dropped k) = answer.Dropped k
+
+-- a word that is answered as the frame's reader answers it, with the same kept after it
+pub record Like (s : Read) (x : State × frame.Answer Report) : Type 0 where
+  pub taken : s .refusal ≡ success
+  pub answered : s .answer ≡ told (x .1)
+  pub next : stateOf (s .next) ≡ x .0
+
+-- the frame's step at a byte, rule by rule
+module _ (f : Format) (w : ℕ) (byte : w < 256) where
+  waits-on : markedOf f ≡ false → step (frameOf f) waits w ≡ (waits, frame.dropped 1)
+  unfolding moveOf
+  waits-on m = rw (ne-eqb w 257 (λ e. omega arith), ne-eqb w 256 (λ e. omega arith), m)
+
+  keeps : (k : List ℕ) → fitsAt f (length k) w ≡ true → step (frameOf f) (has k) w ≡ keep (frameOf f) (k ++ (w ∷ []))
+  unfolding moveOf
+  keeps k h = rw (ne-eqb w 257 (λ e. omega arith), ne-eqb w 256 (λ e. omega arith), h)
+
+  starts : (k : List ℕ) → fitsAt f (length k) w ≡ false → markedOf f && fitsAt f 0 w ≡ true → step (frameOf f) (has k) w ≡ (has (w ∷ []), frame.drops (length k))
+  unfolding moveOf
+  starts k h s = rw (ne-eqb w 257 (λ e. omega arith), ne-eqb w 256 (λ e. omega arith), h, s)
+
+  loses : (k : List ℕ) → fitsAt f (length k) w ≡ false → markedOf f && fitsAt f 0 w ≡ false → step (frameOf f) (has k) w ≡ (fresh (frameOf f), frame.dropped (suc (length k)))
+  unfolding moveOf
+  loses k h s = rw (ne-eqb w 257 (λ e. omega arith), ne-eqb w 256 (λ e. omega arith), h, s)
+
+whole-is : (f : Format) (k : List ℕ) (w : ℕ) → whole (frameOf f) (k ++ (w ∷ [])) ≡ eqb (suc (length k)) (sizeOf f)
+whole-is f [] w = refl
+whole-is f (a ∷ k) w = rw (length-append k (w ∷ []), add-one (length k))
+
+dropping-told : (k : ℕ) → dropping k ≡ told (frame.drops k)
+unfolding dropping
+dropping-told zero = refl
+dropping-told (suc k) = rw (ne-eqb (suc k) 0 (λ e. omega arith))
+
+-- a good reader of the format
+module _ (f : Format) (r : Reader) (g : good r ≡ true) (named : namedBy (r .format) ≡ Known f) where
+  abbrev has-parts : Parts r
+  has-parts = parts r g
+
+  size-is : sizeBy (r .format) ≡ sizeOf f
+  unfolding sizeBy
+  size-is = rw named
+
+  marked-is : markedBy (r .format) ≡ markedOf f
+  unfolding markedBy
+  marked-is = rw named
+
+  fits-is : (place b : ℕ) → fitsBy (r .format) place b ≡ fitsAt f place b
+  unfolding fitsBy
+  fits-is place b = rw named
+
+  room : r .count < length (r .kept)
+  room = omega (arith, has-parts .below, has-parts .five, at-most-five (r .format))
+
+  count-is : length (keptIn r) ≡ r .count
+  count-is = length-take-le (r .count) (r .kept) (omega (arith, room))
+
+  -- it awaits a silence only in an unmarked format, with no bytes
+  waits-rightly : r .awaiting ≡ true → (markedOf f ≡ false) × (r .count ≡ 0)
+  waits-rightly a = go (rw a at (has-parts .awaits))
+    where
+      go : unmarked (r .format) && eqb (r .count) 0 ≡ true → (markedOf f ≡ false) × (r .count ≡ 0)
+      go e = (sym marked-is ∙ not-true (markedBy (r .format)) (left (unmarked (r .format)) (eqb (r .count) 0) e), eqb-true (r .count) 0 (right (unmarked (r .format)) (eqb (r .count) 0) e))
+
+  -- as many bytes are kept as it counts
+  kept-count : length (frame.kept (stateOf r)) ≡ r .count
+  kept-count = go (r .awaiting) refl
+    where
+      go : (t : Bool) → r .awaiting ≡ t → length (frame.kept (stateOf r)) ≡ r .count
+      go true e = rw e (sym (waits-rightly e .1))
+      go false e = rw e count-is
+
+  fresh-like : stateOf (reader.fresh (r .format)) ≡ fresh (frameOf f)
+  fresh-like = rw marked-is (go (markedOf f))
+    where
+      go : (t : Bool) → cond (not t) waits (has []) ≡ cond t (has []) waits
+      go true = refl
+      go false = refl
+
+  -- the last byte gives the report of those kept and it
+  report-like : (w : ℕ) → suc (r .count) ≡ sizeOf f → reportBy (r .format) (more r w) ≡ reportOf f (keptIn r ++ (w ∷ []))
+  unfolding reportBy
+  report-like w e =
+      rw (named, ← take-suc-set (r .kept) (r .count) w room)
+      (same-front f (more r w) (take (suc (r .count)) (more r w)) (λ i l. sym (getD-take (suc (r .count)) (more r w) i 0 (omega arith))))
+
+  kept-like : (w : ℕ) → Like (rules.keep r w) (keep (frameOf f) (keptIn r ++ (w ∷ [])))
+  unfolding rules.keep
+  kept-like w = rw (whole-is f (keptIn r) w, count-is, size-is, add-one (r .count)) (go (eqb (suc (r .count)) (sizeOf f)) refl)
+    where
+      go : (t : Bool) → eqb (suc (r .count)) (sizeOf f) ≡ t
+          → Like
+          (cond t (rules.answered (reader.ready (r .format)) (answer.Report (reportBy (r .format) (more r w))))
+          (rules.answered (reader.reader (r .format) (more r w) (suc (r .count)) false) answer.Nothing))
+          (cond t (has [], frame.report (reportOf f (keptIn r ++ (w ∷ [])))) (has (keptIn r ++ (w ∷ [])), frame.nothing))
+      go true e = record { taken = refl; answered = ap answer.Report (report-like w (eqb-true (suc (r .count)) (sizeOf f) e)); next = refl }
+      go false e = record { taken = refl; answered = refl; next = ap has (take-suc-set (r .kept) (r .count) w room) }
+
+  byte-like : (w : ℕ) → w < 256 → Like (byteOf r w) (step (frameOf f) (stateOf r) w)
+  unfolding rules.start rules.lose
+  byte-like w b =
+      by-rules (λ s. Like s (step (frameOf f) (stateOf r) w)) r w
+      (λ a. rw (waiting a, waits-on f w b (waits-rightly a .0)) (record { taken = refl; answered = refl; next = waiting a }))
+      (λ a h. rw (keeping a, keeps f w b (keptIn r) (fit h)) (kept-like w))
+      (λ a h s. rw (keeping a, starts f w b (keptIn r) (fit h) (start s), count-is) (record { taken = refl; answered = dropping-told (r .count); next = refl }))
+      (λ a h s. rw (keeping a, loses f w b (keptIn r) (fit h) (start s), count-is) (record { taken = refl; answered = ap answer.Dropped (add-one (r .count)); next = fresh-like }))
+    where
+      waiting : r .awaiting ≡ true → stateOf r ≡ waits
+      waiting a = rw a
+
+      keeping : r .awaiting ≡ false → stateOf r ≡ has (keptIn r)
+      keeping a = rw a
+
+      fit : {t : Bool} → fitting r w ≡ t → fitsAt f (length (keptIn r)) w ≡ t
+      fit h = rw count-is (sym (fits-is (r .count) w) ∙ h)
+
+      start : {t : Bool} → starting r w ≡ t → markedOf f && fitsAt f 0 w ≡ t
+      start h = rw (marked-is, fits-is 0 w) at h
+
+  pub word-like : (w : ℕ) → w ≤ 257 → Like (wordOf r w) (step (frameOf f) (stateOf r) w)
+  unfolding wordOf entered breakOf silenceOf moveOf
+  word-like w l = go (isByte w) refl (eqb w 256) refl
+    where
+      go : (t : Bool) → isByte w ≡ t → (u : Bool) → eqb w 256 ≡ u → Like (wordOf r w) (step (frameOf f) (stateOf r) w)
+      go true e u q = rw e (byte-like w (omega (arith, leb-true w 255 e)))
+      go false e true q = rw (eqb-true w 256 q, kept-count) (record { taken = refl; answered = dropping-told (r .count); next = fresh-like })
+      go false e false q =
+          let h : w ≡ 257 = omega (arith, leb-false w 255 e, eqb-false w 256 q) in
+          rw (h, kept-count) (record { taken = refl; answered = dropping-told (r .count); next = refl })
+
+  -- so that the public step does what the frame's step does
+  pub step-like : (w : ℕ) → w ≤ 257 → Like (stepOf r w) (step (frameOf f) (stateOf r) w)
+  step-like w l = rw (step-word r w g) (word-like w l)
+
+-- over legal words
+module _ (f : Format) where
+  steps-like : (words : List ℕ) (r : Reader) → good r ≡ true → namedBy (r .format) ≡ Known f → Legal words
+      → answers (stepsOf r words) ≡ map told (frame.answers (frameOf f) (stateOf r) words)
+  unfolding stepsOf
+  steps-like [] r g named l = refl
+  steps-like (w ∷ words) r g named l =
+      let like = step-like f r g named w (l .0) in
+      let rest = steps-like words (stepOf r w .next) (rw (step-word r w g) (word-good r g w)) (rw (step-word r w g, word-format r w) named) (l .1) in
+      rw (like .answered, rest, like .next)
+
+  -- a fresh reader
+  pub fresh-named : (a : NewReader) → FreshPromise (letterOf f) a → a .reader ≡ reader.fresh (letterOf f)
+  unfolding freshOf known
+  fresh-named a e = rw (e, letter-named f)
+
+  pub framed : (words : List ℕ) (a : NewReader) (steps : List Read) → Legal words → FreshPromise (letterOf f) a → StepsPromise (a .reader) words steps
+      → answers steps ≡ map told (frame.answers (frameOf f) (fresh (frameOf f)) words)
+  framed words a steps l e p =
+      let i = fresh-named a e in
+      let g = fresh-is-good (letterOf f) a e in
+      let named : namedBy (a .reader .format) ≡ Known f = rw i (letter-named f) in
+      let like = rw i at (fresh-like f (a .reader) g named) in
+      rw (steps-are (a .reader) words steps p)
+      (steps-like words (a .reader) g named l ∙ ap (λ (s : State). map told (frame.answers (frameOf f) s words)) (ap stateOf i ∙ like))

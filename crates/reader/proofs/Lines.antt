@@ -1,0 +1,130 @@
+-- What the theorems on damaged lines speak of: lines of one format, what is sent on them, what is lost, and what is handed out.
+use Prim.Native.Nat.{ℕ, _*_, _≤_, _<_}
+use mathlib.Core.Path.{_≡_}
+use mathlib.Core.Bool.{true}
+use mathlib.Core.List.{List, [], _∷_, _++_}
+use lib.ListN.{length, take, drop, getD}
+use lib.IntN.{ℤ}
+use Rattle.wire.specs.Line.{break, silence, letterOf, sizeOf}
+use Rattle.wire.specs.Table.{bytesOf}
+use Rattle.wire.specs.Holds.{accepted, carried}
+use Rattle.wire.specs.Passages.{Passage, silent, finished, broken, reply, brokenReply, passageWords, Going, nothing, report, goingWords}
+use Rattle.wire.specs.Passages as passage
+use Rattle.wire.specs.Numbers.{success}
+use Rattle.wire.specs.declared.Report.{Report}
+use Rattle.wire.specs.declared.Format.{Format}
+use Rattle.frames.specs.Line.{Sub}
+use Rattle.reader.specs.State.{fiveOf}
+use Rattle.reader.specs.Promises.{FreshPromise, ReadPromise}
+use Rattle.reader.specs.Runs.{StepsPromise, answers}
+use Rattle.reader.specs.declared.NewReader.{NewReader}
+use Rattle.reader.specs.declared.Read.{Read}
+use Rattle.reader.specs.declared.Reading.{Reading}
+use Rattle.reader.specs.declared.Answer.{Answer}
+use Rattle.reader.specs.declared.Answer.the-variants as answer
+
+-- "legal words": none is above 257
+abbrev pub Legal : List ℕ → Type 0
+Legal [] = Unit {0}
+Legal (w ∷ words) = (w ≤ silence) × Legal words
+
+-- what the command that sets a box's format itself gives, in front of the line: no word, or 256
+pub data Given : List ℕ → Type 0 where
+  no-word : Given []
+  a-break : Given (break ∷ [])
+
+-- a passage of the format f: a silence, or a report that f holds, finished or broken off before its last byte
+abbrev pub SoundOf : Format → Passage → Type 0
+SoundOf f silent = Unit {0}
+SoundOf f (finished g r) = (g ≡ f) × (accepted f r ≡ true)
+SoundOf f (broken n g r) = (g ≡ f) × (accepted f r ≡ true) × (n < sizeOf f)
+SoundOf f (reply bytes) = ⊥
+SoundOf f (brokenReply n bytes) = ⊥
+
+abbrev pub Sound : Format → List Passage → Type 0
+Sound f [] = Unit {0}
+Sound f (p ∷ passages) = SoundOf f p × Sound f passages
+
+-- what is going: nothing, or a report that f holds, before its last byte
+abbrev pub SoundGoing : Format → Going → Type 0
+SoundGoing f nothing = Unit {0}
+SoundGoing f (report n g r) = (g ≡ f) × (accepted f r ≡ true) × (n < sizeOf f)
+SoundGoing f (passage.answer n bytes) = ⊥
+
+-- no passage is broken off
+abbrev pub Unbroken : List Passage → Type 0
+Unbroken [] = Unit {0}
+Unbroken (silent ∷ passages) = Unbroken passages
+Unbroken (finished f r ∷ passages) = Unbroken passages
+Unbroken (broken n f r ∷ passages) = ⊥
+Unbroken (reply bytes ∷ passages) = Unbroken passages
+Unbroken (brokenReply n bytes ∷ passages) = ⊥
+
+-- the finished reports of passages, in the order sent, each as the format carries it
+abbrev pub finishedIn : Format → Passage → List Report
+finishedIn f silent = []
+finishedIn f (finished g r) = carried f r ∷ []
+finishedIn f (broken n g r) = []
+finishedIn f (reply bytes) = []
+finishedIn f (brokenReply n bytes) = []
+
+abbrev pub finishedReports : Format → List Passage → List Report
+finishedReports f [] = []
+finishedReports f (p ∷ passages) = finishedIn f p ++ finishedReports f passages
+
+-- the reports among answers, and the numbers of reports, one after the other
+abbrev pub handedOut : List Answer → List Report
+handedOut [] = []
+handedOut (answer.Nothing ∷ l) = handedOut l
+handedOut (answer.Report p ∷ l) = p ∷ handedOut l
+handedOut (answer.Dropped k ∷ l) = handedOut l
+
+abbrev pub numbers : List Report → List ℤ
+numbers [] = []
+numbers (p ∷ reports) = fiveOf p ++ numbers reports
+
+-- a long read that took every word of a line and wrote the reports found: no refusal, the counts, and every number of the lent slice after it,
+-- those of the reports and then its old ones
+pub record Took (words : List ℕ) (found : List Report) (before : List ℤ) (b : Reading) (after : List ℤ) : Type 0 where
+  pub refusal : b .refusal ≡ success
+  pub taken : b .taken ≡ length words
+  pub reports : b .reports ≡ length found
+  pub written : after ≡ numbers found ++ drop (5 * length found) before
+
+-- A fresh reader of f, given the words, hands out these reports, in this order, and no others: by steps, and by a long read with room for them.
+pub record HandsOut (f : Format) (words : List ℕ) (found : List Report) : Type 0 where
+  pub by-steps : (a : NewReader) (steps : List Read) → FreshPromise (letterOf f) a → StepsPromise (a .reader) words steps → handedOut (answers steps) ≡ found
+  pub by-read : (a : NewReader) (before after : List ℤ) (b : Reading) → FreshPromise (letterOf f) a → ReadPromise (a .reader) words before b after
+      → 5 * length found ≤ length before
+      → Took words found before b after
+
+-- A fresh reader of f, given the words, answers word i (the first being 0) by the report p; and a long read with room for all that is found takes
+-- every word and writes what is found, p's five numbers behind those of the reports found before word i.
+pub record HandsOutAt (f : Format) (words : List ℕ) (i : ℕ) (p : Report) : Type 0 where
+  pub by-steps : (a : NewReader) (steps : List Read) → FreshPromise (letterOf f) a → StepsPromise (a .reader) words steps → getD (answers steps) i answer.Nothing ≡ answer.Report p
+  pub by-read : (a : NewReader) (steps : List Read) (before after : List ℤ) (b : Reading)
+      → FreshPromise (letterOf f) a
+      → StepsPromise (a .reader) words steps
+      → ReadPromise (a .reader) words before b after
+      → 5 * length (handedOut (answers steps)) ≤ length before
+      → Took words (handedOut (answers steps)) before b after
+      × (take 5 (drop (5 * length (handedOut (take i (answers steps)))) after) ≡ fiveOf p)
+
+-- A line of the format f, `passages` and then `going`; of its words the stretch `old` was replaced by the words `new`; `given` stands in front.
+pub record Replaced (f : Format) (passages : List Passage) (going : Going) (given pre old new post : List ℕ) : Type 0 where
+  pub sound : Sound f passages
+  pub sound-going : SoundGoing f going
+  pub in-front : Given given
+  pub as-sent : passageWords passages ++ goingWords going ≡ pre ++ (old ++ post)
+  pub legal : Legal new
+
+-- A line of the format f of which one report lost bytes, neighbours or not, and nothing else: what was sent, `passages` and then `going`; the words
+-- that are left; and the passages other than that report. Of a finished report one byte or more is missing; of a broken-off one, or of the one
+-- that is going, any number is, or none.
+pub data Lost (f : Format) : List Passage → Going → List ℕ → List Passage → Type 0 where
+  of-finished : (before after : List Passage) (going : Going) (r : Report) (left : List ℕ) → Sub left (bytesOf f r) → length left < sizeOf f
+      → Lost f (before ++ (finished f r ∷ after)) going (passageWords before ++ (left ++ (passageWords after ++ goingWords going))) (before ++ after)
+  of-broken : (before after : List Passage) (going : Going) (n : ℕ) (r : Report) (left : List ℕ) → Sub left (take n (bytesOf f r))
+      → Lost f (before ++ (broken n f r ∷ after)) going (passageWords before ++ (left ++ (break ∷ (passageWords after ++ goingWords going)))) (before ++ after)
+  of-going : (passages : List Passage) (n : ℕ) (r : Report) (left : List ℕ) → Sub left (take n (bytesOf f r))
+      → Lost f passages (report n f r) (passageWords passages ++ left) passages

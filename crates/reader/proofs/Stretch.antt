@@ -1,0 +1,124 @@
+-- A line of one format with a stretch replaced, or with a report that lost bytes: what its frame hands out, the reader hands out.
+use Prim.Native.Nat.{ℕ, suc, _+_, _-_, _≤_, _<_}
+use mathlib.Core.Path.{_≡_, _∙_}
+use mathlib.Core.Bool.{true}
+use mathlib.Core.List.{List, [], _∷_, _++_, append-assoc}
+use native.Mathlib.Omega.{arith}
+use lib.ListN.{length, take, length-append}
+use Rattle.wire.specs.Line.{break, sizeOf, markedOf}
+use Rattle.wire.specs.Table.{bytesOf}
+use Rattle.wire.specs.Holds.{accepted, carried}
+use Rattle.wire.specs.Reading.{reportOf}
+use Rattle.wire.specs.Passages.{Passage, silent, finished, broken, passageWords, Going, report, goingWords}
+use Rattle.wire.specs.declared.Report.{Report}
+use Rattle.wire.specs.declared.Format.{Format}
+use Rattle.wire.proofs.Codec.{bytes-length, there}
+use Rattle.frames.specs.Line.{Sub, none, gone, stays, words}
+use Rattle.frames.specs.Frame as frame
+use Rattle.frames.proofs.Replaced as replaced
+use Rattle.reader.proofs.Lines.{Legal, Given, Sound, SoundGoing, Unbroken, finishedReports, HandsOut, HandsOutAt, Replaced}
+use Rattle.reader.proofs.Framed.{frameOf, two, laws, is-marked}
+use Rattle.reader.proofs.Segments.{legal-append, legal-replaced, segments, segments-append, same-words, words-append, calm, whole-report, part-report, sound, sound-going, same-finished, sound-left, sound-right, finished-append, fits-legal, passages-legal, line-legal}
+use Rattle.reader.proofs.Handed.{hands-out, hands-out-at, behind-given, read-given, given-legal}
+
+-- the finished report r stands on the line between `before` and `after`, and i is the place of its last byte when `old` is replaced by `new`
+module _ (f : Format) (passages : List Passage) (going : Going) (given pre old new post : List ℕ) (l : Replaced f passages going given pre old new post)
+    (before : List Passage) (r : Report) (after : List Passage) (is : passages ≡ before ++ (finished f r ∷ after))
+    (i : ℕ) (place : suc i + length old ≡ length given + length (passageWords before) + sizeOf f + length new) where
+  abbrev rest : List ℕ
+  rest = passageWords after ++ goingWords going
+
+  as-sent : words (segments before) ++ (bytesOf f r ++ rest) ≡ pre ++ (old ++ post)
+  as-sent = rw (same-words before) (simp (is, words-append, append-assoc) at (l .as-sent))
+
+  all-sound : Sound f (before ++ (finished f r ∷ after))
+  all-sound = rw is at (l .sound)
+
+  is-accepted : accepted f r ≡ true
+  is-accepted = sound-right f before (finished f r ∷ after) all-sound .0 .1
+
+  all-legal : Legal (given ++ (pre ++ (new ++ post)))
+  all-legal =
+      legal-append given (pre ++ (new ++ post)) (given-legal (l .in-front))
+      (legal-replaced pre old post new (rw (l .as-sent) at (line-legal f passages going (l .sound) (l .sound-going))) (l .legal))
+
+  handed : length pre + length old ≤ length (passageWords before)
+      → ((j : ℕ) → suc j + length old ≡ length (words (segments before)) + length (bytesOf f r) + length new
+      → replaced.Handed (frameOf f) (pre ++ (new ++ post)) j (reportOf f (bytesOf f r)))
+      → HandsOutAt f (given ++ (pre ++ (new ++ post))) i (carried f r)
+  handed h k =
+      let size = two f in
+      let j = i - length given in
+      let split : length given + j ≡ i = omega arith in
+      hands-out-at f (given ++ (pre ++ (new ++ post))) all-legal i (carried f r)
+      (rw (split, there f r is-accepted) at
+      (behind-given f (l .in-front) (pre ++ (new ++ post)) j (reportOf f (bytesOf f r)) (k j (rw (same-words before, bytes-length f r) (omega arith)))))
+
+  pub by-mark : markedOf f ≡ true → length pre + length old ≤ length (passageWords before) → HandsOutAt f (given ++ (pre ++ (new ++ post))) i (carried f r)
+  by-mark m h =
+      handed h
+      (λ j at.
+      replaced.marked (frameOf f) (segments before) (bytesOf f r) (whole-report f r is-accepted) rest pre old post new as-sent j at (is-marked f m)
+      (rw (same-words before) h))
+
+  pub by-silence : (front quiet : List Passage) → before ≡ front ++ (silent ∷ quiet) → Unbroken quiet → length pre + length old ≤ length (passageWords front)
+      → HandsOutAt f (given ++ (pre ++ (new ++ post))) i (carried f r)
+  by-silence front quiet e u h =
+      let before-sound : Sound f (front ++ (silent ∷ quiet)) = rw e at (sound-left f before (finished f r ∷ after) all-sound) in
+      let longer : length (passageWords front) ≤ length (passageWords before) = rw (e, words-append, length-append) (omega arith) in
+      handed (omega arith)
+      (λ j at.
+      replaced.unmarked (frameOf f) (segments before) (bytesOf f r) (whole-report f r is-accepted) rest pre old post new as-sent j at (laws f)
+      (segments front) (segments quiet) (rw (e, segments-append)) (sound f quiet (sound-right f front (silent ∷ quiet) before-sound .1)) (calm quiet u)
+      (rw (same-words front) h))
+
+-- what is left of bytes is legal
+legal-left : {left bytes : List ℕ} → Sub left bytes → Legal bytes → Legal left
+legal-left none h = h
+legal-left (gone d) h = legal-left d (h .1)
+legal-left (stays d) h = (h .0, legal-left d (h .1))
+
+-- a line in a marked format, of which a report lost bytes
+module _ (f : Format) (m : markedOf f ≡ true) (given : List ℕ) (v : Given given) where
+  -- what the frame hands out of legal words, behind what is given
+  alone : (words : List ℕ) (others : List Passage) → Legal words → frame.read (frameOf f) (frame.fresh (frameOf f)) words ≡ finishedReports f others
+      → HandsOut f (given ++ words) (finishedReports f others)
+  alone words others h e = hands-out f (given ++ words) (legal-append given words (given-legal v) h) (finishedReports f others) (read-given f v words ∙ e)
+
+  pub lost-finished : (before after : List Passage) (going : Going) (r : Report) (left : List ℕ)
+      → Sound f (before ++ (finished f r ∷ after)) → SoundGoing f going → Sub left (bytesOf f r) → length left < sizeOf f
+      → HandsOut f (given ++ (passageWords before ++ (left ++ (passageWords after ++ goingWords going)))) (finishedReports f (before ++ after))
+  lost-finished before after going r left s g d h =
+      let b = sound-left f before (finished f r ∷ after) s in
+      let t = sound-right f before (finished f r ∷ after) s in
+      let p = whole-report f r (t .0 .1) in
+      alone (passageWords before ++ (left ++ (passageWords after ++ goingWords going))) (before ++ after)
+      (legal-append (passageWords before) (left ++ (passageWords after ++ goingWords going)) (passages-legal f before b)
+      (legal-append left (passageWords after ++ goingWords going) (legal-left d (fits-legal f [] (bytesOf f r) (p .0))) (line-legal f after going (t .1) g)))
+      (rw (← same-words before, ← same-words after, finished-append f before after, ← same-finished f before b, ← same-finished f after (t .1))
+      (replaced.removed (frameOf f) (is-marked f m) (segments before) (sound f before b) (bytesOf f r) left (segments after) (goingWords going)
+      p d (rw (bytes-length f r) h) (sound f after (t .1)) (sound-going f going g)))
+
+  pub lost-broken : (before after : List Passage) (going : Going) (n : ℕ) (r : Report) (left : List ℕ)
+      → Sound f (before ++ (broken n f r ∷ after)) → SoundGoing f going → Sub left (take n (bytesOf f r))
+      → HandsOut f (given ++ (passageWords before ++ (left ++ (break ∷ (passageWords after ++ goingWords going))))) (finishedReports f (before ++ after))
+  lost-broken before after going n r left s g d =
+      let b = sound-left f before (broken n f r ∷ after) s in
+      let t = sound-right f before (broken n f r ∷ after) s in
+      let p = part-report f n r (t .0 .1) (t .0 .2) in
+      alone (passageWords before ++ (left ++ (break ∷ (passageWords after ++ goingWords going)))) (before ++ after)
+      (legal-append (passageWords before) (left ++ (break ∷ (passageWords after ++ goingWords going))) (passages-legal f before b)
+      (legal-append left (break ∷ (passageWords after ++ goingWords going)) (legal-left d (fits-legal f [] (take n (bytesOf f r)) (p .0)))
+      (omega arith, line-legal f after going (t .1) g)))
+      (rw (← same-words before, ← same-words after, finished-append f before after, ← same-finished f before b, ← same-finished f after (t .1))
+      (replaced.removed-cut (frameOf f) (is-marked f m) (segments before) (sound f before b) (take n (bytesOf f r)) left (segments after) (goingWords going)
+      p d (sound f after (t .1)) (sound-going f going g)))
+
+  pub lost-going : (passages : List Passage) (n : ℕ) (r : Report) (left : List ℕ) → Sound f passages → SoundGoing f (report n f r) → Sub left (take n (bytesOf f r))
+      → HandsOut f (given ++ (passageWords passages ++ left)) (finishedReports f passages)
+  lost-going passages n r left s g d =
+      let p = sound-going f (report n f r) g in
+      alone (passageWords passages ++ left) passages
+      (legal-append (passageWords passages) left (passages-legal f passages s) (legal-left d (fits-legal f [] (take n (bytesOf f r)) (p .0))))
+      (rw (← same-words passages, ← same-finished f passages s)
+      (replaced.removed-going (frameOf f) (is-marked f m) (segments passages) (sound f passages s) (take n (bytesOf f r)) left p d))
