@@ -1,0 +1,3 @@
+-- A run of the box, and its history.
+pub mod Runs
+pub mod History
