@@ -1,21 +1,20 @@
 -- What is latched is held to the format's limits, so the encoder accepts it.
 use Prim.Native.Nat.{ℕ, _<_, _≤_}
-use mathlib.Core.Path.{_≡_, refl, sym, ap, _∙_}
-use mathlib.Core.Bool.{Bool, true, false, cond, _&&_}
+use mathlib.Core.Path.{_≡_, refl}
+use mathlib.Core.Bool.{Bool, true, false, cond}
 use native.Mathlib.Omega.{arith}
-use lib.Dec.{T, eqb, leb}
+use lib.Dec.{eqb}
 use lib.IntN.{ℤ, pos, negsuc}
-use lib.ListN.{length, drop, replicate}
+use lib.ListN.{length, drop}
 use lib.Signed.{leZ}
-use mathlib.Core.List.{List, [], _∷_, _++_}
+use mathlib.Core.List.{List, [], _++_}
 use borrow.Author.Tests.{leb-true, le-leb, le-ltb}
 use Rattle.numbers.specs.Signed.{held}
 use Rattle.numbers.proofs.Held.{held-inside}
-use Rattle.numbers.proofs.Tested.{left, right, holds}
+use Rattle.numbers.proofs.Tested.{left, right, holds as so}
 use Rattle.wire.specs.Line.{letterOf, namedBy, sizeBy, sizeOf}
 use Rattle.wire.specs.Table.{five, bytesOf, bytesS, bytesV, bytesA, bytesB, bytesU, bytesT, bytesW, rowsV, rowsA, rowsW}
-use Rattle.wire.specs.Holds.{within, xRange, yRange, secondRange, pressable, accepted}
-use Rattle.wire.specs.Holds as Holds
+use Rattle.wire.specs.Holds.{within, xRange, yRange, secondRange, pressable, holds, accepted}
 use Rattle.wire.specs.Encoder.{encodeIn, encodeOf}
 use Rattle.wire.specs.declared.Named.the-variants.{Known}
 use Rattle.wire.proofs.Front.{size-small}
@@ -25,12 +24,12 @@ use Rattle.wire.specs.declared.Report.{Report}
 use Rattle.wire.specs.declared.Format.{Format}
 use Rattle.wire.specs.declared.Format.the-variants.{Mm, Microsoft, Absolute, Relative, FiveByte, ThreeByte, Hexadecimal}
 use Rattle.wire.proofs.Codec.{bytes-length}
-use Rattle.wire.proofs.Codec.Accepted.{Parts, whole, one-pair}
+use Rattle.wire.proofs.Codec.Accepted.{whole, one-pair}
 use Rattle.ballbox.specs.Motion.{isA}
 use Rattle.ballbox.specs.Latching.{limits, limited, taken, movement, acceptedBy, bytesBy, latchedReport, secondOnly}
-use Rattle.ballbox.specs.declared.Pair.{Pair}
 use Rattle.ballbox.specs.declared.Track.{Track}
 use Rattle.ballbox.specs.declared.BallBox.{BallBox}
+use Rattle.ballbox.proofs.Tests.{both}
 use Rattle.ballbox.proofs.Letters.{Lettered, known, unknown, lettered}
 
 -- a wider range holds what a narrower one holds
@@ -38,12 +37,9 @@ below : (a b c : ℤ) → leZ a b ≡ true → leZ b c ≡ true → leZ a c ≡ 
 below (pos a) (pos b) (pos c) h k = le-leb a c (omega (arith, leb-true a b h, leb-true b c k))
 below (negsuc a) (negsuc b) (negsuc c) h k = le-leb c a (omega (arith, leb-true b a h, leb-true c b k))
 below (negsuc a) b (pos c) h k = refl
-below (pos a) (pos b) (negsuc c) h k = absurd (holds k)
-below (pos a) (negsuc b) c h k = absurd (holds h)
-below (negsuc a) (pos b) (negsuc c) h k = absurd (holds k)
-
-both : (a b : Bool) → a ≡ true → b ≡ true → a && b ≡ true
-both a b h k = rw (h, k)
+below (pos a) (pos b) (negsuc c) h k = absurd (so k)
+below (pos a) (negsuc b) c h k = absurd (so h)
+below (negsuc a) (pos b) (negsuc c) h k = absurd (so k)
 
 pub wider : (r s : Range) (v : ℤ) → leZ (s .low) (r .low) ≡ true → leZ (r .high) (s .high) ≡ true → within r v ≡ true → within s v ≡ true
 wider r s v h k e =
@@ -73,7 +69,7 @@ pair-accepted FiveByte n x y p h k = whole FiveByte (report n x y) (record { pre
 pair-accepted ThreeByte n x y p h k = whole ThreeByte (report n x y) (one-pair ThreeByte refl p (wider (limits 0x54) (xRange ThreeByte) x refl refl h) (wider (limits 0x54) (yRange ThreeByte) y refl refl k))
 pair-accepted Hexadecimal n x y p h k = whole Hexadecimal (report n x y) (one-pair Hexadecimal refl p (wider (limits 0x57) (xRange Hexadecimal) x refl refl h) (wider (limits 0x57) (yRange Hexadecimal) y refl refl k))
 
-named : (f : Format) → namedBy (letterOf f) ≡ Known f
+pub named : (f : Format) → namedBy (letterOf f) ≡ Known f
 unfolding namedBy
 named Mm = refl
 named Microsoft = refl
@@ -86,7 +82,7 @@ named Hexadecimal = refl
 by-letter : (letter n : ℕ) (x y : ℤ) → n < 8 → within (limits letter) x ≡ true → within (limits letter) y ≡ true → Lettered letter → acceptedBy letter (report n x y) ≡ true
 unfolding acceptedBy
 by-letter letter n x y p h k (known f e) = rw (e, named f) (pair-accepted f n x y p (rw e at h) (rw e at k))
-by-letter letter n x y p h k (unknown e) = rw e
+by-letter letter n x y p h k (unknown e none) = rw e
 
 -- what is latched is accepted, whatever the letter
 pub latched-accepted : (b : BallBox) → b .settings .buttons ≤ 7 → acceptedBy (b .settings .format) (latchedReport b) ≡ true
@@ -107,7 +103,7 @@ second-accepted t =
 length-in : (letter : ℕ) (r : Report) → Lettered letter → length (bytesBy letter r) ≡ sizeBy letter
 unfolding bytesBy sizeBy
 length-in letter r (known f e) = rw (e, named f) (bytes-length f r)
-length-in letter r (unknown e) = rw e
+length-in letter r (unknown e none) = rw e
 
 pub bytes-by-length : (letter : ℕ) (r : Report) → length (bytesBy letter r) ≡ sizeBy letter
 bytes-by-length letter r = length-in letter r (lettered letter)
@@ -115,7 +111,7 @@ bytes-by-length letter r = length-in letter r (lettered letter)
 small-in : (letter : ℕ) → Lettered letter → sizeBy letter ≤ 5
 unfolding sizeBy
 small-in letter (known f e) = rw (e, named f) (size-small f)
-small-in letter (unknown e) = rw e (omega arith)
+small-in letter (unknown e none) = rw e (omega arith)
 
 pub size-by-small : (letter : ℕ) → sizeBy letter ≤ 5
 size-by-small letter = small-in letter (lettered letter)
@@ -137,12 +133,12 @@ five-bytes Hexadecimal r = refl
 known-bytes : (f : Format) (r : Report) → accepted f r ≡ true → encodeIn (Known f) r blank .buffer ≡ five (bytesOf f r)
 unfolding encodeIn accepted
 known-bytes f r a =
-    rw (left (pressable r) (Holds.holds f r) a, right (pressable r) (Holds.holds f r) a, le-ltb 5 (sizeOf f) (size-small f)) (five-bytes f r)
+    rw (left (pressable r) (holds f r) a, right (pressable r) (holds f r) a, le-ltb 5 (sizeOf f) (size-small f)) (five-bytes f r)
 
 bytes-in : (letter : ℕ) (r : Report) → Lettered letter → acceptedBy letter r ≡ true → encodeOf letter r blank .buffer ≡ five (bytesBy letter r)
 unfolding acceptedBy bytesBy encodeIn
 bytes-in letter r (known f e) a = rw (e, named f) (known-bytes f r (rw (e, named f) at a))
-bytes-in letter r (unknown e) a = rw e
+bytes-in letter r (unknown e none) a = rw e
 
 pub encoded-bytes : (letter : ℕ) (r : Report) → acceptedBy letter r ≡ true → encodeOf letter r blank .buffer ≡ five (bytesBy letter r)
 encoded-bytes letter r a = bytes-in letter r (lettered letter) a

@@ -16,7 +16,7 @@ use Rattle.ballbox.specs.declared.Command.the-variants.{Ignored}
 -- a letter is that of a format, or names none
 pub data Lettered (letter : ℕ) : Type 0 where
   known : (f : Format) → letter ≡ letterOf f → Lettered letter
-  unknown : namedBy letter ≡ Unknown → Lettered letter
+  unknown : namedBy letter ≡ Unknown → isFormat letter ≡ false → Lettered letter
 
 told : (l : ℕ) (s v a b u t w : Bool) → eqb l (letterOf Mm) ≡ s → eqb l (letterOf Microsoft) ≡ v → eqb l (letterOf Absolute) ≡ a → eqb l (letterOf Relative) ≡ b → eqb l (letterOf FiveByte) ≡ u → eqb l (letterOf ThreeByte) ≡ t → eqb l (letterOf Hexadecimal) ≡ w → Lettered l
 unfolding namedBy
@@ -27,7 +27,7 @@ told l false false false true u t w es ev ea eb eu et ew = known Relative (eqb-t
 told l false false false false true t w es ev ea eb eu et ew = known FiveByte (eqb-true _ _ eu)
 told l false false false false false true w es ev ea eb eu et ew = known ThreeByte (eqb-true _ _ et)
 told l false false false false false false true es ev ea eb eu et ew = known Hexadecimal (eqb-true _ _ ew)
-told l false false false false false false false es ev ea eb eu et ew = unknown (simp (es, ev, ea, eb, eu, et, ew))
+told l false false false false false false false es ev ea eb eu et ew = unknown (simp (es, ev, ea, eb, eu, et, ew)) (simp (es, ev, ea, eb, eu, et, ew))
 
 pub lettered : (l : ℕ) → Lettered l
 lettered l = told l _ _ _ _ _ _ _ refl refl refl refl refl refl refl
