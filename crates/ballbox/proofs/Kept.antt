@@ -412,7 +412,7 @@ asleep-good b (Host n) g = woken-good b g
 asleep-good b Slot g = g
 asleep-good b Period g = g
 
-stepped-good : (b : BallBox) (e : Event) → good b ≡ true → good (stepOf b e .next) ≡ true
+pub stepped-good : (b : BallBox) (e : Event) → good b ≡ true → good (stepOf b e .next) ≡ true
 unfolding stepOf
 stepped-good b e g =
     let p = parts b g in

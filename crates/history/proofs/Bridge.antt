@@ -27,7 +27,7 @@ use Rattle.history.proofs.Hosts.{host-busy, host-idle}
 quiet : (b c : BallBox) (g : Going) → c .going ≡ b .going → c .settings .format ≡ b .settings .format → c .dormant ≡ b .dormant → Carries b g → Sends (box.quietly c) g (told [] g)
 quiet b c g l f d h = record { words = append-nil (goingWords g); carries = same-line g b c l f d h }
 
-buttons-line : (n : ℕ) (b : BallBox) → (onButtons n b .going ≡ b .going) × (onButtons n b .settings .format ≡ b .settings .format) × (onButtons n b .dormant ≡ b .dormant)
+pub buttons-line : (n : ℕ) (b : BallBox) → (onButtons n b .going ≡ b .going) × (onButtons n b .settings .format ≡ b .settings .format) × (onButtons n b .dormant ≡ b .dormant)
 unfolding onButtons
 buttons-line n b = go (eqb n (b .settings .buttons)) refl
   where
@@ -72,11 +72,11 @@ asleep-sends b e (report n f r) d h = absurd (holds (sym (h .rightly .awake) ∙
 asleep-sends b e (answer n bytes) d h = absurd (holds (sym (h .rightly .awake) ∙ d))
 
 -- every step of a good box
-step-is : (b : BallBox) (e : Event) (s : Bool) → good b ≡ true → aboveSeven e ≡ false → b .dormant ≡ s → stepOf b e ≡ cond s (asleep b e) (awake b e)
+pub step-is : (b : BallBox) (e : Event) (s : Bool) → good b ≡ true → aboveSeven e ≡ false → b .dormant ≡ s → stepOf b e ≡ cond s (asleep b e) (awake b e)
 unfolding stepOf
 step-is b e s k p q = rw (k, p) (ap (λ (t : Bool). cond t (asleep b e) (awake b e)) q)
 
-told-is : (b : BallBox) (e : Event) (g : Going) (s : Bool) → aboveSeven e ≡ false → b .dormant ≡ s → toldBy b e g ≡ cond s (whenAsleep b e g) (whenAwake b e g)
+pub told-is : (b : BallBox) (e : Event) (g : Going) (s : Bool) → aboveSeven e ≡ false → b .dormant ≡ s → toldBy b e g ≡ cond s (whenAsleep b e g) (whenAwake b e g)
 unfolding toldBy
 told-is b e g s p q = rw p (ap (λ (t : Bool). cond t (whenAsleep b e g) (whenAwake b e g)) q)
 

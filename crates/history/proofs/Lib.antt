@@ -3,3 +3,4 @@ pub mod Carries
 pub mod Slots
 pub mod Hosts
 pub mod Bridge
+pub mod Asking

@@ -115,7 +115,7 @@ unfolding limits
 pair-within v =
     wider (limits (letterOf FiveByte)) (secondRange FiveByte) (limited (letterOf FiveByte) v) refl refl (limited-within (letterOf FiveByte) v)
 
-pair-accepted : (t : Track) (r : Report) → accepted FiveByte r ≡ true → accepted FiveByte (withPair (taken (letterOf FiveByte) t) r) ≡ true
+pub pair-accepted : (t : Track) (r : Report) → accepted FiveByte r ≡ true → accepted FiveByte (withPair (taken (letterOf FiveByte) t) r) ≡ true
 unfolding taken
 pair-accepted t r a =
     let p = parts FiveByte r a in
@@ -135,7 +135,7 @@ pair-behind : (p : Pair) (r : Report) → take 3 (bytesOf FiveByte (withPair p r
 unfolding bytesU
 pair-behind p r = refl
 
-five-is : (f : Format) → isFive f ≡ true → f ≡ FiveByte
+pub five-is : (f : Format) → isFive f ≡ true → f ≡ FiveByte
 five-is Mm e = absurd (holds e)
 five-is Microsoft e = absurd (holds e)
 five-is Absolute e = absurd (holds e)
@@ -252,7 +252,7 @@ unfolding acceptedBy
 accepted-known l f r e a = rw (e, letter-named f) at a
 
 -- a report is latched, and none of its bytes has gone
-latched-carries : (b : BallBox) → good b ≡ true → b .dormant ≡ false → Carries (latched b) (report 0 (formatOf b) (latchedReport b))
+pub latched-carries : (b : BallBox) → good b ≡ true → b .dormant ≡ false → Carries (latched b) (report 0 (formatOf b) (latchedReport b))
 unfolding latched goingFrom
 latched-carries b g d =
     let f = formatOf b in
@@ -270,7 +270,7 @@ latched-carries b g d =
     }
 
 -- a report of which nothing has gone has its second pair to come
-not-yet : (b : BallBox) (f : Format) (r : Report) → paired b (report 0 f r) ≡ report 0 f r
+pub not-yet : (b : BallBox) (f : Format) (r : Report) → paired b (report 0 f r) ≡ report 0 f r
 not-yet b f r = rw (no-second (isFive f) (eqb 0 3) refl)
 
 -- a slot of a box that has none

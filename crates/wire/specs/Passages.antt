@@ -1,11 +1,13 @@
 -- What stands on a line: silences, reports and replies, each whole or broken off, and at the end what is going.
 use Prim.Native.Nat.{ℕ, _+_, _<_}
-use mathlib.Core.Bool.{cond}
+use mathlib.Core.Path.{_≡_}
+use mathlib.Core.Bool.{true, cond}
 use mathlib.Core.List.{List, [], _∷_, _++_}
 use lib.ListN.{length, getD, take}
 use lib.Dec.{eqb}
 use Rattle.wire.specs.Line.{break, silence, sizeOf}
 use Rattle.wire.specs.Table.{bytesOf}
+use Rattle.wire.specs.Holds.{accepted, carried}
 use Rattle.wire.specs.declared.Report.{Report}
 use Rattle.wire.specs.declared.Format.{Format}
 
@@ -41,6 +43,45 @@ goingWords (answer n bytes) = take n bytes
 abbrev pub passageWords : List Passage → List ℕ
 passageWords [] = []
 passageWords (p ∷ passages) = wordsOf p ++ passageWords passages
+
+-- a passage of the format f: a silence, or a report that f holds, finished or broken off before its last byte
+abbrev pub SoundOf : Format → Passage → Type 0
+SoundOf f silent = Unit {0}
+SoundOf f (finished g r) = (g ≡ f) × (accepted f r ≡ true)
+SoundOf f (broken n g r) = (g ≡ f) × (accepted f r ≡ true) × (n < sizeOf f)
+SoundOf f (reply bytes) = ⊥
+SoundOf f (brokenReply n bytes) = ⊥
+
+abbrev pub Sound : Format → List Passage → Type 0
+Sound f [] = Unit {0}
+Sound f (p ∷ passages) = SoundOf f p × Sound f passages
+
+-- what is going: nothing, or a report that f holds, before its last byte
+abbrev pub SoundGoing : Format → Going → Type 0
+SoundGoing f nothing = Unit {0}
+SoundGoing f (report n g r) = (g ≡ f) × (accepted f r ≡ true) × (n < sizeOf f)
+SoundGoing f (answer n bytes) = ⊥
+
+-- no passage is broken off
+abbrev pub Unbroken : List Passage → Type 0
+Unbroken [] = Unit {0}
+Unbroken (silent ∷ passages) = Unbroken passages
+Unbroken (finished f r ∷ passages) = Unbroken passages
+Unbroken (broken n f r ∷ passages) = ⊥
+Unbroken (reply bytes ∷ passages) = Unbroken passages
+Unbroken (brokenReply n bytes ∷ passages) = ⊥
+
+-- the finished reports of passages, in the order sent, each as the format carries it
+abbrev pub finishedIn : Format → Passage → List Report
+finishedIn f silent = []
+finishedIn f (finished g r) = carried f r ∷ []
+finishedIn f (broken n g r) = []
+finishedIn f (reply bytes) = []
+finishedIn f (brokenReply n bytes) = []
+
+abbrev pub finishedReports : Format → List Passage → List Report
+finishedReports f [] = []
+finishedReports f (p ∷ passages) = finishedIn f p ++ finishedReports f passages
 
 -- what a step of a sender does to its line: the passages that it ends, and what is going then
 pub record Told : Type 0 where
