@@ -117,7 +117,7 @@ sending-alike b = go (bytesLeft b) refl
     go true e = rw e (let k = ready-alike b in record { format = k .format; dormant = k .dormant })
     go false e = rw e (alike b)
 
-dropped-alike : (b : BallBox) → Alike b (dropped b)
+pub dropped-alike : (b : BallBox) → Alike b (dropped b)
 unfolding dropped
 dropped-alike b = either-alike b (box.withGoing box.nothing b) b (bytesLeft b) (record { format = refl; dormant = refl }) (alike b)
 
@@ -207,14 +207,16 @@ asked-step : (f : Format) (b : BallBox) (e : Event) (g : Going) → asks e ≡ t
 asked-step f b e g a h = go (aboveSeven e) refl
   where
     next : Alike b (stepOf b e .next) → Sound f (toldBy b e g .passages) × SoundGoing f (toldBy b e g .going) → Sound f (toldBy b e g .passages) × SetTo f (nextBox b e) (toldBy b e g .going)
-    next l s =
-        (s .0, record {
-          good = stepped-good b e (h .good);
-          awake = l .dormant ∙ h .awake;
-          format = l .format ∙ h .format;
-          carries = step-sends b e g (h .good) (h .carries) .carries;
-          sound = s .1;
-        })
+    next l s = (
+      s .0,
+      record {
+        good = stepped-good b e (h .good);
+        awake = l .dormant ∙ h .awake;
+        format = l .format ∙ h .format;
+        carries = step-sends b e g (h .good) (h .carries) .carries;
+        sound = s .1;
+      },
+    )
 
     go : (t : Bool) → aboveSeven e ≡ t → Sound f (toldBy b e g .passages) × SetTo f (nextBox b e) (toldBy b e g .going)
     go true p = next (rw (refused-next b e (h .good) p) (alike b)) (rw (refused-told b e g p) (tt, h .sound))

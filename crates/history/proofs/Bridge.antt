@@ -1,6 +1,6 @@
 -- The bridge: from any good box with nothing going, over every list of events, the words of a run are the words of its passages.
 use Prim.Native.Nat.{ℕ}
-use mathlib.Core.Path.{_≡_, refl, sym, _∙_, ap}
+use mathlib.Core.Path.{_≡_, refl, sym, _∙_, ap, ap₂}
 use mathlib.Core.Bool.{Bool, true, false, cond}
 use mathlib.Core.List.{List, [], _∷_, _++_, append-nil}
 use lib.Dec.{T, eqb, lit<, lit≤}
@@ -10,13 +10,14 @@ use Rattle.wire.specs.Passages.{Going, nothing, report, answer, goingWords, pas
 use Rattle.wire.proofs.Sender.{bridge}
 use Rattle.ballbox.specs.Box as box
 use Rattle.ballbox.specs.Box.{goingFrom}
-use Rattle.ballbox.specs.Events.{onButtons, onPeriod, awake, asleep, woken}
+use Rattle.ballbox.specs.Events.{bytesLeft, onButtons, onPeriod, awake, asleep, woken}
 use Rattle.ballbox.specs.Good.{good}
 use Rattle.ballbox.specs.Promises.{wordsOf, answerOf, aboveSeven, stepOf, StepPromise}
 use Rattle.ballbox.specs.declared.BallBox.{BallBox}
 use Rattle.ballbox.specs.declared.Stepped.{Stepped}
 use Rattle.ballbox.specs.declared.Event.{Event}
 use Rattle.ballbox.specs.declared.Event.the-variants.{Motion, Buttons, Host, Slot, Period}
+use Rattle.ballbox.proofs.Kept.{stepped-good}
 use Rattle.history.specs.Runs.{RunPromise, wordsGiven}
 use Rattle.history.specs.History.{whenAwake, whenAsleep, toldBy, nextBox, passagesOf, goingAfter}
 use Rattle.history.proofs.Carries.{Carries, same-line, Sends}
@@ -96,10 +97,24 @@ step-sends b e g k h = go (aboveSeven e) refl (b .dormant) refl
 abbrev Holds : BallBox → Going → Type 0
 Holds b g = (good b ≡ true) × Carries b g
 
-module _ (stays : (b : BallBox) (e : Event) → good b ≡ true → good (stepOf b e .next) ≡ true) where
-  step : (b : BallBox) (e : Event) (g : Going) → Holds b g → (goingWords g ++ stepOf b e .words ≡ passageWords (toldBy b e g .passages) ++ goingWords (toldBy b e g .going)) × Holds (nextBox b e) (toldBy b e g .going)
-  step b e g h = let s = step-sends b e g (h .0) (h .1) in (s .words, (stays b e (h .0), s .carries))
+step : (b : BallBox) (e : Event) (g : Going) → Holds b g → (goingWords g ++ stepOf b e .words ≡ passageWords (toldBy b e g .passages) ++ goingWords (toldBy b e g .going)) × Holds (nextBox b e) (toldBy b e g .going)
+step b e g h = let s = step-sends b e g (h .0) (h .1) in (s .words, (stepped-good b e (h .0), s .carries))
 
-  -- the words of a run, by the rules
-  pub rules-bridge : (b : BallBox) (events : List Event) → good b ≡ true → b .going ≡ box.nothing → givenOver nextBox (λ b e. stepOf b e .words) b events ≡ passageWords (passagesOf b nothing events) ++ goingWords (goingAfter b nothing events)
-  rules-bridge b events k h = bridge nextBox (λ b e. stepOf b e .words) toldBy Holds step b nothing events (k, record { line = h; rightly = tt })
+rules-bridge : (b : BallBox) (events : List Event) → good b ≡ true → bytesLeft b ≡ false → givenOver nextBox (λ b e. stepOf b e .words) b events ≡ passageWords (passagesOf b nothing events) ++ goingWords (goingAfter b nothing events)
+rules-bridge b events k h =
+    bridge nextBox (λ b e. stepOf b e .words) toldBy Holds step b nothing events (k, record { line = h; rightly = tt })
+
+-- any answers that the promise permits give the words of the rules
+permitted : (b : BallBox) (events : List Event) (answers : List Stepped) → RunPromise b events answers → wordsGiven answers ≡ givenOver nextBox (λ b e. stepOf b e .words) b events
+unfolding RunPromise givenOver
+permitted b [] [] p = refl
+permitted b [] (a ∷ answers) p = absurd p
+permitted b (e ∷ events) [] p = absurd p
+permitted b (e ∷ events) (a ∷ answers) p =
+    let n : a .next ≡ nextBox b e = ap (λ (x : box.Answer). x .next) (p .0) in
+    ap₂ _++_ (ap (λ (x : box.Answer). x .words) (p .0))
+    (permitted (a .next) events answers (p .1) ∙ rw n)
+
+-- The words of a run are the words of its passages and of what is going after them: dormancy, format commands and replies included.
+pub run-passages : (b : BallBox) (events : List Event) (answers : List Stepped) → good b ≡ true → bytesLeft b ≡ false → RunPromise b events answers → wordsGiven answers ≡ passageWords (passagesOf b nothing events) ++ goingWords (goingAfter b nothing events)
+run-passages b events answers k h p = permitted b events answers p ∙ rules-bridge b events k h

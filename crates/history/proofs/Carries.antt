@@ -14,6 +14,7 @@ use Rattle.wire.specs.Passages.{Going, nothing, report, answer, goingWords, pas
 use Rattle.wire.specs.declared.Report.{Report}
 use Rattle.wire.specs.declared.Format.{Format}
 use Rattle.ballbox.specs.Box as box
+use Rattle.ballbox.specs.Events.{bytesLeft}
 use Rattle.ballbox.specs.declared.BallBox.{BallBox}
 use Rattle.ballbox.specs.declared.Going.{Going as Bytes}
 
@@ -40,9 +41,15 @@ Rightly b nothing = Unit {0}
 Rightly b (report n f r) = ReportGoing b n f r
 Rightly b (answer n bytes) = ReplyGoing b n bytes
 
+-- the box has no bytes left, or just these
+abbrev pub OnLine : BallBox → Going → Type 0
+OnLine b nothing = bytesLeft b ≡ false
+OnLine b (report n f r) = b .going ≡ onLine (report n f r)
+OnLine b (answer n bytes) = b .going ≡ onLine (answer n bytes)
+
 -- this is going in the box
 pub record Carries (b : BallBox) (g : Going) : Type 0 where
-  pub line : b .going ≡ onLine g
+  pub line : OnLine b g
   pub rightly : Rightly b g
 
 -- another box with the same line, format and sleep carries the same
@@ -52,8 +59,19 @@ same-rightly (report n f r) b c e d h =
     record { set = e ∙ h .set; left = h .left; right = h .right; awake = d ∙ h .awake }
 same-rightly (answer n bytes) b c e d h = record { left = h .left; short = h .short; awake = d ∙ h .awake }
 
+same-bytes : (g : Going) (b c : BallBox) → c .going ≡ b .going → OnLine b g → OnLine c g
+same-bytes nothing b c l h = rw l h
+same-bytes (report n f r) b c l h = l ∙ h
+same-bytes (answer n bytes) b c l h = l ∙ h
+
 pub same-line : (g : Going) (b c : BallBox) → c .going ≡ b .going → c .settings .format ≡ b .settings .format → c .dormant ≡ b .dormant → Carries b g → Carries c g
-same-line g b c l f d h = record { line = l ∙ h .line; rightly = same-rightly g b c f d (h .rightly) }
+same-line g b c l f d h = record { line = same-bytes g b c l (h .line); rightly = same-rightly g b c f d (h .rightly) }
+
+-- bytes that are on the line
+pub to-line : (g : Going) (b : BallBox) → b .going ≡ onLine g → OnLine b g
+to-line nothing b h = rw h
+to-line (report n f r) b h = h
+to-line (answer n bytes) b h = h
 
 -- a byte of some that are held in five places
 pub at-five : (bytes : List ℕ) (n : ℕ) → n < length bytes → length bytes ≤ 5 → at n (five bytes) ≡ getD bytes n 0

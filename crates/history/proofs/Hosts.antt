@@ -11,13 +11,12 @@ use Rattle.ballbox.specs.Box as box
 use Rattle.ballbox.specs.Box.{goingFrom, withGoing}
 use Rattle.ballbox.specs.Commands.{commandOf, obeyed}
 use Rattle.ballbox.specs.Events.{bytesLeft, dropped, onHost}
-use Rattle.ballbox.specs.Events as events
 use Rattle.ballbox.specs.declared.BallBox.{BallBox}
 use Rattle.ballbox.specs.declared.Going.{Going as Bytes}
 use Rattle.ballbox.specs.declared.Command.{Command}
 use Rattle.ballbox.specs.declared.Command.the-variants.{SetFormat, SetStream, SetPrompt, AskReport, AskAck, AskCode, AskLetters, AskButtons, Sleep, Ignored}
 use Rattle.history.specs.History.{replyTo}
-use Rattle.history.proofs.Carries.{onLine, Carries, Sends}
+use Rattle.history.proofs.Carries.{Carries, Sends}
 use Rattle.history.proofs.Slots.{Busy, bytes-left, idle-left}
 
 -- a reply to be sent, of which nothing has gone
@@ -33,28 +32,28 @@ reply-words b AskButtons = refl
 reply-words b Sleep = refl
 reply-words b Ignored = refl
 
--- what a command leaves, where nothing is going
-obeyed-carries : (b : BallBox) (c : Command) → b .dormant ≡ false → Carries (obeyed c (withGoing box.nothing b)) (replyTo b c)
+-- what a command leaves, where no bytes are left
+obeyed-carries : (b : BallBox) (k : Bytes) (c : Command) → bytesLeft (withGoing k b) ≡ false → b .dormant ≡ false → Carries (obeyed c (withGoing k b)) (replyTo b c)
 unfolding obeyed goingFrom
-obeyed-carries b (SetFormat f) d = record { line = refl; rightly = tt }
-obeyed-carries b (SetStream m) d = record { line = refl; rightly = tt }
-obeyed-carries b SetPrompt d = record { line = refl; rightly = tt }
-obeyed-carries b AskReport d = record { line = refl; rightly = tt }
-obeyed-carries b AskAck d = record { line = refl; rightly = record { left = lit< tt; short = lit≤ tt; awake = d } }
-obeyed-carries b AskCode d = record { line = refl; rightly = record { left = lit< tt; short = lit≤ tt; awake = d } }
-obeyed-carries b AskLetters d = record { line = refl; rightly = record { left = lit< tt; short = lit≤ tt; awake = d } }
-obeyed-carries b AskButtons d = record { line = refl; rightly = record { left = lit< tt; short = lit≤ tt; awake = d } }
-obeyed-carries b Sleep d = record { line = refl; rightly = tt }
-obeyed-carries b Ignored d = record { line = refl; rightly = tt }
+obeyed-carries b k (SetFormat f) e d = record { line = e; rightly = tt }
+obeyed-carries b k (SetStream m) e d = record { line = e; rightly = tt }
+obeyed-carries b k SetPrompt e d = record { line = e; rightly = tt }
+obeyed-carries b k AskReport e d = record { line = e; rightly = tt }
+obeyed-carries b k AskAck e d = record { line = refl; rightly = record { left = lit< tt; short = lit≤ tt; awake = d } }
+obeyed-carries b k AskCode e d = record { line = refl; rightly = record { left = lit< tt; short = lit≤ tt; awake = d } }
+obeyed-carries b k AskLetters e d = record { line = refl; rightly = record { left = lit< tt; short = lit≤ tt; awake = d } }
+obeyed-carries b k AskButtons e d = record { line = refl; rightly = record { left = lit< tt; short = lit≤ tt; awake = d } }
+obeyed-carries b k Sleep e d = record { line = e; rightly = tt }
+obeyed-carries b k Ignored e d = record { line = e; rightly = tt }
 
 -- the box without what was going
 dropped-busy : (b : BallBox) → bytesLeft b ≡ true → dropped b ≡ withGoing box.nothing b
 unfolding dropped
 dropped-busy b e = rw e
 
-dropped-idle : (b : BallBox) → bytesLeft b ≡ false → b .going ≡ box.nothing → dropped b ≡ withGoing box.nothing b
+pub dropped-idle : (b : BallBox) → bytesLeft b ≡ false → dropped b ≡ b
 unfolding dropped
-dropped-idle b e h = rw e (ap (λ (k : Bytes). withGoing k b) h)
+dropped-idle b e = rw e
 
 pub host-idle : (b : BallBox) (byte : ℕ) → b .dormant ≡ false → Carries b nothing → Sends (onHost byte b) nothing (told [] (replyTo b (commandOf byte)))
 unfolding onHost
@@ -62,7 +61,7 @@ host-idle b byte d h =
     let e = idle-left b h in
     record {
       words = rw (e, reply-words b (commandOf byte));
-      carries = rw (dropped-idle b e (h .line)) (obeyed-carries b (commandOf byte) d);
+      carries = rw (dropped-idle b e) (obeyed-carries b (b .going) (commandOf byte) e d);
     }
 
 pub host-busy : (b : BallBox) (byte : ℕ) (g : Going) → Busy g → b .dormant ≡ false → Carries b g → Sends (onHost byte b) g (told (brokenOff g) (replyTo b (commandOf byte)))
@@ -71,7 +70,7 @@ host-busy b byte g y d h =
     let e = bytes-left b g y h in
     record {
       words = rw (e, reply-words b (commandOf byte), append-nil) (breaks g (is-busy g y));
-      carries = rw (dropped-busy b e) (obeyed-carries b (commandOf byte) d);
+      carries = rw (dropped-busy b e) (obeyed-carries b box.nothing (commandOf byte) refl d);
     }
   where
     is-busy : (g : Going) → Busy g → g ≡ nothing → ⊥

@@ -4,3 +4,4 @@ pub mod Slots
 pub mod Hosts
 pub mod Bridge
 pub mod Asking
+pub mod Setting

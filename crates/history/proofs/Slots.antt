@@ -34,7 +34,7 @@ use Rattle.ballbox.specs.Good.{good, goodSettings}
 use Rattle.ballbox.proofs.Accepting.{wider, limited-within, latched-accepted}
 use Rattle.ballbox.proofs.Steps.{parts as good-parts, good-buttons}
 use Rattle.history.specs.History.{begun, formatOf, paired, withPair, isFive}
-use Rattle.history.proofs.Carries.{onLine, ReportGoing, ReplyGoing, Rightly, Carries, at-five, Sends}
+use Rattle.history.proofs.Carries.{onLine, OnLine, Rightly, Carries, to-line, at-five, Sends}
 
 size-small : (f : Format) → (3 ≤ sizeOf f) × (sizeOf f ≤ 5)
 size-small Mm = omega arith
@@ -100,13 +100,20 @@ still-rightly (answer n bytes) b c y h e d = go (eqb (n + 1) (length bytes)) ref
         let k = eqb-false (n + 1) (length bytes) q in
         rw q (record { left = omega arith; short = h .short; awake = d ∙ h .awake })
 
+-- the bytes that the box has
+from-line : (g : Going) (b : BallBox) → Busy g → OnLine b g → b .going ≡ onLine g
+from-line nothing b y h = absurd y
+from-line (report n f r) b y h = h
+from-line (answer n bytes) b y h = h
+
 -- the next byte of what is going goes out
 byte-sends : (b : BallBox) (g : Going) → Busy g → Carries b g → Sends (nextByte b) g (sentOne g)
 unfolding nextByte
 byte-sends b g y h =
+    let l = from-line g b y (h .line) in
     record {
-      words = ap (λ (n : ℕ). goingWords g ++ (n ∷ [])) (ap (λ (k : Bytes). at (k .sent) (k .bytes)) (h .line) ∙ next-byte g y) ∙ sends g (busy-left g y);
-      carries = record { line = ap after (h .line) ∙ after-next g y; rightly = still-rightly g b _ y (h .rightly) refl refl };
+      words = ap (λ (n : ℕ). goingWords g ++ (n ∷ [])) (ap (λ (k : Bytes). at (k .sent) (k .bytes)) l ∙ next-byte g y) ∙ sends g (busy-left g y);
+      carries = record { line = to-line (sentOne g .going) _ (ap after l ∙ after-next g y); rightly = still-rightly g b _ y (h .rightly) refl refl };
     }
 
 -- the second pair of U keeps to its range
@@ -275,7 +282,7 @@ not-yet b f r = rw (no-second (isFive f) (eqb 0 3) refl)
 
 -- a slot of a box that has none
 pub idle-left : (b : BallBox) → Carries b nothing → bytesLeft b ≡ false
-idle-left b h = rw (h .line)
+idle-left b h = h .line
 
 latches : (b : BallBox) → bytesLeft b ≡ false → wanted b ≡ true → latching b ≡ latched b
 unfolding latching
