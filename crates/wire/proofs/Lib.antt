@@ -5,3 +5,4 @@ pub mod Fields
 pub mod FixedBits
 pub mod Front
 pub mod Sums
+pub mod Sender

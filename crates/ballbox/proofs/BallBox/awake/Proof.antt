@@ -1,0 +1,95 @@
+-- `awake`: event by event.
+use borrow.Author.Needs.{needs}
+use mir.Syntax.{w16}
+use mir.Val.{SFits}
+use Rattle.ballbox.specs.Events.{onMotion, awake}
+use Rattle.numbers.proofs.Machine.{passed}
+use Rattle.ballbox.proofs.BallBox.awake.Statement.{statement}
+use Rattle.ballbox.proofs.BallBox.awake.Tie as tie
+
+enum-known-event : tie.Need-enum-known-event
+enum-known-event c = search needs
+
+on-motion-requires : tie.Need-on-motion-requires
+on-motion-requires c κs = search needs
+
+quietly-requires : tie.Need-quietly-requires
+quietly-requires c κs = search needs
+
+enum-known-event-2 : tie.Need-enum-known-event-2
+enum-known-event-2 c = search needs
+
+on-buttons-requires : tie.Need-on-buttons-requires
+on-buttons-requires c κs = search needs
+
+quietly-requires-2 : tie.Need-quietly-requires-2
+quietly-requires-2 c κs = search needs
+
+enum-known-event-3 : tie.Need-enum-known-event-3
+enum-known-event-3 c = search needs
+
+on-host-requires : tie.Need-on-host-requires
+on-host-requires c κs = search needs
+
+enum-told : tie.Need-enum-told
+enum-told c = search needs
+
+on-slot-requires : tie.Need-on-slot-requires
+on-slot-requires c κs = c .before .before .pre
+
+enum-told-2 : tie.Need-enum-told-2
+enum-told-2 c = search needs
+
+on-period-requires : tie.Need-on-period-requires
+on-period-requires c κs = search needs
+
+quietly-requires-3 : tie.Need-quietly-requires-3
+quietly-requires-3 c κs = search needs
+
+returns : tie.Need-returns
+unfolding awake
+returns c =
+    let d = c .before .before .before .event .given .0 in
+    let x : SFits w16 (d .0) = search needs in
+    let y : SFits w16 (d .1 .0) = search needs in
+    let e = passed (λ dx dy. onMotion dx dy (c .before .before .before .before .before .args .self)) w16 x y (c .before .on-motion .ensures) in
+    rw (c .before .before .before .event .given .1) (rw e at (c .quietly .ensures))
+
+returns-2 : tie.Need-returns-2
+unfolding awake
+returns-2 c = rw (c .before .before .before .event2 .given .1) (rw (c .before .on-buttons .ensures) at (c .quietly2 .ensures))
+
+returns-3 : tie.Need-returns-3
+unfolding awake
+returns-3 c = rw (c .before .before .event3 .given .1) (c .on-host .ensures)
+
+returns-4 : tie.Need-returns-4
+unfolding awake
+returns-4 c = rw (c .before .enum-told .given .1) (c .on-slot .ensures)
+
+returns-5 : tie.Need-returns-5
+unfolding awake
+returns-5 c = rw (c .before .before .enum-told2 .given .1) (rw (c .before .on-period .ensures) at (c .quietly3 .ensures))
+
+pub awake-spec : {M : Type 1} → statement M
+awake-spec =
+    tie.close
+    (tie.spec
+    enum-known-event
+    on-motion-requires
+    quietly-requires
+    enum-known-event-2
+    on-buttons-requires
+    quietly-requires-2
+    enum-known-event-3
+    on-host-requires
+    enum-told
+    on-slot-requires
+    enum-told-2
+    on-period-requires
+    quietly-requires-3
+    returns
+    returns-2
+    returns-3
+    returns-4
+    returns-5)

@@ -1,0 +1,57 @@
+-- `latched`: the encoder accepts what is limited.
+use borrow.Author.Needs.{needs}
+use lib.IntN.{pos}
+use mathlib.Core.Path.{_≡_, refl, ap, _∙_}
+use mir.Syntax.{w16}
+use mir.Val.{toZ, ofZ}
+use native.Mathlib.Omega.{arith}
+use Rattle.ballbox.proofs.Accepting.{size-by-small, latched-accepted, bytes-by-length}
+use Rattle.ballbox.specs.Box.{goingFrom}
+use Rattle.ballbox.specs.Latching.{acceptedBy, bytesBy, latched, latchedReport}
+use Rattle.ballbox.specs.declared.Pair.{Pair}
+use Rattle.wire.proofs.Codec.Accepted.{same-report}
+use Rattle.wire.specs.Table.{five}
+use Rattle.wire.specs.declared.Report.{Report}
+use Rattle.ballbox.proofs.BallBox.latched.Statement.{statement}
+use Rattle.ballbox.proofs.BallBox.latched.Tie as tie
+
+-- the report that the program makes
+reported : (c : tie.After-struct-told) →
+    _≡_ {A = Report}
+    (record { buttons = c .before .before .before .args .self .settings .buttons; x1 = toZ w16 (ofZ w16 (c .before .taken .result .x)); y1 = toZ w16 (ofZ w16 (c .before .taken .result .y)); x2 = pos 0; y2 = pos 0 })
+    (latchedReport (c .before .before .before .args .self))
+unfolding latchedReport
+reported c =
+    let t = c .before .taken in
+    let x : toZ w16 (ofZ w16 (t .result .x)) ≡ t .result .x = search needs in
+    let y : toZ w16 (ofZ w16 (t .result .y)) ≡ t .result .y = search needs in
+    same-report refl (x ∙ ap (λ (p : Pair). p .x) (t .ensures)) (y ∙ ap (λ (p : Pair). p .y) (t .ensures)) refl refl
+
+taken-requires : tie.Need-taken-requires
+taken-requires c κs = search needs
+
+size-requires : tie.Need-size-requires
+size-requires c κs = search needs
+
+cast-t8 : tie.Need-cast-t8
+cast-t8 c = record { fits = rw (c .size .ensures) (omega (arith, size-by-small (c .before .before .before .before .args .self .settings .format))) }
+
+encoded-requires : tie.Need-encoded-requires
+encoded-requires c κs =
+    let s = c .before .before .before .before in
+    ap (acceptedBy (s .args .self .settings .format)) (reported (c .before)) ∙ latched-accepted (s .args .self) (s .pre)
+
+cleared-requires : tie.Need-cleared-requires
+cleared-requires c κs = search needs
+
+returns : tie.Need-returns
+unfolding latched goingFrom
+returns c =
+    let f = c .before .before .before .before .before .before .args .self .settings .format in
+    let bytes = c .before .encoded .ensures ∙ ap (λ (r : Report). five (bytesBy f r)) (reported (c .before .before .before)) in
+    simp (c .cleared .ensures, bytes, c .before .before .size .ensures, bytes-by-length)
+
+pub latched-spec : {M : Type 1} → statement M
+latched-spec =
+    tie.close
+    (tie.spec taken-requires size-requires cast-t8 encoded-requires cleared-requires returns)

@@ -1,0 +1,69 @@
+-- `second_latched`: the encoder accepts the second pair.
+use borrow.Author.Needs.{needs}
+use lib.IntN.{pos}
+use mathlib.Core.Path.{_≡_, refl, ap, _∙_}
+use mir.Syntax.{w16}
+use mir.Val.{toZ, ofZ}
+use Rattle.ballbox.proofs.Accepting.{second-accepted}
+use Rattle.ballbox.specs.Latching.{acceptedBy, taken, bytesBy, secondOnly, withSecond, secondLatched}
+use Rattle.ballbox.specs.declared.Pair.{Pair}
+use Rattle.wire.proofs.Codec.Accepted.{same-report}
+use Rattle.wire.specs.Line.{letterOf, namedBy}
+use Rattle.wire.specs.Table.{five, bytesU}
+use Rattle.wire.specs.declared.Format.the-variants.{FiveByte}
+use Rattle.wire.specs.declared.Report.{Report}
+use Rattle.ballbox.proofs.BallBox.second_latched.Statement.{statement}
+use Rattle.ballbox.proofs.BallBox.second_latched.Tie as tie
+
+-- the report that the program makes
+reported : (c : tie.After-struct-told) →
+    _≡_ {A = Report}
+    (record { buttons = 0; x1 = pos 0; y1 = pos 0; x2 = toZ w16 (ofZ w16 (c .before .taken .result .x)); y2 = toZ w16 (ofZ w16 (c .before .taken .result .y)) })
+    (secondOnly (taken (c .before .before .before .args .self .settings .format) (c .before .before .before .args .self .track)))
+reported c =
+    let t = c .before .taken in
+    let x : toZ w16 (ofZ w16 (t .result .x)) ≡ t .result .x = search needs in
+    let y : toZ w16 (ofZ w16 (t .result .y)) ≡ t .result .y = search needs in
+    same-report refl refl refl (x ∙ ap (λ (p : Pair). p .x) (t .ensures)) (y ∙ ap (λ (p : Pair). p .y) (t .ensures))
+
+taken-requires : tie.Need-taken-requires
+taken-requires c κs = search needs
+
+encoded-requires : tie.Need-encoded-requires
+encoded-requires c κs =
+    let s = c .before .before .before in
+    ap (acceptedBy (letterOf FiveByte)) (reported c) ∙ rw (s .pre) (second-accepted (s .args .self .track))
+
+array-read-going : tie.Need-array-read-going
+array-read-going c = search needs
+
+element-write-going : tie.Need-element-write-going
+element-write-going c = search needs
+
+array-read-going-2 : tie.Need-array-read-going-2
+array-read-going-2 c = search needs
+
+element-write-going-2 : tie.Need-element-write-going-2
+element-write-going-2 c = search needs
+
+cleared-requires : tie.Need-cleared-requires
+cleared-requires c κs = search needs
+
+returns : tie.Need-returns
+unfolding secondLatched withSecond bytesBy namedBy bytesU
+returns c =
+    let bytes = c .before .before .encoded .ensures ∙ ap (λ (r : Report). five (bytesBy (letterOf FiveByte) r)) (reported (c .before .before .before)) in
+    simp (c .cleared .ensures, bytes)
+
+pub second-latched-spec : {M : Type 1} → statement M
+second-latched-spec =
+    tie.close
+    (tie.spec
+    taken-requires
+    encoded-requires
+    array-read-going
+    element-write-going
+    array-read-going-2
+    element-write-going-2
+    cleared-requires
+    returns)

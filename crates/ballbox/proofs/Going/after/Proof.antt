@@ -1,0 +1,26 @@
+-- `after`: bytes are left behind the next, or none.
+use borrow.Author.Needs.{needs}
+use borrow.Author.Tests.{lt-ltb, le-ltb}
+use Rattle.ballbox.specs.Events.{after}
+use Rattle.ballbox.proofs.Going.after.Statement.{statement}
+use Rattle.ballbox.proofs.Going.after.Tie as tie
+
+add-if1 : tie.Need-add-if1
+add-if1 c = search needs
+
+add-self : tie.Need-add-self
+add-self c = search needs
+
+nothing-requires : tie.Need-nothing-requires
+nothing-requires c κs = search needs
+
+returns : tie.Need-returns
+unfolding after
+returns c = simp (lt-ltb _ _ (c .before .if1 .taken))
+
+returns-2 : tie.Need-returns-2
+unfolding after
+returns-2 c = simp (le-ltb _ _ (c .before .if1 .left), c .nothing .ensures)
+
+pub after-spec : {M : Type 1} → statement M
+after-spec = tie.close (tie.spec add-if1 add-self nothing-requires returns returns-2)

@@ -1,0 +1,130 @@
+-- What is latched: its range, its bytes, and that it goes out.
+use Prim.Native.Nat.{ℕ}
+use mathlib.Core.Path.{_≡_, refl, ap, _∙_}
+use mathlib.Core.Bool.{true, false}
+use mathlib.Core.List.{List, [], _∷_}
+use native.Mathlib.Omega.{arith}
+use lib.Dec.{eqb}
+use lib.ListN.{length}
+use borrow.Author.Tests.{lt-ltb, le-ltb, leb-true}
+use lib.IntN.{ℤ, pos, negsuc}
+use lib.Signed.{ltZ, leZ}
+use Rattle.numbers.specs.Signed.{minus, held}
+use Rattle.numbers.proofs.Tested.{left, right, holds}
+use Rattle.wire.specs.Line.{letterOf, namedBy}
+use Rattle.wire.specs.Table.{five, bytesOf}
+use Rattle.wire.specs.Holds.{_to_, within}
+use Rattle.wire.specs.Reading.{at}
+use Rattle.wire.specs.declared.Range.{Range}
+use Rattle.wire.specs.declared.Format.{Format}
+use Rattle.wire.specs.declared.Format.the-variants.{Mm, Microsoft, Absolute, Relative, FiveByte, ThreeByte, Hexadecimal}
+use Rattle.ballbox.specs.Box.{Answer, goingFrom, withGoing}
+use Rattle.ballbox.specs.Latching.{limits, limited, movement, taken, latchedReport, bytesBy, latched}
+use Rattle.ballbox.specs.Events.{bytesLeft, wanted, secondNow, nextByte, sending, onSlot, awake}
+use Rattle.ballbox.specs.Good.{onPad, good}
+use Rattle.ballbox.specs.Promises.{wordsOf, StepPromise}
+use Rattle.ballbox.specs.declared.Event.the-variants.{Slot}
+use Rattle.ballbox.specs.declared.Stepped.{Stepped}
+use Rattle.ballbox.specs.declared.Track.{Track}
+use Rattle.ballbox.specs.declared.BallBox.{BallBox}
+use Rattle.ballbox.proofs.Tests.{and-false}
+use Rattle.ballbox.proofs.Accepting.{named, limited-within}
+use Rattle.ballbox.proofs.Steps.{parts}
+use Rattle.ballbox.proofs.Kept.{latched-left}
+use Rattle.ballbox.proofs.Slots.{latching-busy, latching-wanted, sending-byte, ready-plain}
+use Rattle.ballbox.proofs.Refusals.{awake-step}
+
+-- -127 to 127 in the eight-bit formats, -2048 to 2047 in B, 0 to 4095 in A
+abbrev pub reportRange : Format → Range
+reportRange Mm = minus 127 to pos 127
+reportRange Microsoft = minus 127 to pos 127
+reportRange Absolute = pos 0 to pos 4095
+reportRange Relative = minus 2048 to pos 2047
+reportRange FiveByte = minus 127 to pos 127
+reportRange ThreeByte = minus 127 to pos 127
+reportRange Hexadecimal = minus 127 to pos 127
+
+limits-by : (f : Format) → limits (letterOf f) ≡ reportRange f
+unfolding limits
+limits-by Mm = refl
+limits-by Microsoft = refl
+limits-by Absolute = refl
+limits-by Relative = refl
+limits-by FiveByte = refl
+limits-by ThreeByte = refl
+limits-by Hexadecimal = refl
+
+in-range : (f : Format) (letter : ℕ) (v : ℤ) → letter ≡ letterOf f → within (reportRange f) (limited letter v) ≡ true
+in-range f letter v e = rw (ap limits e ∙ limits-by f) at (limited-within letter v)
+
+-- a movement that is taken, of a first or a second pair, lies in the range of its format
+pub taken-range : (f : Format) (letter : ℕ) (t : Track) → letter ≡ letterOf f →
+    (within (reportRange f) (taken letter t .x) ≡ true) × (within (reportRange f) (taken letter t .y) ≡ true)
+unfolding taken
+taken-range f letter t e = (in-range f letter (movement letter t .x) e, in-range f letter (movement letter t .y) e)
+
+pub latched-range : (f : Format) (b : BallBox) → b .settings .format ≡ letterOf f →
+    (within (reportRange f) (latchedReport b .x1) ≡ true) × (within (reportRange f) (latchedReport b .y1) ≡ true)
+unfolding latchedReport
+latched-range f b e = taken-range f (b .settings .format) (b .track) e
+
+-- what lies within is taken as it is: in A the position of a good box
+not-above : (a b : ℤ) → leZ a b ≡ true → ltZ b a ≡ false
+not-above (pos a) (pos b) e = le-ltb b a (leb-true a b e)
+not-above (pos a) (negsuc b) e = absurd (holds e)
+not-above (negsuc a) (pos b) e = refl
+not-above (negsuc a) (negsuc b) e = le-ltb a b (leb-true b a e)
+
+pub held-same : (lo hi v : ℤ) → within (lo to hi) v ≡ true → held lo hi v ≡ v
+unfolding held
+held-same lo hi v e = rw (not-above lo v (left (leZ lo v) (leZ v hi) e), not-above v hi (right (leZ lo v) (leZ v hi) e))
+
+pub position-taken : (t : Track) → onPad (t .position) ≡ true → taken (letterOf Absolute) t ≡ t .position
+unfolding taken movement limited limits
+position-taken t h =
+    let p = t .position in
+    let x = held-same (pos 0) (pos 4095) (p .x) (left (within (pos 0 to pos 4095) (p .x)) (within (pos 0 to pos 4095) (p .y)) h) in
+    let y = held-same (pos 0) (pos 4095) (p .y) (right (within (pos 0 to pos 4095) (p .x)) (within (pos 0 to pos 4095) (p .y)) h) in
+    λ i. record { x = x i; y = y i }
+
+-- the bytes are those of the table
+pub latched-bytes : (f : Format) (b : BallBox) → b .settings .format ≡ letterOf f → bytesBy (b .settings .format) (latchedReport b) ≡ bytesOf f (latchedReport b)
+unfolding bytesBy
+latched-bytes f b e = rw (ap namedBy e ∙ named f)
+
+-- nothing of it is sent: its first byte goes out
+begins : (b : BallBox) → bytesLeft b ≡ true → b .going .sent ≡ 0 → sending b .words ≡ at 0 (b .going .bytes) ∷ []
+unfolding nextByte
+begins b l z =
+    let n : secondNow b ≡ false = rw z (and-false (eqb (b .settings .format) (letterOf FiveByte))) in
+    ap (λ (a : Answer). a .words) (sending-byte b l) ∙
+    (ap (λ (x : BallBox). nextByte x .words) (ready-plain b n) ∙ ap (λ (k : ℕ). at k (b .going .bytes) ∷ []) z)
+
+-- what is going goes out from its first byte
+slot-first : (b : BallBox) (w : ℕ) (ws : List ℕ) → onSlot (withGoing (goingFrom (w ∷ ws)) b) .words ≡ w ∷ []
+unfolding goingFrom
+slot-first b w ws =
+    let x = withGoing (goingFrom (w ∷ ws)) b in
+    let l : bytesLeft x ≡ true = lt-ltb 0 (length (w ∷ ws)) (omega arith) in
+    ap (λ (y : BallBox). sending y .words) (latching-busy x l) ∙ begins x l refl
+
+pub first-sent : (b : BallBox) (r : Stepped) (w : ℕ) (ws : List ℕ) → good b ≡ true → b .dormant ≡ false → b .going ≡ goingFrom (w ∷ ws) → StepPromise b Slot r → wordsOf (r .sent) ≡ w ∷ []
+unfolding awake
+first-sent b r w ws g d e s =
+    let same : b ≡ withGoing (goingFrom (w ∷ ws)) b = λ i. record { settings = b .settings; track = b .track; going = e i; due = b .due; dormant = b .dormant } in
+    ap (λ (a : Answer). a .words) (awake-step b Slot r s g refl d) ∙ (ap (λ (x : BallBox). onSlot x .words) same ∙ slot-first b w ws)
+
+-- a report that is wanted is latched, and its first byte goes out
+first-of-five : (bytes : List ℕ) → at 0 (five bytes) ≡ at 0 bytes
+first-of-five [] = refl
+first-of-five (b ∷ bytes) = refl
+
+pub report-begins : (f : Format) (b : BallBox) (r : Stepped) → good b ≡ true → b .dormant ≡ false → b .settings .format ≡ letterOf f → bytesLeft b ≡ false → wanted b ≡ true → StepPromise b Slot r →
+    wordsOf (r .sent) ≡ at 0 (bytesOf f (latchedReport b)) ∷ []
+unfolding awake latched goingFrom
+report-begins f b r g d e l w s =
+    let bytes = bytesBy (b .settings .format) (latchedReport b) in
+    ap (λ (a : Answer). a .words) (awake-step b Slot r s g refl d) ∙
+    (ap (λ (x : BallBox). sending x .words) (latching-wanted b l w) ∙
+    (begins (latched b) (latched-left b (parts b g)) refl ∙
+    ap (λ (k : ℕ). k ∷ []) (first-of-five bytes ∙ ap (at 0) (latched-bytes f b e))))

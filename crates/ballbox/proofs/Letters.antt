@@ -1,0 +1,56 @@
+-- Letters: the formats that they name, and the ranges in which the host's letters stand.
+use Prim.Native.Nat.{ℕ, _+_, _-_, _<_, _≤_}
+use mathlib.Core.Path.{_≡_, refl, subst}
+use mathlib.Core.Bool.{Bool, true, false, not, _||_}
+use native.Mathlib.Omega.{arith}
+use lib.Dec.{T, eqb}
+use borrow.Author.Tests.{not-true, ne-eqb, eqb-true}
+use Rattle.numbers.proofs.Tested.{upto, tested, truth}
+use Rattle.wire.specs.Line.{letterOf, namedBy}
+use Rattle.wire.specs.declared.Format.{Format}
+use Rattle.wire.specs.declared.Format.the-variants.{Mm, Microsoft, Absolute, Relative, FiveByte, ThreeByte, Hexadecimal}
+use Rattle.wire.specs.declared.Named.the-variants.{Unknown}
+use Rattle.ballbox.specs.Commands.{isFormat, isStream, commandOf}
+use Rattle.ballbox.specs.declared.Command.the-variants.{Ignored}
+
+-- a letter is that of a format, or names none
+pub data Lettered (letter : ℕ) : Type 0 where
+  known : (f : Format) → letter ≡ letterOf f → Lettered letter
+  unknown : namedBy letter ≡ Unknown → isFormat letter ≡ false → Lettered letter
+
+told : (l : ℕ) (s v a b u t w : Bool) → eqb l (letterOf Mm) ≡ s → eqb l (letterOf Microsoft) ≡ v → eqb l (letterOf Absolute) ≡ a → eqb l (letterOf Relative) ≡ b → eqb l (letterOf FiveByte) ≡ u → eqb l (letterOf ThreeByte) ≡ t → eqb l (letterOf Hexadecimal) ≡ w → Lettered l
+unfolding namedBy
+told l true v a b u t w es ev ea eb eu et ew = known Mm (eqb-true _ _ es)
+told l false true a b u t w es ev ea eb eu et ew = known Microsoft (eqb-true _ _ ev)
+told l false false true b u t w es ev ea eb eu et ew = known Absolute (eqb-true _ _ ea)
+told l false false false true u t w es ev ea eb eu et ew = known Relative (eqb-true _ _ eb)
+told l false false false false true t w es ev ea eb eu et ew = known FiveByte (eqb-true _ _ eu)
+told l false false false false false true w es ev ea eb eu et ew = known ThreeByte (eqb-true _ _ et)
+told l false false false false false false true es ev ea eb eu et ew = known Hexadecimal (eqb-true _ _ ew)
+told l false false false false false false false es ev ea eb eu et ew = unknown (simp (es, ev, ea, eb, eu, et, ew)) (simp (es, ev, ea, eb, eu, et, ew))
+
+pub lettered : (l : ℕ) → Lettered l
+lettered l = told l _ _ _ _ _ _ _ refl refl refl refl refl refl refl
+
+-- a test that holds at each number of a range
+pub ranged : (f : ℕ → Bool) (lo n : ℕ) → T (upto (λ k. f (lo + k)) n) → (b : ℕ) → lo ≤ b → b < lo + n → f b ≡ true
+ranged f lo n t b h k =
+    let e : lo + (b - lo) ≡ b = omega arith in
+    truth (f b) (subst (λ (m : ℕ). T (f m)) e (tested (λ k. f (lo + k)) n t (b - lo) (omega arith)))
+
+-- no letter of a group in a range
+pub no-format : (lo n : ℕ) → T (upto (λ k. not (isFormat (lo + k))) n) → (b : ℕ) → lo ≤ b → b < lo + n → isFormat b ≡ false
+no-format lo n t b h k = not-true (isFormat b) (ranged (λ m. not (isFormat m)) lo n t b h k)
+
+pub no-stream : (lo n : ℕ) → T (upto (λ k. not (isStream (lo + k))) n) → (b : ℕ) → lo ≤ b → b < lo + n → isStream b ≡ false
+no-stream lo n t b h k = not-true (isStream b) (ranged (λ m. not (isStream m)) lo n t b h k)
+
+pub stream : (b : ℕ) → 74 ≤ b → b < 83 → (b ≡ 80 → ⊥) → isStream b ≡ true
+stream b h k n = simp (ne-eqb b 80 n) at (ranged (λ m. eqb m 80 || isStream m) 74 9 tt b h k)
+
+-- none of the host's letters
+pub ignored : (b : ℕ) → (b ≡ 68 → ⊥) → (b ≡ 80 → ⊥) → (b ≡ 32 → ⊥) → (b ≡ 102 → ⊥) → (b ≡ 116 → ⊥) → (b ≡ 5 → ⊥) → (b ≡ 100 → ⊥) →
+    isFormat b ≡ false → isStream b ≡ false → Ignored ≡ commandOf b
+unfolding commandOf
+ignored b h₁ h₂ h₃ h₄ h₅ h₆ h₇ f s =
+    rw (f, s, ne-eqb b 68 h₁, ne-eqb b 80 h₂, ne-eqb b 32 h₃, ne-eqb b 102 h₄, ne-eqb b 116 h₅, ne-eqb b 5 h₆, ne-eqb b 100 h₇)

@@ -1,0 +1,106 @@
+-- What the host's bytes do: the ignored rest, prompt mode, and the replies.
+use Prim.Native.Nat.{ℕ, _+_, _*_}
+use mathlib.Core.Path.{_≡_, refl, ap, _∙_}
+use mathlib.Core.Bool.{Bool, true, false, cond, _||_}
+use mathlib.Core.List.{[], _∷_}
+use lib.Dec.{eqb}
+use Rattle.wire.specs.Line.{break, letterOf, namedBy}
+use Rattle.wire.specs.declared.Format.{Format}
+use Rattle.ballbox.specs.Box.{modeD, nothing, goingFrom, withGoing, Answer, gives, quietly}
+use Rattle.ballbox.specs.Commands.{isFormat, isStream, commandOf, ack, codeOf, codeByte, obeyed}
+use Rattle.ballbox.specs.Events.{bytesLeft, brokenOff, dropped, onHost, awake}
+use Rattle.ballbox.specs.Good.{good}
+use Rattle.ballbox.specs.Promises.{answerOf, StepPromise}
+use Rattle.ballbox.specs.declared.Settings.{Settings}
+use Rattle.ballbox.specs.declared.BallBox.{BallBox}
+use Rattle.ballbox.specs.declared.Command.the-variants.{Ignored}
+use Rattle.ballbox.specs.declared.Event.the-variants.{Host}
+use Rattle.ballbox.specs.declared.Stepped.{Stepped}
+use Rattle.ballbox.proofs.Tests.{neither, cases}
+use Rattle.ballbox.proofs.Accepting.{named}
+use Rattle.ballbox.proofs.Refusals.{awake-step}
+
+-- the letters, space and 05H
+abbrev pub isCommand : ℕ → Bool
+isCommand n =
+    isFormat n || isStream n || eqb n 0x44 || eqb n 0x50 || eqb n 0x20 || eqb n 0x66 || eqb n 0x74 || eqb n 0x05 || eqb n 0x64
+
+pub rest-ignored : (n : ℕ) → isCommand n ≡ false → commandOf n ≡ Ignored
+unfolding commandOf
+rest-ignored n h =
+    let e9 = neither (isFormat n || isStream n || eqb n 0x44 || eqb n 0x50 || eqb n 0x20 || eqb n 0x66 || eqb n 0x74 || eqb n 0x05) (eqb n 0x64) h in
+    let e8 = neither (isFormat n || isStream n || eqb n 0x44 || eqb n 0x50 || eqb n 0x20 || eqb n 0x66 || eqb n 0x74) (eqb n 0x05) (e9 .0) in
+    let e7 = neither (isFormat n || isStream n || eqb n 0x44 || eqb n 0x50 || eqb n 0x20 || eqb n 0x66) (eqb n 0x74) (e8 .0) in
+    let e6 = neither (isFormat n || isStream n || eqb n 0x44 || eqb n 0x50 || eqb n 0x20) (eqb n 0x66) (e7 .0) in
+    let e5 = neither (isFormat n || isStream n || eqb n 0x44 || eqb n 0x50) (eqb n 0x20) (e6 .0) in
+    let e4 = neither (isFormat n || isStream n || eqb n 0x44) (eqb n 0x50) (e5 .0) in
+    let e3 = neither (isFormat n || isStream n) (eqb n 0x44) (e4 .0) in
+    let e2 = neither (isFormat n) (isStream n) (e3 .0) in
+    rw (e2 .0, e2 .1, e3 .1, e4 .1, e5 .1, e6 .1, e7 .1, e8 .1, e9 .1)
+
+-- a byte heard awake
+module _ (b : BallBox) (n : ℕ) (r : Stepped) (s : StepPromise b (Host n) r) (g : good b ≡ true) (d : b .dormant ≡ false) where
+  pub heard : answerOf r ≡ gives (brokenOff b) (obeyed (commandOf n) (dropped b))
+  unfolding awake onHost
+  heard = awake-step b (Host n) r s g refl d
+
+  next-is : r .next ≡ obeyed (commandOf n) (dropped b)
+  next-is = ap (λ (a : Answer). a .next) heard
+
+  -- an ignored byte breaks off and changes nothing else
+  pub ignored-breaks : isCommand n ≡ false → bytesLeft b ≡ true → answerOf r ≡ gives (break ∷ []) (withGoing nothing b)
+  unfolding obeyed dropped
+  ignored-breaks h l = rw (rest-ignored n h) at heard ∙ ap (λ (t : Bool). gives (cond t (break ∷ []) []) (cond t (withGoing nothing b) b)) l
+
+  pub ignored-idle : isCommand n ≡ false → bytesLeft b ≡ false → answerOf r ≡ quietly b
+  unfolding obeyed dropped
+  ignored-idle h l = rw (rest-ignored n h) at heard ∙ ap (λ (t : Bool). gives (cond t (break ∷ []) []) (cond t (withGoing nothing b) b)) l
+
+-- what is dropped leaves the settings
+dropped-settings : (b : BallBox) → dropped b .settings ≡ b .settings
+unfolding dropped
+dropped-settings b = cases (λ (x : BallBox). x .settings ≡ b .settings) (bytesLeft b) (λ e. refl) (λ e. refl)
+
+dropped-awake : (b : BallBox) → dropped b .dormant ≡ b .dormant
+unfolding dropped
+dropped-awake b = cases (λ (x : BallBox). x .dormant ≡ b .dormant) (bytesLeft b) (λ e. refl) (λ e. refl)
+
+module _ (b : BallBox) (r : Stepped) (g : good b ≡ true) (d : b .dormant ≡ false) where
+  -- "prompt mode, whose letter is D however it was set"
+  pub prompt-by-D : StepPromise b (Host 0x44) r → (r .next .settings .mode ≡ modeD) × (r .next .due ≡ false)
+  unfolding commandOf obeyed
+  prompt-by-D s = let e = next-is b 0x44 r s g d in (ap (λ (x : BallBox). x .settings .mode) e, ap (λ (x : BallBox). x .due) e)
+
+  pub prompt-by-P : StepPromise b (Host 0x50) r → (r .next .settings .mode ≡ modeD) × (r .next .due ≡ true)
+  unfolding commandOf obeyed
+  prompt-by-P s = let e = next-is b 0x50 r s g d in (ap (λ (x : BallBox). x .settings .mode) e, ap (λ (x : BallBox). x .due) e)
+
+  -- "Space: ACK."
+  pub reply-to-space : StepPromise b (Host 0x20) r → r .next .going ≡ goingFrom ack
+  unfolding commandOf obeyed
+  reply-to-space s = ap (λ (x : BallBox). x .going) (next-is b 0x20 r s g d)
+
+  -- "`f`: one byte, 10H plus twice the code"
+  pub reply-to-f : (f : Format) → b .settings .format ≡ letterOf f → StepPromise b (Host 0x66) r → r .next .going ≡ goingFrom ((0x10 + 2 * codeOf f) ∷ [])
+  unfolding commandOf obeyed codeByte
+  reply-to-f f e s =
+      ap (λ (x : BallBox). x .going) (next-is b 0x66 r s g d) ∙
+      ap (λ (c : ℕ). goingFrom (c ∷ [])) (ap (λ (x : Settings). codeByte (x .format)) (dropped-settings b) ∙ rw (ap namedBy e ∙ named f))
+
+  pub awake-after-f : StepPromise b (Host 0x66) r → r .next .dormant ≡ false
+  unfolding commandOf obeyed
+  awake-after-f s = ap (λ (x : BallBox). x .dormant) (next-is b 0x66 r s g d) ∙ (dropped-awake b ∙ d)
+
+  -- "`t`: format letter, mode letter."
+  pub reply-to-t : StepPromise b (Host 0x74) r → r .next .going ≡ goingFrom (b .settings .format ∷ b .settings .mode ∷ [])
+  unfolding commandOf obeyed
+  reply-to-t s =
+      ap (λ (x : BallBox). x .going) (next-is b 0x74 r s g d) ∙
+      ap (λ (x : Settings). goingFrom (x .format ∷ x .mode ∷ [])) (dropped-settings b)
+
+  -- "05H: buttons, 0, 0."
+  pub reply-to-05 : StepPromise b (Host 0x05) r → r .next .going ≡ goingFrom (b .settings .buttons ∷ 0 ∷ 0 ∷ [])
+  unfolding commandOf obeyed
+  reply-to-05 s =
+      ap (λ (x : BallBox). x .going) (next-is b 0x05 r s g d) ∙
+      ap (λ (x : Settings). goingFrom (x .buttons ∷ 0 ∷ 0 ∷ [])) (dropped-settings b)

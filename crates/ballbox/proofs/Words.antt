@@ -1,0 +1,297 @@
+-- The words that steps give.
+use Prim.Native.Nat.{ℕ, zero, suc, _+_, _*_, _≤_, _<_}
+use mathlib.Core.Path.{_≡_, refl, sym, ap, subst, _∙_}
+use mathlib.Core.Bool.{Bool, true, false, not, _&&_, _||_}
+use mathlib.Core.List.{List, [], _∷_, _++_}
+use native.Mathlib.Omega.{arith}
+use lib.Dec.{eqb, ltb}
+use lib.ListN.{length, take, set, replicate, length-set, length-append}
+use lib.Seq.{length-take-le}
+use borrow.Author.Tests.{eqb-true, leb-true, ltb-true, ltb-false, ne-eqb, not-false}
+use Rattle.numbers.proofs.Tested.{left, holds}
+use Rattle.wire.specs.Line.{letterOf, namedBy}
+use Rattle.wire.specs.Table.{bytesOf}
+use Rattle.wire.specs.Holds.{accepted}
+use Rattle.wire.specs.Reading.{at}
+use Rattle.wire.specs.declared.Format.{Format}
+use Rattle.wire.specs.declared.Format.the-variants.{Mm, Microsoft, Absolute, Relative, FiveByte, ThreeByte, Hexadecimal}
+use Rattle.wire.specs.declared.Report.{Report}
+use Rattle.wire.proofs.Codec.{bytes-below}
+use Rattle.ballbox.specs.Box.{modeD, Answer, nothing, goingFrom, withGoing}
+use Rattle.ballbox.specs.Latching.{taken, acceptedBy, latchedReport, bytesBy, latched, secondOnly, withSecond, secondLatched}
+use Rattle.ballbox.specs.Commands.{isFormat, isStream, codeOf, codeByte, commandOf, obeyed}
+use Rattle.ballbox.specs.Events.{onButtons, onPeriod, bytesLeft, wanted, latching, secondNow, withByteReady, after, nextByte, sending, onSlot, dropped, onHost, woken, awake, asleep}
+use Rattle.ballbox.specs.Good.{good, goodSettings}
+use Rattle.ballbox.specs.Promises.{wordsOf, aboveSeven, stepOf, StepPromise}
+use Rattle.ballbox.specs.declared.Going.{Going}
+use Rattle.ballbox.specs.declared.BallBox.{BallBox}
+use Rattle.ballbox.specs.declared.Command.{Command}
+use Rattle.ballbox.specs.declared.Event.{Event}
+use Rattle.ballbox.specs.declared.Event.the-variants.{Motion, Buttons, Host, Slot, Period}
+use Rattle.ballbox.specs.declared.Stepped.{Stepped}
+use Rattle.ballbox.proofs.Tests.{cases}
+use Rattle.ballbox.proofs.Letters.{Lettered, known, unknown, lettered}
+use Rattle.ballbox.proofs.Accepting.{named, latched-accepted, second-accepted}
+use Rattle.ballbox.proofs.Steps.{parts, good-buttons}
+use Rattle.ballbox.proofs.Kept.{letter-known, mode-known, few}
+
+-- the events that give a word: Slot, and Host when it breaks off
+abbrev pub Speaks : BallBox → Event → Type 0
+Speaks b (Motion dx dy) = ⊥
+Speaks b (Buttons n) = ⊥
+Speaks b (Host n) = (b .dormant ≡ false) × (bytesLeft b ≡ true)
+Speaks b Slot = Unit {0}
+Speaks b Period = ⊥
+
+no-word : {X : Type 0} (w : ℕ) (ws : List ℕ) → [] ≡ w ∷ ws → X
+no-word w ws e = let z : _≡_ {A = ℕ} 0 1 = cc in absurd (omega arith)
+
+breaks : (n : ℕ) (b : BallBox) (w : ℕ) (ws : List ℕ) → onHost n b .words ≡ w ∷ ws → bytesLeft b ≡ true
+unfolding onHost
+breaks n b w ws = cases (λ (x : List ℕ). x ≡ w ∷ ws → bytesLeft b ≡ true) (bytesLeft b) (λ l e. l) (λ l e. no-word w ws e)
+
+speaks : (b : BallBox) (e : Event) (w : ℕ) (ws : List ℕ) → stepOf b e .words ≡ w ∷ ws → Speaks b e
+unfolding stepOf awake asleep
+speaks b (Motion dx dy) w ws =
+    cases (Says (Motion dx dy)) (not (good b)) (λ g. no-word w ws) (λ g. cases (Says (Motion dx dy)) (b .dormant) (λ d. no-word w ws) (λ d. no-word w ws))
+  where
+    Says : Event → Answer → Type 0
+    Says e x = x .words ≡ w ∷ ws → Speaks b e
+speaks b (Buttons n) w ws =
+    cases (Says (Buttons n)) (not (good b)) (λ g. no-word w ws)
+    (λ g. cases (Says (Buttons n)) (ltb 7 n) (λ l. no-word w ws)
+    (λ l. cases (Says (Buttons n)) (b .dormant) (λ d. no-word w ws) (λ d. no-word w ws)))
+  where
+    Says : Event → Answer → Type 0
+    Says e x = x .words ≡ w ∷ ws → Speaks b e
+speaks b (Host n) w ws =
+    cases (Says (Host n)) (not (good b)) (λ g. no-word w ws)
+    (λ g. cases (Says (Host n)) (b .dormant) (λ d. no-word w ws) (λ d e. (d, breaks n b w ws e)))
+  where
+    Says : Event → Answer → Type 0
+    Says e x = x .words ≡ w ∷ ws → Speaks b e
+speaks b Slot w ws = λ e. tt
+speaks b Period w ws =
+    cases (Says Period) (not (good b)) (λ g. no-word w ws) (λ g. cases (Says Period) (b .dormant) (λ d. no-word w ws) (λ d. no-word w ws))
+  where
+    Says : Event → Answer → Type 0
+    Says e x = x .words ≡ w ∷ ws → Speaks b e
+
+pub only-slot-and-host : (b : BallBox) (e : Event) (r : Stepped) (w : ℕ) (ws : List ℕ) → StepPromise b e r → wordsOf (r .sent) ≡ w ∷ ws → Speaks b e
+only-slot-and-host b e r w ws s h = speaks b e w ws (sym (ap (λ (x : Answer). x .words) s) ∙ h)
+
+-- bytes, each below 256
+abbrev pub Bytes : List ℕ → Type 0
+Bytes [] = Unit {0}
+Bytes (b ∷ bs) = (b < 256) × Bytes bs
+
+bytes-at : (bs : List ℕ) (i : ℕ) → Bytes bs → at i bs < 256
+bytes-at [] i h = omega arith
+bytes-at (b ∷ bs) zero h = h .0
+bytes-at (b ∷ bs) (suc i) h = bytes-at bs i (h .1)
+
+of-at : (bs : List ℕ) → ((i : ℕ) → at i bs < 256) → Bytes bs
+of-at [] h = tt
+of-at (b ∷ bs) h = (h 0, of-at bs (λ i. h (suc i)))
+
+bytes-set : (bs : List ℕ) (i v : ℕ) → Bytes bs → v < 256 → Bytes (set bs i v)
+bytes-set [] i v h k = tt
+bytes-set (b ∷ bs) zero v h k = (k, h .1)
+bytes-set (b ∷ bs) (suc i) v h k = (h .0, bytes-set bs i v (h .1) k)
+
+bytes-append : (u v : List ℕ) → Bytes u → Bytes v → Bytes (u ++ v)
+bytes-append [] v h k = k
+bytes-append (b ∷ u) v h k = (h .0, bytes-append u v (h .1) k)
+
+bytes-take : (n : ℕ) (bs : List ℕ) → Bytes bs → Bytes (take n bs)
+bytes-take zero bs h = tt
+bytes-take (suc n) [] h = tt
+bytes-take (suc n) (b ∷ bs) h = (h .0, bytes-take n bs (h .1))
+
+-- what an array of five bytes holds
+pub record FiveBytes (g : Going) : Type 0 where
+  pub count : length (g .bytes) ≡ 5
+  pub each : Bytes (g .bytes)
+
+going-five : (bytes : List ℕ) → Bytes bytes → FiveBytes (goingFrom bytes)
+unfolding goingFrom
+going-five bytes h =
+    let zeros : List ℕ = replicate 5 0 in
+    let b : 0 < 256 = omega arith in
+    record {
+      count = length-take-le 5 (bytes ++ zeros) (omega (arith, length-append bytes zeros));
+      each = bytes-take 5 (bytes ++ zeros) (bytes-append bytes zeros h (b, (b, (b, (b, (b, tt))))));
+    }
+
+nothing-five : FiveBytes nothing
+nothing-five = let b : 0 < 256 = omega arith in record { count = refl; each = (b, (b, (b, (b, (b, tt))))) }
+
+after-five : (g : Going) → FiveBytes g → FiveBytes (after g)
+unfolding after
+after-five g h = cases FiveBytes (ltb (g .sent + 1) (g .length)) (λ e. record { count = h .count; each = h .each }) (λ e. nothing-five)
+
+-- an accepted report's bytes are bytes
+report-bytes : (letter : ℕ) (r : Report) → Lettered letter → acceptedBy letter r ≡ true → Bytes (bytesBy letter r)
+unfolding acceptedBy bytesBy
+report-bytes letter r (known f e) a = rw (e, named f) (of-at (bytesOf f r) (bytes-below f r (rw (e, named f) at a)))
+report-bytes letter r (unknown e none) a = rw e tt
+
+latched-five : (b : BallBox) → good b ≡ true → FiveBytes (latched b .going)
+unfolding latched
+latched-five b g =
+    let f = b .settings .format in
+    going-five (bytesBy f (latchedReport b)) (report-bytes f (latchedReport b) (lettered f) (latched-accepted b (good-buttons b g)))
+
+second-five : (b : BallBox) → b .settings .format ≡ letterOf FiveByte → FiveBytes (b .going) → FiveBytes (secondLatched b .going)
+unfolding secondLatched withSecond acceptedBy namedBy
+second-five b u h =
+    let p = taken (b .settings .format) (b .track) in
+    let a : accepted FiveByte (secondOnly p) ≡ true = rw u (second-accepted (b .track)) in
+    let bs = bytesOf FiveByte (secondOnly p) in
+    record {
+      count = simp length-set (h .count);
+      each = bytes-set (set (b .going .bytes) 3 (at 3 bs)) 4 (at 4 bs) (bytes-set (b .going .bytes) 3 (at 3 bs) (h .each) (bytes-below FiveByte (secondOnly p) a 3)) (bytes-below FiveByte (secondOnly p) a 4);
+    }
+
+ready-five : (b : BallBox) → FiveBytes (b .going) → FiveBytes (withByteReady b .going)
+unfolding withByteReady
+ready-five b h =
+    let u = eqb (b .settings .format) (letterOf FiveByte) in
+    cases (λ (x : BallBox). FiveBytes (x .going)) (secondNow b)
+    (λ e. second-five b (eqb-true (b .settings .format) (letterOf FiveByte) (left u (eqb (b .going .sent) 3) e)) h)
+    (λ e. h)
+
+-- letters are bytes
+mode-small : (m : ℕ) → (isStream m || eqb m modeD) ≡ true → m < 256
+mode-small m h = go (ltb m 256) refl
+  where
+    go : (t : Bool) → ltb m 256 ≡ t → m < 256
+    go true e = ltb-true m 256 e
+    go false e =
+        let k : 256 ≤ m = ltb-false m 256 e in
+        absurd (holds {b = false} (simp (
+          ne-eqb m 0x4A (λ q. omega arith),
+          ne-eqb m 0x4B (λ q. omega arith),
+          ne-eqb m 0x4C (λ q. omega arith),
+          ne-eqb m 0x52 (λ q. omega arith),
+          ne-eqb m 0x4D (λ q. omega arith),
+          ne-eqb m 0x51 (λ q. omega arith),
+          ne-eqb m 0x4E (λ q. omega arith),
+          ne-eqb m 0x4F (λ q. omega arith),
+          ne-eqb m 0x44 (λ q. omega arith),
+        ) at h))
+
+letter-small : (f : Format) → letterOf f < 256
+letter-small Mm = omega arith
+letter-small Microsoft = omega arith
+letter-small Absolute = omega arith
+letter-small Relative = omega arith
+letter-small FiveByte = omega arith
+letter-small ThreeByte = omega arith
+letter-small Hexadecimal = omega arith
+
+code-small : (f : Format) → 0x10 + 2 * codeOf f < 256
+code-small Mm = omega arith
+code-small Microsoft = omega arith
+code-small Absolute = omega arith
+code-small Relative = omega arith
+code-small FiveByte = omega arith
+code-small ThreeByte = omega arith
+code-small Hexadecimal = omega arith
+
+format-small : (l : ℕ) → Lettered l → isFormat l ≡ true → l < 256
+format-small l (known f e) h = rw e (letter-small f)
+format-small l (unknown e none) h = absurd (holds (sym none ∙ h))
+
+code-byte : (l : ℕ) → Lettered l → codeByte l < 256
+unfolding codeByte
+code-byte l (known f e) = rw (e, named f) (code-small f)
+code-byte l (unknown e none) = rw e (omega arith)
+
+-- a command keeps what is going, or a reply is to be sent
+abbrev Replies : BallBox → Command → Type 0
+Replies b c = FiveBytes (obeyed c b .going)
+
+obeyed-five : (n : ℕ) (b : BallBox) → goodSettings (b .settings) ≡ true → FiveBytes (b .going) → FiveBytes (obeyed (commandOf n) b .going)
+unfolding commandOf obeyed
+obeyed-five n b s h =
+    let f = b .settings .format in
+    let lf : f < 256 = format-small f (lettered f) (letter-known (b .settings) s) in
+    let lm : b .settings .mode < 256 = mode-small (b .settings .mode) (mode-known (b .settings) s) in
+    let lb : b .settings .buttons < 256 = omega (arith, leb-true (b .settings .buttons) 7 (few (b .settings) s)) in
+    let l6 : 6 < 256 = omega arith in
+    let l0 : 0 < 256 = omega arith in
+    cases (Replies b) (isFormat n) (λ e. h)
+    (λ _. cases (Replies b) (isStream n) (λ e. h)
+    (λ _. cases (Replies b) (eqb n 0x44) (λ e. h)
+    (λ _. cases (Replies b) (eqb n 0x50) (λ e. h)
+    (λ _. cases (Replies b) (eqb n 0x20) (λ e. going-five _ (l6, tt))
+    (λ _. cases (Replies b) (eqb n 0x66) (λ e. going-five _ (code-byte f (lettered f), tt))
+    (λ _. cases (Replies b) (eqb n 0x74) (λ e. going-five _ (lf, (lm, tt)))
+    (λ _. cases (Replies b) (eqb n 0x05) (λ e. going-five _ (lb, (l0, (l0, tt))))
+    (λ _. cases (Replies b) (eqb n 0x64) (λ e. h) (λ _. h)))))))))
+
+-- every word is at most 257
+abbrev pub Legal : List ℕ → Type 0
+Legal [] = Unit {0}
+Legal (w ∷ ws) = (w ≤ 257) × Legal ws
+
+-- what a step is to keep and to say
+record Sound (a : Answer) : Type 0 where
+  bytes : FiveBytes (a .next .going)
+  legal : Legal (a .words)
+
+next-sound : (b : BallBox) → FiveBytes (b .going) → Sound (nextByte b)
+unfolding nextByte
+next-sound b h =
+    record { bytes = after-five (b .going) h; legal = (omega (arith, bytes-at (b .going .bytes) (b .going .sent) (h .each)), tt) }
+
+sending-sound : (b : BallBox) → FiveBytes (b .going) → Sound (sending b)
+unfolding sending
+sending-sound b h =
+    cases Sound (bytesLeft b) (λ e. next-sound (withByteReady b) (ready-five b h)) (λ e. record { bytes = h; legal = (omega arith, tt) })
+
+slot-sound : (b : BallBox) → good b ≡ true → FiveBytes (b .going) → Sound (onSlot b)
+unfolding latching
+slot-sound b g h =
+    sending-sound (latching b)
+    (cases (λ (x : BallBox). FiveBytes (x .going)) (not (bytesLeft b) && wanted b) (λ e. latched-five b g) (λ e. h))
+
+host-sound : (n : ℕ) (b : BallBox) → good b ≡ true → FiveBytes (b .going) → Sound (onHost n b)
+unfolding onHost dropped
+host-sound n b g h =
+    let s = parts b g .settings in
+    record {
+      bytes = cases (λ (x : BallBox). FiveBytes (obeyed (commandOf n) x .going)) (bytesLeft b) (λ e. obeyed-five n (withGoing nothing b) s nothing-five) (λ e. obeyed-five n b s h);
+      legal = cases Legal (bytesLeft b) (λ e. (omega arith, tt)) (λ e. tt);
+    }
+
+awake-sound : (b : BallBox) (e : Event) → good b ≡ true → FiveBytes (b .going) → Sound (awake b e)
+unfolding awake onButtons onPeriod
+awake-sound b (Motion dx dy) g h = record { bytes = h; legal = tt }
+awake-sound b (Buttons n) g h =
+    record { bytes = cases (λ (x : BallBox). FiveBytes (x .going)) (eqb n (b .settings .buttons)) (λ e. h) (λ e. h); legal = tt }
+awake-sound b (Host n) g h = host-sound n b g h
+awake-sound b Slot g h = slot-sound b g h
+awake-sound b Period g h = record { bytes = h; legal = tt }
+
+asleep-sound : (b : BallBox) (e : Event) → FiveBytes (b .going) → Sound (asleep b e)
+unfolding asleep woken
+asleep-sound b (Motion dx dy) h = record { bytes = h; legal = tt }
+asleep-sound b (Buttons n) h = record { bytes = h; legal = tt }
+asleep-sound b (Host n) h = record { bytes = let l : 6 < 256 = omega arith in going-five _ (l, tt); legal = tt }
+asleep-sound b Slot h = record { bytes = h; legal = (omega arith, tt) }
+asleep-sound b Period h = record { bytes = h; legal = tt }
+
+step-sound : (b : BallBox) (e : Event) → FiveBytes (b .going) → Sound (stepOf b e)
+unfolding stepOf
+step-sound b e h =
+    cases Sound (not (good b)) (λ g. record { bytes = h; legal = tt })
+    (λ g. cases Sound (aboveSeven e) (λ l. record { bytes = h; legal = tt })
+    (λ l. cases Sound (b .dormant) (λ d. asleep-sound b e h) (λ d. awake-sound b e (not-false (good b) g) h)))
+
+pub step-bytes : (b : BallBox) (e : Event) (r : Stepped) → StepPromise b e r → FiveBytes (b .going) → FiveBytes (r .next .going)
+step-bytes b e r s h = subst (λ (a : Answer). FiveBytes (a .next .going)) (sym s) (step-sound b e h .bytes)
+
+pub words-legal : (b : BallBox) (e : Event) (r : Stepped) → StepPromise b e r → FiveBytes (b .going) → Legal (wordsOf (r .sent))
+words-legal b e r s h = subst (λ (a : Answer). Legal (a .words)) (sym s) (step-sound b e h .legal)

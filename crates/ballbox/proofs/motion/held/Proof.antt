@@ -1,0 +1,51 @@
+-- `held`: below, above, or between.
+use borrow.Author.Needs.{needs}
+use lib.Signed.{ltZ}
+use mathlib.Core.Path.{_≡_, sym, _∙_}
+use mir.Facts.{sfits-widen, toZ-ofZ}
+use mir.Syntax.{w16, w32}
+use mir.Val.{SFits, toZ, ofZ}
+use Rattle.numbers.proofs.Held.{between-fits}
+use Rattle.numbers.specs.Signed.{held}
+use Rattle.ballbox.proofs.motion.held.Statement.{statement}
+use Rattle.ballbox.proofs.motion.held.Tie as tie
+
+-- what the two tests say, of the numbers themselves
+low-test : (c : tie.Start) → ltZ (toZ w32 (ofZ w32 (c .args .x))) (toZ w32 (ofZ w32 (toZ w16 (ofZ w16 (c .args .lo))))) ≡ ltZ (c .args .x) (c .args .lo)
+low-test c = search (needs, sfits-widen)
+
+high-test : (c : tie.Start) → ltZ (toZ w32 (ofZ w32 (toZ w16 (ofZ w16 (c .args .hi))))) (toZ w32 (ofZ w32 (c .args .x))) ≡ ltZ (c .args .hi) (c .args .x)
+high-test c = search (needs, sfits-widen)
+
+between : (c : tie.Else2) → SFits w16 (c .before .before .args .x)
+between c =
+    between-fits (c .before .before .fits .lo) (c .before .before .fits .hi) (sym (low-test (c .before .before)) ∙ c .before .if1 .left)
+    (sym (high-test (c .before .before)) ∙ c .if2 .left)
+
+cast-low : tie.Need-cast-low
+cast-low c = search (needs, sfits-widen)
+
+cast-high : tie.Need-cast-high
+cast-high c = search (needs, sfits-widen)
+
+returns : tie.Need-returns
+unfolding held
+returns c = simp (sym (low-test (c .before)) ∙ c .if1 .taken, toZ-ofZ (c .before .fits .lo))
+
+returns-2 : tie.Need-returns-2
+unfolding held
+returns-2 c =
+    simp
+    (sym (low-test (c .before .before)) ∙ c .before .if1 .left, sym (high-test (c .before .before)) ∙ c .if2 .taken, toZ-ofZ (c .before .before .fits .hi))
+
+cast-result : tie.Need-cast-result
+cast-result c = let f = between c in search needs
+
+returns-3 : tie.Need-returns-3
+unfolding held
+returns-3 c =
+    simp
+    (sym (low-test (c .before .before)) ∙ c .before .if1 .left, sym (high-test (c .before .before)) ∙ c .if2 .left, toZ-ofZ (c .before .before .fits .x), toZ-ofZ (between c))
+
+pub held-spec : {M : Type 1} → statement M
+held-spec = tie.close (tie.spec cast-low cast-high returns returns-2 cast-result returns-3)

@@ -1,0 +1,26 @@
+-- `placed_at`: the sum in 32 bits, held.
+use borrow.Author.Needs.{needs}
+use lib.IntN.{_+ℤ_}
+use mathlib.Core.Path.{ap, _∙_}
+use mir.Syntax.{w16, w32}
+use Rattle.ballbox.specs.Motion.{placedAt}
+use Rattle.numbers.proofs.Machine.{kept, passed}
+use Rattle.numbers.specs.Signed.{held}
+use Rattle.ballbox.proofs.motion.placed_at.Statement.{statement}
+use Rattle.ballbox.proofs.motion.placed_at.Tie as tie
+
+total-requires : tie.Need-total-requires
+total-requires c κs = search needs
+
+held-requires : tie.Need-held-requires
+held-requires c κs = search needs
+
+returns : tie.Need-returns
+unfolding placedAt
+returns c =
+    let f = c .before .before .fits in
+    let e = passed _+ℤ_ w16 (f .a) (f .b) (c .before .total .ensures) in
+    kept w16 (c .held .ok) (c .held .ensures ∙ ap (held _ _) (kept w32 (c .before .total .ok) e))
+
+pub placed-at-spec : {M : Type 1} → statement M
+placed-at-spec = tie.close (tie.spec total-requires held-requires returns)

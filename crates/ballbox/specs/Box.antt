@@ -1,0 +1,88 @@
+-- The box with one of its parts replaced, a fresh box, and what a step hands back.
+use Prim.Native.Nat.{ℕ}
+use mathlib.Core.Bool.{Bool, false}
+use mathlib.Core.List.{List, []}
+use lib.IntN.{ℤ, pos}
+use lib.ListN.{length}
+use Rattle.wire.specs.Line.{letterOf}
+use Rattle.wire.specs.Table.{five}
+use Rattle.wire.specs.Numbers.{success}
+use Rattle.wire.specs.declared.Format.the-variants.{FiveByte}
+use Rattle.ballbox.specs.declared.Pair.{Pair}
+use Rattle.ballbox.specs.declared.Settings.{Settings}
+use Rattle.ballbox.specs.declared.Track.{Track}
+use Rattle.ballbox.specs.declared.Going.{Going}
+use Rattle.ballbox.specs.declared.BallBox.{BallBox}
+
+abbrev pub withSettings : Settings → BallBox → BallBox
+withSettings s b = record { settings = s; track = b .track; going = b .going; due = b .due; dormant = b .dormant }
+
+abbrev pub withTrack : Track → BallBox → BallBox
+withTrack t b = record { settings = b .settings; track = t; going = b .going; due = b .due; dormant = b .dormant }
+
+abbrev pub withGoing : Going → BallBox → BallBox
+withGoing g b = record { settings = b .settings; track = b .track; going = g; due = b .due; dormant = b .dormant }
+
+abbrev pub withDue : Bool → BallBox → BallBox
+withDue d b = record { settings = b .settings; track = b .track; going = b .going; due = d; dormant = b .dormant }
+
+abbrev pub withDormant : Bool → BallBox → BallBox
+withDormant d b = record { settings = b .settings; track = b .track; going = b .going; due = b .due; dormant = d }
+
+abbrev pub withFormat : ℕ → BallBox → BallBox
+withFormat f b = withSettings (record { format = f; mode = b .settings .mode; buttons = b .settings .buttons }) b
+
+abbrev pub withMode : ℕ → BallBox → BallBox
+withMode m b = withSettings (record { format = b .settings .format; mode = m; buttons = b .settings .buttons }) b
+
+abbrev pub withButtons : ℕ → BallBox → BallBox
+withButtons n b = withSettings (record { format = b .settings .format; mode = b .settings .mode; buttons = n }) b
+
+abbrev pub pair : ℤ → ℤ → Pair
+pair x y = record { x = x; y = y }
+
+abbrev pub zeros : Pair
+zeros = pair (pos 0) (pos 0)
+
+-- bytes of a report or a reply that are going, none of them sent; "bytes from length on are 0"
+unfoldable pub goingFrom : List ℕ → Going
+goingFrom bytes = record { length = length bytes; sent = 0; bytes = five bytes }
+
+-- "Nothing going is length 0, sent 0, five zero bytes."
+abbrev pub nothing : Going
+nothing = record { length = 0; sent = 0; bytes = five [] }
+
+-- modes O and D
+abbrev pub modeO : ℕ
+modeO = 0x4F
+
+abbrev pub modeD : ℕ
+modeD = 0x44
+
+-- "Fresh: format U, mode O, buttons 0, position, last position and counters 0, nothing going, nothing due, awake."
+unfoldable pub freshBox : BallBox
+freshBox =
+    record {
+      settings = record { format = letterOf FiveByte; mode = modeO; buttons = 0 };
+      track = record { counter = zeros; position = zeros; last = zeros };
+      going = nothing;
+      due = false;
+      dormant = false;
+    }
+
+-- what a step hands back: the number given back, the box, and the words, of which there is one or none
+pub record Answer : Type 0 where
+  pub refusal : ℕ
+  pub next : BallBox
+  pub words : List ℕ
+
+abbrev pub gives : List ℕ → BallBox → Answer
+gives words b = record { refusal = success; next = b; words = words }
+
+-- "the other steps give none"
+abbrev pub quietly : BallBox → Answer
+quietly b = gives [] b
+
+-- "A refusal returns the old state, no word"
+abbrev pub refused : ℕ → BallBox → Answer
+refused n b = record { refusal = n; next = b; words = [] }

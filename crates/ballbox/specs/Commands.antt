@@ -1,0 +1,86 @@
+-- What a byte of the host's means, and what it does.
+use Prim.Native.Nat.{ℕ, _+_, _*_}
+use mathlib.Core.Bool.{Bool, true, false, cond, _||_}
+use mathlib.Core.List.{List, [], _∷_}
+use lib.Dec.{eqb}
+use Rattle.wire.specs.Line.{letterOf, namedBy, ofNamed}
+use Rattle.wire.specs.declared.Format.{Format}
+use Rattle.wire.specs.declared.Format.the-variants.{Mm, Microsoft, Absolute, Relative, FiveByte, ThreeByte, Hexadecimal}
+use Rattle.ballbox.specs.Box.{goingFrom, modeO, modeD, withFormat, withMode, withTrack, withGoing, withDue, withDormant}
+use Rattle.ballbox.specs.Latching.{cleared}
+use Rattle.ballbox.specs.declared.BallBox.{BallBox}
+use Rattle.ballbox.specs.declared.Command.{Command}
+use Rattle.ballbox.specs.declared.Command.the-variants.{SetFormat, SetStream, SetPrompt, AskReport, AskAck, AskCode, AskLetters, AskButtons, Sleep, Ignored}
+
+-- "A B S T U V W"
+abbrev pub isFormat : ℕ → Bool
+isFormat b =
+    eqb b (letterOf Absolute) || eqb b (letterOf Relative) || eqb b (letterOf Mm) || eqb b (letterOf ThreeByte) ||
+    eqb b (letterOf FiveByte) || eqb b (letterOf Microsoft) || eqb b (letterOf Hexadecimal)
+
+-- "J K L R M Q N": the modes in which the report interval counts; "000 prints M as 40H; ASCII decides, 4DH"
+abbrev pub isTimed : ℕ → Bool
+isTimed b = eqb b 0x4A || eqb b 0x4B || eqb b 0x4C || eqb b 0x52 || eqb b 0x4D || eqb b 0x51 || eqb b 0x4E
+
+-- "J K L R M Q N O": the stream modes
+abbrev pub isStream : ℕ → Bool
+isStream b = isTimed b || eqb b modeO
+
+-- "A B S T U V W set the format"; "J K L R M Q N O set that stream mode"; "D sets prompt mode"; "P sets prompt mode and makes a report
+-- due"; "Space: ACK"; "`f`: one byte"; "`t`: format letter, mode letter"; "05H: buttons, 0, 0"; "`d`: dormant"; "The rest are ignored"
+unfoldable pub commandOf : ℕ → Command
+commandOf b =
+    cond (isFormat b) (SetFormat b)
+    (cond (isStream b) (SetStream b)
+    (cond (eqb b 0x44) SetPrompt
+    (cond (eqb b 0x50) AskReport
+    (cond (eqb b 0x20) AskAck
+    (cond (eqb b 0x66) AskCode
+    (cond (eqb b 0x74) AskLetters
+    (cond (eqb b 0x05) AskButtons
+    (cond (eqb b 0x64) Sleep Ignored))))))))
+
+-- "ACK (06H)"
+abbrev pub ack : List ℕ
+ack = 0x06 ∷ []
+
+-- "the code U 0, T 1, W 2, B 3, S 5, A 6, V 7"
+abbrev pub codeOf : Format → ℕ
+codeOf FiveByte = 0
+codeOf ThreeByte = 1
+codeOf Hexadecimal = 2
+codeOf Relative = 3
+codeOf Mm = 5
+codeOf Absolute = 6
+codeOf Microsoft = 7
+
+-- "10H plus twice the code"
+unfoldable pub codeByte : ℕ → ℕ
+codeByte letter = ofNamed 0x10 (λ f. 0x10 + 2 * codeOf f) (namedBy letter)
+
+-- a reply is to be sent
+abbrev pub replying : List ℕ → BallBox → BallBox
+replying bytes b = withGoing (goingFrom bytes) b
+
+-- what a command does, where nothing is going
+unfoldable pub obeyed : Command → BallBox → BallBox
+-- "A B S T U V W set the format, clear counters and due, set last position to position."
+obeyed (SetFormat f) b = withFormat f (withTrack (cleared (b .track)) (withDue false b))
+-- "J K L R M Q N O set that stream mode."
+obeyed (SetStream m) b = withMode m b
+-- "D sets prompt mode, whose letter is D however it was set, and clears due."
+obeyed SetPrompt b = withMode modeD (withDue false b)
+-- "P sets prompt mode and makes a report due."
+obeyed AskReport b = withMode modeD (withDue true b)
+-- "Space: ACK."
+obeyed AskAck b = replying ack b
+-- "`f`: one byte, 10H plus twice the code"
+obeyed AskCode b = replying (codeByte (b .settings .format) ∷ []) b
+-- "`t`: format letter, mode letter."
+obeyed AskLetters b = replying (b .settings .format ∷ b .settings .mode ∷ []) b
+-- "05H: buttons, 0, 0."
+obeyed AskButtons b = replying (b .settings .buttons ∷ 0 ∷ 0 ∷ []) b
+-- "`d`: dormant, due cleared."
+obeyed Sleep b = withDormant true (withDue false b)
+-- "The rest are ignored (001), though they too break off."
+obeyed Ignored b = b

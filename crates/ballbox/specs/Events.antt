@@ -1,0 +1,97 @@
+-- The five events, awake and dormant.
+use Prim.Native.Nat.{ℕ, _+_}
+use mathlib.Core.Bool.{Bool, false, not, cond, _&&_, _||_}
+use mathlib.Core.List.{List, [], _∷_}
+use lib.Dec.{eqb, ltb}
+use lib.IntN.{ℤ}
+use Rattle.wire.specs.Line.{break, silence, letterOf}
+use Rattle.wire.specs.Reading.{at}
+use Rattle.wire.specs.declared.Format.the-variants.{FiveByte}
+use Rattle.ballbox.specs.Box.{modeO, nothing, withButtons, withTrack, withGoing, withDue, withDormant, Answer, gives, quietly}
+use Rattle.ballbox.specs.Motion.{movedBy, hasMoved}
+use Rattle.ballbox.specs.Latching.{latched, secondLatched}
+use Rattle.ballbox.specs.Commands.{isTimed, isStream, commandOf, obeyed, replying, ack}
+use Rattle.ballbox.specs.declared.Going.{Going}
+use Rattle.ballbox.specs.declared.BallBox.{BallBox}
+use Rattle.ballbox.specs.declared.Event.{Event}
+use Rattle.ballbox.specs.declared.Event.the-variants.{Motion, Buttons, Host, Slot, Period}
+
+abbrev pub moved : BallBox → Bool
+moved b = hasMoved (b .settings .format) (b .track)
+
+-- Motion: "Each counter takes the sum", and the position
+abbrev pub onMotion : ℤ → ℤ → BallBox → BallBox
+onMotion dx dy b = withTrack (movedBy dx dy (b .track)) b
+
+-- Buttons: "A change is kept; in a stream mode it makes a report due."
+unfoldable pub onButtons : ℕ → BallBox → BallBox
+onButtons n b = cond (eqb n (b .settings .buttons)) b (withButtons n (withDue (b .due || isStream (b .settings .mode)) b))
+
+-- Period: "In modes J K L R M Q N, if moved, a report is due."
+unfoldable pub onPeriod : BallBox → BallBox
+onPeriod b = withDue (b .due || (isTimed (b .settings .mode) && moved b)) b
+
+-- "bytes are left"
+abbrev pub bytesLeft : BallBox → Bool
+bytesLeft b = ltb (b .going .sent) (b .going .length)
+
+-- "a report is due, or mode is O and the box has moved"
+abbrev pub wanted : BallBox → Bool
+wanted b = b .due || (eqb (b .settings .mode) modeO && moved b)
+
+-- Slot, its first part: where no bytes are left and a report is wanted, one is latched
+unfoldable pub latching : BallBox → BallBox
+latching b = cond (not (bytesLeft b) && wanted b) (latched b) b
+
+-- "In U, the second pair is latched [..] at the slot of byte 4"
+abbrev pub secondNow : BallBox → Bool
+secondNow b = eqb (b .settings .format) (letterOf FiveByte) && eqb (b .going .sent) 3
+
+unfoldable pub withByteReady : BallBox → BallBox
+withByteReady b = cond (secondNow b) (secondLatched b) b
+
+-- "the next goes out; after the last, nothing is going"
+unfoldable pub after : Going → Going
+after g =
+    cond (ltb (g .sent + 1) (g .length)) (record { length = g .length; sent = g .sent + 1; bytes = g .bytes }) nothing
+
+unfoldable pub nextByte : BallBox → Answer
+nextByte b = gives (at (b .going .sent) (b .going .bytes) ∷ []) (withGoing (after (b .going)) b)
+
+-- Slot, its second part: "If bytes are left, the next goes out"; "Otherwise 257 goes out."
+unfoldable pub sending : BallBox → Answer
+sending b = cond (bytesLeft b) (nextByte (withByteReady b)) (gives (silence ∷ []) b)
+
+-- Slot is latching and then sending
+abbrev pub onSlot : BallBox → Answer
+onSlot b = sending (latching b)
+
+-- Host: "if bytes are left, 256 goes out and they are dropped. Then the byte is obeyed."
+unfoldable pub dropped : BallBox → BallBox
+dropped b = cond (bytesLeft b) (withGoing nothing b) b
+
+abbrev pub brokenOff : BallBox → List ℕ
+brokenOff b = cond (bytesLeft b) (break ∷ []) []
+
+unfoldable pub onHost : ℕ → BallBox → Answer
+onHost byte b = gives (brokenOff b) (obeyed (commandOf byte) (dropped b))
+
+-- "If dormant: the box wakes, the byte is not interpreted, ACK (06H) is to be sent."
+unfoldable pub woken : BallBox → BallBox
+woken b = replying ack (withDormant false b)
+
+-- an event of a box that is awake
+unfoldable pub awake : BallBox → Event → Answer
+awake b (Motion dx dy) = quietly (onMotion dx dy b)
+awake b (Buttons n) = quietly (onButtons n b)
+awake b (Host byte) = onHost byte b
+awake b Slot = onSlot b
+awake b Period = quietly (onPeriod b)
+
+-- "Dormant: Motion, Buttons and Period do nothing and Slot gives 257."
+unfoldable pub asleep : BallBox → Event → Answer
+asleep b (Motion dx dy) = quietly b
+asleep b (Buttons n) = quietly b
+asleep b (Host byte) = quietly (woken b)
+asleep b Slot = gives (silence ∷ []) b
+asleep b Period = quietly b

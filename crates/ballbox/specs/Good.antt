@@ -1,0 +1,61 @@
+-- The good box, rule by rule.
+use Prim.Native.Nat.{ℕ}
+use mathlib.Core.Bool.{Bool, not, _&&_, _||_}
+use lib.Dec.{eqb, ltb, leb}
+use lib.IntN.{pos}
+use Rattle.wire.specs.Line.{letterOf, sizeBy}
+use Rattle.wire.specs.Holds.{_to_, within}
+use Rattle.wire.specs.Reading.{at}
+use Rattle.wire.specs.declared.Format.the-variants.{FiveByte}
+use Rattle.ballbox.specs.Box.{modeD}
+use Rattle.ballbox.specs.Commands.{isFormat, isStream}
+use Rattle.ballbox.specs.declared.Pair.{Pair}
+use Rattle.ballbox.specs.declared.Settings.{Settings}
+use Rattle.ballbox.specs.declared.Track.{Track}
+use Rattle.ballbox.specs.declared.Going.{Going}
+use Rattle.ballbox.specs.declared.BallBox.{BallBox}
+
+-- "letters and modes as above; buttons 0-7"
+unfoldable pub goodSettings : Settings → Bool
+goodSettings s = isFormat (s .format) && (isStream (s .mode) || eqb (s .mode) modeD) && leb (s .buttons) 7
+
+-- "positions 0-4095"
+abbrev pub onPad : Pair → Bool
+onPad p = within (pos 0 to pos 4095) (p .x) && within (pos 0 to pos 4095) (p .y)
+
+unfoldable pub goodTrack : Track → Bool
+goodTrack t = onPad (t .position) && onPad (t .last)
+
+-- "sent below length, or both 0"
+abbrev pub sentBelow : Going → Bool
+sentBelow g = ltb (g .sent) (g .length) || (eqb (g .sent) 0 && eqb (g .length) 0)
+
+-- "a report's length is 3 in S, T, V and else 5, a reply's 1 to 3"
+abbrev pub lengthKnown : ℕ → Going → Bool
+lengthKnown letter g = leb (g .length) 3 || eqb (g .length) (sizeBy letter)
+
+-- "with length 5 sent is at least 1"
+abbrev pub begun : Going → Bool
+begun g = not (eqb (g .length) 5) || leb 1 (g .sent)
+
+-- "and in U bytes 4 and 5 are 0 while sent is below 4"
+abbrev pub secondHeld : ℕ → Going → Bool
+secondHeld letter g =
+    not (eqb letter (letterOf FiveByte)) || leb 4 (g .sent) || (eqb (at 3 (g .bytes)) 0 && eqb (at 4 (g .bytes)) 0)
+
+-- "bytes from length on are 0"
+abbrev pub zeroFrom : ℕ → Going → Bool
+zeroFrom i g = ltb i (g .length) || eqb (at i (g .bytes)) 0
+
+abbrev pub restZero : Going → Bool
+restZero g = zeroFrom 0 g && zeroFrom 1 g && zeroFrom 2 g && zeroFrom 3 g && zeroFrom 4 g
+
+unfoldable pub goodGoing : ℕ → Going → Bool
+goodGoing letter g = sentBelow g && lengthKnown letter g && begun g && secondHeld letter g && restZero g
+
+-- "dormant only with nothing going or due"
+abbrev pub restful : BallBox → Bool
+restful b = not (b .dormant) || (eqb (b .going .length) 0 && not (b .due))
+
+unfoldable pub good : BallBox → Bool
+good b = goodSettings (b .settings) && goodTrack (b .track) && goodGoing (b .settings .format) (b .going) && restful b

@@ -1,0 +1,9 @@
+-- The ball box, heading by heading of the paper: "The box, event by event" (Box, Motion, Latching, Commands, Events), "Good box" (Good),
+-- and what the functions promise (Promises).
+pub mod Box
+pub mod Motion
+pub mod Latching
+pub mod Commands
+pub mod Events
+pub mod Good
+pub mod Promises

@@ -1,0 +1,97 @@
+// Latching: what a report takes of the box, and its bytes.
+ghost use mathlib.Core.Path.{_≡_};
+ghost use mathlib.Core.Bool.{true};
+ghost use Prim.Native.Nat.{_≤_};
+ghost use Rattle.wire.specs.Table.{five};
+ghost use Rattle.ballbox.specs.Latching.{limited, taken, acceptedBy, bytesBy, latched, secondLatched};
+use crate::BallBox;
+use crate::Going;
+use crate::Pair;
+use crate::Track;
+use crate::motion::held;
+use wire::Report;
+
+// A movement held to what a report of the format may say; the excess is lost.
+fn limited(letter: u8, v: i16) -> i16
+    ensures { λ r. ⌜ r ≡ limited letter v ⌝ }
+{
+    if letter == b'A' {
+        return held(v as i32, 0, 4095);
+    }
+    if letter == b'B' {
+        return held(v as i32, -2048, 2047);
+    }
+    held(v as i32, -127, 127)
+}
+
+// The bytes of an accepted report, and zeros behind them.
+fn encoded(letter: u8, report: Report) -> [u8; 5]
+    requires { ⌜ acceptedBy letter report ≡ true ⌝ }
+    ensures { λ r. ⌜ r ≡ five (bytesBy letter report) ⌝ }
+{
+    let mut bytes = [0u8; 5];
+    wire::encode(letter, report, &mut bytes);
+    bytes
+}
+
+impl Track {
+    fn taken(self, letter: u8) -> Pair
+        ensures { λ r. ⌜ r ≡ taken letter self ⌝ }
+    {
+        let movement = self.movement(letter);
+        let x = limited(letter, movement.x);
+        let y = limited(letter, movement.y);
+        Pair { x, y }
+    }
+}
+
+impl BallBox {
+    // A report is latched, due is cleared.
+    pub(crate) fn latched(mut self) -> BallBox
+        requires { ⌜ self .settings .buttons ≤ 7 ⌝ }
+        ensures { λ r. ⌜ r ≡ latched self ⌝ }
+    {
+        let letter = self.settings.format;
+        let track = self.track;
+        let pair = track.taken(letter);
+        let report = Report {
+            buttons: self.settings.buttons,
+            x1: pair.x,
+            y1: pair.y,
+            x2: 0,
+            y2: 0,
+        };
+        let going = Going {
+            length: wire::size(letter) as u8,
+            sent: 0,
+            bytes: encoded(letter, report),
+        };
+        self.going = going;
+        self.track = track.cleared();
+        self.due = false;
+        self
+    }
+
+    // U's second pair is latched into bytes 4 and 5; due stays.
+    pub(crate) fn second_latched(mut self) -> BallBox
+        requires { ⌜ self .settings .format ≡ 0x55 ⌝ }
+        ensures { λ r. ⌜ r ≡ secondLatched self ⌝ }
+    {
+        let track = self.track;
+        let pair = track.taken(self.settings.format);
+        let report = Report {
+            buttons: 0,
+            x1: 0,
+            y1: 0,
+            x2: pair.x,
+            y2: pair.y,
+        };
+        let second = encoded(b'U', report);
+        let mut going = self.going;
+        going.bytes[3] = second[3];
+        going.bytes[4] = second[4];
+        self.going = going;
+        self.track = track.cleared();
+        self
+    }
+}

@@ -1,0 +1,62 @@
+-- A good box that is awake is set to a format by its letter, whatever was going.
+use Prim.Native.Nat.{ℕ}
+use mathlib.Core.Path.{_≡_, refl, sym, _∙_, ap}
+use mathlib.Core.Bool.{Bool, true, false, cond}
+use mathlib.Core.List.{List, [], _∷_}
+use Rattle.wire.specs.Line.{letterOf, break}
+use Rattle.wire.specs.Passages.{nothing}
+use Rattle.wire.specs.declared.Format.{Format}
+use Rattle.wire.specs.declared.Format.the-variants.{Mm, Microsoft, Absolute, Relative, FiveByte, ThreeByte, Hexadecimal}
+use Rattle.ballbox.specs.Box as box
+use Rattle.ballbox.specs.Commands.{commandOf, obeyed}
+use Rattle.ballbox.specs.Events.{bytesLeft, dropped, onHost, awake}
+use Rattle.ballbox.specs.Good.{good}
+use Rattle.ballbox.specs.Promises.{wordsOf, stepOf, StepPromise}
+use Rattle.ballbox.specs.declared.BallBox.{BallBox}
+use Rattle.ballbox.specs.declared.Stepped.{Stepped}
+use Rattle.ballbox.specs.declared.Command.the-variants.{SetFormat}
+use Rattle.ballbox.specs.declared.Event.the-variants.{Host}
+use Rattle.ballbox.proofs.Kept.{stepped-good}
+use Rattle.history.proofs.Hosts.{dropped-idle}
+use Rattle.history.proofs.Bridge.{step-is}
+use Rattle.history.proofs.Asking.{SetTo, dropped-alike}
+
+sets-format : (f : Format) → commandOf (letterOf f) ≡ SetFormat (letterOf f)
+unfolding commandOf
+sets-format Mm = refl
+sets-format Microsoft = refl
+sets-format Absolute = refl
+sets-format Relative = refl
+sets-format FiveByte = refl
+sets-format ThreeByte = refl
+sets-format Hexadecimal = refl
+
+none-left : (b : BallBox) → bytesLeft (dropped b) ≡ false
+unfolding dropped
+none-left b = go (bytesLeft b) refl
+  where
+    go : (t : Bool) → bytesLeft b ≡ t → bytesLeft (dropped b) ≡ false
+    go true e = rw e
+    go false e = ap bytesLeft (dropped-idle b e) ∙ e
+
+set-by : (f : Format) (b : BallBox) → good b ≡ true → b .dormant ≡ false → stepOf b (Host (letterOf f)) ≡ box.gives (cond (bytesLeft b) (break ∷ []) []) (obeyed (SetFormat (letterOf f)) (dropped b))
+unfolding awake onHost
+set-by f b k d = step-is b (Host (letterOf f)) false k refl d ∙ rw (sets-format f)
+
+-- the box that comes back
+pub set-to : (f : Format) (b : BallBox) (a : Stepped) → good b ≡ true → b .dormant ≡ false → StepPromise b (Host (letterOf f)) a → SetTo f (a .next) nothing
+unfolding obeyed
+set-to f b a k d p =
+    let e : a .next ≡ obeyed (SetFormat (letterOf f)) (dropped b) = ap (λ (x : box.Answer). x .next) (p ∙ set-by f b k d) in
+    rw e
+    (record {
+      good = rw (← e) (ap (λ (x : box.Answer). good (x .next)) p ∙ stepped-good b (Host (letterOf f)) k);
+      awake = dropped-alike b .dormant ∙ d;
+      format = refl;
+      carries = record { line = none-left b; rightly = tt };
+      sound = tt;
+    })
+
+-- and the word that it gave: 256 where bytes were left, or none
+pub set-words : (f : Format) (b : BallBox) (a : Stepped) → good b ≡ true → b .dormant ≡ false → StepPromise b (Host (letterOf f)) a → wordsOf (a .sent) ≡ cond (bytesLeft b) (break ∷ []) []
+set-words f b a k d p = ap (λ (x : box.Answer). x .words) (p ∙ set-by f b k d)

@@ -1,0 +1,23 @@
+-- A run: a list of events, and the answers of the public step to them.
+use Prim.Native.Nat.{ℕ}
+use mathlib.Core.List.{List, [], _∷_, _++_}
+use Rattle.ballbox.specs.Promises.{wordsOf, StepPromise}
+use Rattle.ballbox.specs.declared.BallBox.{BallBox}
+use Rattle.ballbox.specs.declared.Event.{Event}
+use Rattle.ballbox.specs.declared.Stepped.{Stepped}
+
+-- any answers that the promise permits, each for the box before it and its event
+unfoldable pub RunPromise : BallBox → List Event → List Stepped → Type 0
+RunPromise b [] [] = Unit
+RunPromise b [] (a ∷ answers) = ⊥
+RunPromise b (e ∷ events) [] = ⊥
+RunPromise b (e ∷ events) (a ∷ answers) = StepPromise b e a × RunPromise (a .next) events answers
+
+-- the words that they give, and the box that comes back from the last
+abbrev pub wordsGiven : List Stepped → List ℕ
+wordsGiven [] = []
+wordsGiven (a ∷ answers) = wordsOf (a .sent) ++ wordsGiven answers
+
+abbrev pub boxAfter : BallBox → List Stepped → BallBox
+boxAfter b [] = b
+boxAfter b (a ∷ answers) = boxAfter (a .next) answers
