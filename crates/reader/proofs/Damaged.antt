@@ -9,7 +9,8 @@ use Rattle.wire.specs.Holds.{carried}
 use Rattle.wire.specs.Passages.{Passage, silent, finished, passageWords, Going}
 use Rattle.wire.specs.declared.Report.{Report}
 use Rattle.wire.specs.declared.Format.{Format}
-use Rattle.reader.proofs.Lines.{Given, Sound, SoundGoing, Unbroken, finishedReports, HandsOut, HandsOutAt, Replaced, Lost, of-finished, of-broken, of-going}
+use Rattle.wire.specs.Passages.{Sound, SoundGoing, Unbroken, finishedReports}
+use Rattle.reader.specs.Lines.{Given, HandsOut, HandsOutAt, Replaced, Lost, of-finished, of-broken, of-going}
 use Rattle.reader.proofs.Stretch.{by-mark, by-silence, lost-finished, lost-broken, lost-going}
 
 -- The passages of the line are `before`, the finished report r, and `after`. i is the place of the word that ends r: of the words sent, `given` in

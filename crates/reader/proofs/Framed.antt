@@ -41,7 +41,7 @@ use Rattle.reader.proofs.Word.{by-rules, word-format}
 use Rattle.reader.proofs.Keeps.{word-good}
 use Rattle.reader.proofs.Goodness.{step-word, fresh-is-good}
 use Rattle.reader.proofs.Permitted.{steps-are}
-use Rattle.reader.proofs.Lines.{Legal}
+use Rattle.reader.specs.Lines.{Legal}
 use Rattle.reader.proofs.Front.{same-front}
 
 -- the frame of a format: its bytes, size and mark by the table

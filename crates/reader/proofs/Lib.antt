@@ -25,7 +25,6 @@ pub mod Back
 pub mod Useless
 pub mod Sentences
 pub mod Nowhere
-pub mod Lines
 pub mod Framed
 pub mod Took
 pub mod Segments

@@ -18,7 +18,8 @@ use Rattle.wire.specs.declared.Format.{Format}
 use Rattle.wire.proofs.Codec.{bytes-length, bytes-fit, there}
 use Rattle.frames.specs.Line.{Segment, silence, sent, cut, words, Calm, Fits, Full, Short, Part}
 use Rattle.frames.specs.Line as line
-use Rattle.reader.proofs.Lines.{Legal, SoundOf, Sound, SoundGoing, Unbroken, finishedIn, finishedReports}
+use Rattle.wire.specs.Passages.{SoundOf, Sound, SoundGoing, Unbroken, finishedIn, finishedReports}
+use Rattle.reader.specs.Lines.{Legal}
 use Rattle.reader.proofs.Framed.{frameOf, two, laws}
 
 -- legal words, joined and taken apart

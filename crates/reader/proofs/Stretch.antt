@@ -16,7 +16,8 @@ use Rattle.wire.proofs.Codec.{bytes-length, there}
 use Rattle.frames.specs.Line.{Sub, none, gone, stays, words}
 use Rattle.frames.specs.Frame as frame
 use Rattle.frames.proofs.Replaced as replaced
-use Rattle.reader.proofs.Lines.{Legal, Given, Sound, SoundGoing, Unbroken, finishedReports, HandsOut, HandsOutAt, Replaced}
+use Rattle.wire.specs.Passages.{Sound, SoundGoing, Unbroken, finishedReports}
+use Rattle.reader.specs.Lines.{Legal, Given, HandsOut, HandsOutAt, Replaced}
 use Rattle.reader.proofs.Framed.{frameOf, two, laws, is-marked}
 use Rattle.reader.proofs.Segments.{legal-append, legal-replaced, segments, segments-append, same-words, words-append, calm, whole-report, part-report, sound, sound-going, same-finished, sound-left, sound-right, finished-append, fits-legal, passages-legal, line-legal}
 use Rattle.reader.proofs.Handed.{hands-out, hands-out-at, behind-given, read-given, given-legal}

@@ -29,7 +29,7 @@ use Rattle.reader.proofs.Word.{word-format}
 use Rattle.reader.proofs.Keeps.{word-good}
 use Rattle.reader.proofs.Goodness.{step-word, read-line, fresh-is-good}
 use Rattle.reader.proofs.Permitted.{steps-are}
-use Rattle.reader.proofs.Lines.{Legal, handedOut, numbers, Took}
+use Rattle.reader.specs.Lines.{Legal, handedOut, numbers, Took}
 use Rattle.reader.proofs.Framed.{word-like, fresh-named}
 
 abbrev TookLong : List ℕ → List Report → List ℤ → Long → Type 0

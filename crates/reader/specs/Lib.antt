@@ -7,3 +7,4 @@ pub mod Line
 pub mod Counts
 pub mod Promises
 pub mod Runs
+pub mod Lines

@@ -7,9 +7,7 @@ use lib.ListN.{length, take, drop, getD}
 use lib.IntN.{ℤ}
 use Rattle.wire.specs.Line.{break, silence, letterOf, sizeOf}
 use Rattle.wire.specs.Table.{bytesOf}
-use Rattle.wire.specs.Holds.{accepted, carried}
-use Rattle.wire.specs.Passages.{Passage, silent, finished, broken, reply, brokenReply, passageWords, Going, nothing, report, goingWords}
-use Rattle.wire.specs.Passages as passage
+use Rattle.wire.specs.Passages.{Passage, finished, broken, passageWords, Sound, SoundGoing, Going, report, goingWords}
 use Rattle.wire.specs.Numbers.{success}
 use Rattle.wire.specs.declared.Report.{Report}
 use Rattle.wire.specs.declared.Format.{Format}
@@ -32,45 +30,6 @@ Legal (w ∷ words) = (w ≤ silence) × Legal words
 pub data Given : List ℕ → Type 0 where
   no-word : Given []
   a-break : Given (break ∷ [])
-
--- a passage of the format f: a silence, or a report that f holds, finished or broken off before its last byte
-abbrev pub SoundOf : Format → Passage → Type 0
-SoundOf f silent = Unit {0}
-SoundOf f (finished g r) = (g ≡ f) × (accepted f r ≡ true)
-SoundOf f (broken n g r) = (g ≡ f) × (accepted f r ≡ true) × (n < sizeOf f)
-SoundOf f (reply bytes) = ⊥
-SoundOf f (brokenReply n bytes) = ⊥
-
-abbrev pub Sound : Format → List Passage → Type 0
-Sound f [] = Unit {0}
-Sound f (p ∷ passages) = SoundOf f p × Sound f passages
-
--- what is going: nothing, or a report that f holds, before its last byte
-abbrev pub SoundGoing : Format → Going → Type 0
-SoundGoing f nothing = Unit {0}
-SoundGoing f (report n g r) = (g ≡ f) × (accepted f r ≡ true) × (n < sizeOf f)
-SoundGoing f (passage.answer n bytes) = ⊥
-
--- no passage is broken off
-abbrev pub Unbroken : List Passage → Type 0
-Unbroken [] = Unit {0}
-Unbroken (silent ∷ passages) = Unbroken passages
-Unbroken (finished f r ∷ passages) = Unbroken passages
-Unbroken (broken n f r ∷ passages) = ⊥
-Unbroken (reply bytes ∷ passages) = Unbroken passages
-Unbroken (brokenReply n bytes ∷ passages) = ⊥
-
--- the finished reports of passages, in the order sent, each as the format carries it
-abbrev pub finishedIn : Format → Passage → List Report
-finishedIn f silent = []
-finishedIn f (finished g r) = carried f r ∷ []
-finishedIn f (broken n g r) = []
-finishedIn f (reply bytes) = []
-finishedIn f (brokenReply n bytes) = []
-
-abbrev pub finishedReports : Format → List Passage → List Report
-finishedReports f [] = []
-finishedReports f (p ∷ passages) = finishedIn f p ++ finishedReports f passages
 
 -- the reports among answers, and the numbers of reports, one after the other
 abbrev pub handedOut : List Answer → List Report
