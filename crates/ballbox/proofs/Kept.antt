@@ -20,7 +20,7 @@ use Rattle.ballbox.specs.Motion.{placedAt, placed, movedBy}
 use Rattle.ballbox.specs.Latching.{cleared, latchedReport, bytesBy, latched, withSecond, secondLatched}
 use Rattle.ballbox.specs.Commands.{isFormat, isStream, commandOf, obeyed}
 use Rattle.ballbox.specs.Events.{onMotion, onButtons, onPeriod, bytesLeft, wanted, latching, secondNow, withByteReady, after, nextByte, sending, onSlot, dropped, onHost, woken, awake, asleep}
-use Rattle.ballbox.specs.Good.{onPad, goodSettings, goodTrack, goodGoing, restful, good}
+use Rattle.ballbox.specs.Good.{onPad, goodSettings, goodTrack, goodGoing, good}
 use Rattle.ballbox.specs.Promises.{aboveSeven, stepOf, FreshPromise, StepPromise}
 use Rattle.ballbox.specs.declared.Pair.{Pair}
 use Rattle.ballbox.specs.declared.Settings.{Settings}
@@ -85,14 +85,14 @@ record Sendable (letter : ℕ) (g : Going) : Type 0 where
   zero4 : g .length ≤ 4 → at 4 (g .bytes) ≡ 0
 
 -- nothing is left to send
-record Idle (g : Going) : Type 0 where
-  length0 : g .length ≡ 0
-  sent0 : g .sent ≡ 0
-  zero0 : at 0 (g .bytes) ≡ 0
-  zero1 : at 1 (g .bytes) ≡ 0
-  zero2 : at 2 (g .bytes) ≡ 0
-  zero3 : at 3 (g .bytes) ≡ 0
-  zero4 : at 4 (g .bytes) ≡ 0
+pub record Idle (g : Going) : Type 0 where
+  pub length0 : g .length ≡ 0
+  pub sent0 : g .sent ≡ 0
+  pub zero0 : at 0 (g .bytes) ≡ 0
+  pub zero1 : at 1 (g .bytes) ≡ 0
+  pub zero2 : at 2 (g .bytes) ≡ 0
+  pub zero3 : at 3 (g .bytes) ≡ 0
+  pub zero4 : at 4 (g .bytes) ≡ 0
 
 idle-good : (letter : ℕ) (g : Going) → Idle g → GoodGoing letter g
 idle-good letter g i =
@@ -263,11 +263,11 @@ slot-good b a g =
     (λ e. cases (λ (x : Answer). Good (x .next)) (bytesLeft b) (λ l. ready-good b a l g) (λ l. g))
 
 -- a box with nothing going, ready to obey
-record Ready (b : BallBox) : Type 0 where
-  settings : goodSettings (b .settings) ≡ true
-  track : goodTrack (b .track) ≡ true
-  idle : Idle (b .going)
-  awake : b .dormant ≡ false
+pub record Ready (b : BallBox) : Type 0 where
+  pub settings : goodSettings (b .settings) ≡ true
+  pub track : goodTrack (b .track) ≡ true
+  pub idle : Idle (b .going)
+  pub awake : b .dormant ≡ false
 
 -- where no bytes are left nothing is going
 left-idle : (letter : ℕ) (g : Going) → GoodGoing letter g → ltb (g .sent) (g .length) ≡ false → Idle g
@@ -288,7 +288,7 @@ left-idle letter g o l =
     none-left true e k = eqb-true (g .length) 0 e
     none-left false e k = absurd (omega (arith, o .some (omega (arith, eqb-false (g .length) 0 e))))
 
-dropped-ready : (b : BallBox) → b .dormant ≡ false → Good b → Ready (dropped b)
+pub dropped-ready : (b : BallBox) → b .dormant ≡ false → Good b → Ready (dropped b)
 unfolding dropped
 dropped-ready b a g =
     cases Ready (bytesLeft b)

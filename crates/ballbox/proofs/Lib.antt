@@ -1,4 +1,6 @@
--- The laws of the ball box, and what the functions' proofs share.
+-- The laws of the ball box: one answer and the refusals (Refusals), good boxes (Kept), the words (Words), what moved means (Moving), what is
+-- latched (Latches), the host's bytes (Obeying), the dormant box (Sleeping), the useless box (Useless) and the figures (Figures). The rest
+-- is what these and the functions' proofs share.
 pub mod Tests
 pub mod Letters
 pub mod Accepting
@@ -7,6 +9,7 @@ pub mod Slots
 pub mod Kept
 pub mod Refusals
 pub mod Words
+pub mod Moving
 pub mod Latches
 pub mod Obeying
 pub mod Sleeping

@@ -1,9 +1,10 @@
 -- What the host's bytes do: the ignored rest, prompt mode, and the replies.
 use Prim.Native.Nat.{ℕ, _+_, _*_}
-use mathlib.Core.Path.{_≡_, refl, ap, _∙_}
+use mathlib.Core.Path.{_≡_, refl, ap, ap₂, _∙_}
 use mathlib.Core.Bool.{Bool, true, false, cond, _||_}
 use mathlib.Core.List.{[], _∷_}
-use lib.Dec.{eqb}
+use lib.Dec.{eqb, ltb}
+use borrow.Author.Tests.{eqb-true}
 use Rattle.wire.specs.Line.{break, letterOf, namedBy}
 use Rattle.wire.specs.declared.Format.{Format}
 use Rattle.ballbox.specs.Box.{modeD, nothing, goingFrom, withGoing, Answer, gives, quietly}
@@ -13,11 +14,14 @@ use Rattle.ballbox.specs.Good.{good}
 use Rattle.ballbox.specs.Promises.{answerOf, StepPromise}
 use Rattle.ballbox.specs.declared.Settings.{Settings}
 use Rattle.ballbox.specs.declared.BallBox.{BallBox}
-use Rattle.ballbox.specs.declared.Command.the-variants.{Ignored}
+use Rattle.ballbox.specs.declared.Command.{Command}
+use Rattle.ballbox.specs.declared.Command.the-variants.{SetFormat, Ignored}
 use Rattle.ballbox.specs.declared.Event.the-variants.{Host}
 use Rattle.ballbox.specs.declared.Stepped.{Stepped}
-use Rattle.ballbox.proofs.Tests.{neither, cases}
+use Rattle.ballbox.proofs.Tests.{other, neither, cases}
 use Rattle.ballbox.proofs.Accepting.{named}
+use Rattle.ballbox.proofs.Steps.{parts}
+use Rattle.ballbox.proofs.Kept.{mode-known, dropped-ready}
 use Rattle.ballbox.proofs.Refusals.{awake-step}
 
 -- the letters, space and 05H
@@ -57,16 +61,21 @@ module _ (b : BallBox) (n : ℕ) (r : Stepped) (s : StepPromise b (Host n) r) (g
   ignored-idle h l = rw (rest-ignored n h) at heard ∙ ap (λ (t : Bool). gives (cond t (break ∷ []) []) (cond t (withGoing nothing b) b)) l
 
 -- what is dropped leaves the settings
-dropped-settings : (b : BallBox) → dropped b .settings ≡ b .settings
+pub dropped-settings : (b : BallBox) → dropped b .settings ≡ b .settings
 unfolding dropped
 dropped-settings b = cases (λ (x : BallBox). x .settings ≡ b .settings) (bytesLeft b) (λ e. refl) (λ e. refl)
 
-dropped-awake : (b : BallBox) → dropped b .dormant ≡ b .dormant
+pub dropped-awake : (b : BallBox) → dropped b .dormant ≡ b .dormant
 unfolding dropped
 dropped-awake b = cases (λ (x : BallBox). x .dormant ≡ b .dormant) (bytesLeft b) (λ e. refl) (λ e. refl)
 
+-- "prompt mode, whose letter is D however it was set": a mode of a good box that is no stream mode is D
+pub prompt-letter : (b : BallBox) → good b ≡ true → isStream (b .settings .mode) ≡ false → b .settings .mode ≡ modeD
+prompt-letter b g s =
+    eqb-true (b .settings .mode) modeD (other (isStream (b .settings .mode)) (eqb (b .settings .mode) modeD) (mode-known (b .settings) (parts b g .settings)) s)
+
 module _ (b : BallBox) (r : Stepped) (g : good b ≡ true) (d : b .dormant ≡ false) where
-  -- "prompt mode, whose letter is D however it was set"
+  -- D and P set it
   pub prompt-by-D : StepPromise b (Host 0x44) r → (r .next .settings .mode ≡ modeD) × (r .next .due ≡ false)
   unfolding commandOf obeyed
   prompt-by-D s = let e = next-is b 0x44 r s g d in (ap (λ (x : BallBox). x .settings .mode) e, ap (λ (x : BallBox). x .due) e)
@@ -104,3 +113,13 @@ module _ (b : BallBox) (r : Stepped) (g : good b ≡ true) (d : b .dormant ≡ f
   reply-to-05 s =
       ap (λ (x : BallBox). x .going) (next-is b 0x05 r s g d) ∙
       ap (λ (x : Settings). goingFrom (x .buttons ∷ 0 ∷ 0 ∷ [])) (dropped-settings b)
+
+-- a format letter sets the format; the box is awake and nothing is going
+pub format-set : (b : BallBox) (n : ℕ) (r : Stepped) → good b ≡ true → b .dormant ≡ false → isFormat n ≡ true → StepPromise b (Host n) r →
+    (r .next .settings .format ≡ n) × (r .next .dormant ≡ false) × (bytesLeft (r .next) ≡ false)
+unfolding commandOf obeyed
+format-set b n r g d f s =
+    let i = dropped-ready b d (parts b g) .idle in
+    let c : commandOf n ≡ SetFormat n = rw f in
+    let e = next-is b n r s g d ∙ ap (λ (x : Command). obeyed x (dropped b)) c in
+    (ap (λ (x : BallBox). x .settings .format) e, ap (λ (x : BallBox). x .dormant) e ∙ (dropped-awake b ∙ d), ap bytesLeft e ∙ ap₂ ltb (i .sent0) (i .length0))

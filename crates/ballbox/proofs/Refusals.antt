@@ -46,13 +46,19 @@ unfolding stepOf
 bad-buttons b n r s g l = rw (g, lt-ltb 7 n l) at s
 
 -- else the rules
-pub awake-step : (b : BallBox) (e : Event) (r : Stepped) → StepPromise b e r → good b ≡ true → aboveSeven e ≡ false → b .dormant ≡ false → answerOf r ≡ awake b e
+pub rule-awake : (b : BallBox) (e : Event) → good b ≡ true → aboveSeven e ≡ false → b .dormant ≡ false → stepOf b e ≡ awake b e
 unfolding stepOf
-awake-step b e r s g l d = rw (g, l) at s ∙ ap (λ (t : Bool). cond t (asleep b e) (awake b e)) d
+rule-awake b e g l d = rw (g, l) (ap (λ (t : Bool). cond t (asleep b e) (awake b e)) d)
+
+pub rule-asleep : (b : BallBox) (e : Event) → good b ≡ true → aboveSeven e ≡ false → b .dormant ≡ true → stepOf b e ≡ asleep b e
+unfolding stepOf
+rule-asleep b e g l d = rw (g, l) (ap (λ (t : Bool). cond t (asleep b e) (awake b e)) d)
+
+pub awake-step : (b : BallBox) (e : Event) (r : Stepped) → StepPromise b e r → good b ≡ true → aboveSeven e ≡ false → b .dormant ≡ false → answerOf r ≡ awake b e
+awake-step b e r s g l d = s ∙ rule-awake b e g l d
 
 pub asleep-step : (b : BallBox) (e : Event) (r : Stepped) → StepPromise b e r → good b ≡ true → aboveSeven e ≡ false → b .dormant ≡ true → answerOf r ≡ asleep b e
-unfolding stepOf
-asleep-step b e r s g l d = rw (g, l) at s ∙ ap (λ (t : Bool). cond t (asleep b e) (awake b e)) d
+asleep-step b e r s g l d = s ∙ rule-asleep b e g l d
 
 -- no other number is given back, and a refusal leaves the old box and gives no word
 pub data Told (b : BallBox) (a : Answer) : Type 0 where

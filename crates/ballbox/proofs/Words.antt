@@ -17,12 +17,12 @@ use Rattle.wire.specs.declared.Format.{Format}
 use Rattle.wire.specs.declared.Format.the-variants.{Mm, Microsoft, Absolute, Relative, FiveByte, ThreeByte, Hexadecimal}
 use Rattle.wire.specs.declared.Report.{Report}
 use Rattle.wire.proofs.Codec.{bytes-below}
-use Rattle.ballbox.specs.Box.{modeD, Answer, nothing, goingFrom, withGoing}
+use Rattle.ballbox.specs.Box.{freshBox, modeD, Answer, nothing, goingFrom, withGoing}
 use Rattle.ballbox.specs.Latching.{taken, acceptedBy, latchedReport, bytesBy, latched, secondOnly, withSecond, secondLatched}
 use Rattle.ballbox.specs.Commands.{isFormat, isStream, codeOf, codeByte, commandOf, obeyed}
-use Rattle.ballbox.specs.Events.{onButtons, onPeriod, bytesLeft, wanted, latching, secondNow, withByteReady, after, nextByte, sending, onSlot, dropped, onHost, woken, awake, asleep}
+use Rattle.ballbox.specs.Events.{Speaks, onButtons, onPeriod, bytesLeft, wanted, latching, secondNow, withByteReady, after, nextByte, sending, onSlot, dropped, onHost, woken, awake, asleep}
 use Rattle.ballbox.specs.Good.{good, goodSettings}
-use Rattle.ballbox.specs.Promises.{wordsOf, aboveSeven, stepOf, StepPromise}
+use Rattle.ballbox.specs.Promises.{wordsOf, aboveSeven, stepOf, FreshPromise, StepPromise}
 use Rattle.ballbox.specs.declared.Going.{Going}
 use Rattle.ballbox.specs.declared.BallBox.{BallBox}
 use Rattle.ballbox.specs.declared.Command.{Command}
@@ -34,14 +34,6 @@ use Rattle.ballbox.proofs.Letters.{Lettered, known, unknown, lettered}
 use Rattle.ballbox.proofs.Accepting.{named, latched-accepted, second-accepted}
 use Rattle.ballbox.proofs.Steps.{parts, good-buttons}
 use Rattle.ballbox.proofs.Kept.{letter-known, mode-known, few}
-
--- the events that give a word: Slot, and Host when it breaks off
-abbrev pub Speaks : BallBox → Event → Type 0
-Speaks b (Motion dx dy) = ⊥
-Speaks b (Buttons n) = ⊥
-Speaks b (Host n) = (b .dormant ≡ false) × (bytesLeft b ≡ true)
-Speaks b Slot = Unit {0}
-Speaks b Period = ⊥
 
 no-word : {X : Type 0} (w : ℕ) (ws : List ℕ) → [] ≡ w ∷ ws → X
 no-word w ws e = let z : _≡_ {A = ℕ} 0 1 = cc in absurd (omega arith)
@@ -77,6 +69,7 @@ speaks b Period w ws =
     Says : Event → Answer → Type 0
     Says e x = x .words ≡ w ∷ ws → Speaks b e
 
+-- "Only Slot, and Host when it breaks off, give a word; the other steps give none."
 pub only-slot-and-host : (b : BallBox) (e : Event) (r : Stepped) (w : ℕ) (ws : List ℕ) → StepPromise b e r → wordsOf (r .sent) ≡ w ∷ ws → Speaks b e
 only-slot-and-host b e r w ws s h = speaks b e w ws (sym (ap (λ (x : Answer). x .words) s) ∙ h)
 
@@ -231,7 +224,7 @@ obeyed-five n b s h =
     (λ _. cases (Replies b) (eqb n 0x05) (λ e. going-five _ (lb, (l0, (l0, tt))))
     (λ _. cases (Replies b) (eqb n 0x64) (λ e. h) (λ _. h)))))))))
 
--- every word is at most 257
+-- each word is at most 257
 abbrev pub Legal : List ℕ → Type 0
 Legal [] = Unit {0}
 Legal (w ∷ ws) = (w ≤ 257) × Legal ws
@@ -289,6 +282,10 @@ step-sound b e h =
     cases Sound (not (good b)) (λ g. record { bytes = h; legal = tt })
     (λ g. cases Sound (aboveSeven e) (λ l. record { bytes = h; legal = tt })
     (λ l. cases Sound (b .dormant) (λ d. asleep-sound b e h) (λ d. awake-sound b e (not-false (good b) g) h)))
+
+pub fresh-bytes : (b : BallBox) → FreshPromise b → FiveBytes (b .going)
+unfolding freshBox
+fresh-bytes b e = subst (λ (x : BallBox). FiveBytes (x .going)) (sym e) nothing-five
 
 pub step-bytes : (b : BallBox) (e : Event) (r : Stepped) → StepPromise b e r → FiveBytes (b .going) → FiveBytes (r .next .going)
 step-bytes b e r s h = subst (λ (a : Answer). FiveBytes (a .next .going)) (sym s) (step-sound b e h .bytes)

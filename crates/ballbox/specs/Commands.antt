@@ -40,6 +40,10 @@ commandOf b =
     (cond (eqb b 0x05) AskButtons
     (cond (eqb b 0x64) Sleep Ignored))))))))
 
+-- ""Asked only for reports" means no host byte but J K L R M Q N O D P."
+abbrev pub asksForReports : ℕ → Bool
+asksForReports b = isStream b || eqb b 0x44 || eqb b 0x50
+
 -- "ACK (06H)"
 abbrev pub ack : List ℕ
 ack = 0x06 ∷ []

@@ -1,6 +1,7 @@
 -- The five events, awake and dormant.
 use Prim.Native.Nat.{ℕ, _+_}
-use mathlib.Core.Bool.{Bool, false, not, cond, _&&_, _||_}
+use mathlib.Core.Path.{_≡_}
+use mathlib.Core.Bool.{Bool, true, false, not, cond, _&&_, _||_}
 use mathlib.Core.List.{List, [], _∷_}
 use lib.Dec.{eqb, ltb}
 use lib.IntN.{ℤ}
@@ -95,3 +96,11 @@ asleep b (Buttons n) = quietly b
 asleep b (Host byte) = quietly (woken b)
 asleep b Slot = gives (silence ∷ []) b
 asleep b Period = quietly b
+
+-- "Only Slot, and Host when it breaks off, give a word; the other steps give none."
+abbrev pub Speaks : BallBox → Event → Type 0
+Speaks b (Motion dx dy) = ⊥
+Speaks b (Buttons n) = ⊥
+Speaks b (Host n) = (b .dormant ≡ false) × (bytesLeft b ≡ true)
+Speaks b Slot = Unit {0}
+Speaks b Period = ⊥

@@ -1,16 +1,15 @@
 // The host's bytes, the buttons and the report interval.
 ghost use mathlib.Core.Path.{_≡_};
-ghost use mathlib.Core.Bool.{true, false};
+ghost use mathlib.Core.Bool.{false};
 ghost use mathlib.Core.List.{[], _∷_};
-ghost use Rattle.ballbox.specs.Box.{withFormat, withMode, withTrack, withGoing, withDue, withDormant};
+ghost use Rattle.ballbox.specs.Box.{withFormat, withMode, withTrack, withGoing, withDue};
 ghost use Rattle.ballbox.specs.Latching.{cleared};
-ghost use Rattle.ballbox.specs.Commands.{isTimed, isStream, commandOf, codeByte, replying, obeyed};
-ghost use Rattle.ballbox.specs.Events.{onButtons, onPeriod, onHost, woken};
+ghost use Rattle.ballbox.specs.Commands.{isTimed, isStream, commandOf, codeByte, obeyed};
+ghost use Rattle.ballbox.specs.Events.{onButtons, onPeriod, onHost};
 ghost use Rattle.ballbox.specs.Promises.{answerOf};
 use crate::BallBox;
 use crate::Command;
 use crate::Going;
-use crate::Sent;
 use crate::Stepped;
 
 // The modes in which the report interval counts.
@@ -86,8 +85,8 @@ impl BallBox {
         self
     }
 
-    // A reply of some of three bytes is to be sent; the rest are 0.
-    fn replying(mut self, length: u8, b1: u8, b2: u8) -> BallBox
+    // A reply of up to three bytes is to be sent; the third is 0.
+    pub(crate) fn replying(mut self, length: u8, b1: u8, b2: u8) -> BallBox
         ensures { λ r. ⌜ r ≡ withGoing (record { length = length; sent = 0; bytes = b1 ∷ b2 ∷ 0 ∷ 0 ∷ 0 ∷ [] }) self ⌝ }
     {
         let reply = Going {
@@ -96,14 +95,6 @@ impl BallBox {
             bytes: [b1, b2, 0, 0, 0],
         };
         self.going = reply;
-        self
-    }
-
-    fn asleep_now(mut self) -> BallBox
-        ensures { λ r. ⌜ r ≡ withDormant true (withDue false self) ⌝ }
-    {
-        self.dormant = true;
-        self.due = false;
         self
     }
 
@@ -120,7 +111,7 @@ impl BallBox {
             Command::AskCode => self.replying(1, code_byte(self.settings.format), 0),
             Command::AskLetters => self.replying(2, self.settings.format, self.settings.mode),
             Command::AskButtons => self.replying(3, self.settings.buttons, 0),
-            Command::Sleep => self.asleep_now(),
+            Command::Sleep => self.put_to_sleep(),
             Command::Ignored => self,
         }
     }
@@ -135,14 +126,6 @@ impl BallBox {
         } else {
             next.quietly()
         }
-    }
-
-    // The box wakes, and an ACK is to be sent.
-    pub(crate) fn woken(mut self) -> BallBox
-        ensures { λ r. ⌜ r ≡ woken self ⌝ }
-    {
-        self.dormant = false;
-        self.replying(1, 6, 0)
     }
 
     // A change is kept; in a stream mode it makes a report due.

@@ -11,6 +11,7 @@ mod commands;
 mod latching;
 mod line;
 mod motion;
+mod rest;
 mod rules;
 
 // A movement or a place, x and y.
@@ -40,6 +41,7 @@ pub struct Going {
     pub bytes: [u8; 5],
 }
 
+// What is set, counted and going; whether a report is due; whether the box is dormant.
 pub struct BallBox {
     pub settings: Settings,
     pub track: Track,
@@ -48,6 +50,8 @@ pub struct BallBox {
     pub dormant: bool,
 }
 
+// What happens to the box: counts of the ball, the buttons as 4L+2M+R, a byte of the host's, time for one character, and the end of the
+// report interval.
 pub enum Event {
     Motion(i16, i16),
     Buttons(u8),
@@ -179,6 +183,7 @@ impl BallBox {
         }
     }
 
+    // An event: the refusals in their order, and then the rules.
     pub fn step(self, event: Event) -> Stepped
         ensures { λ r. ⌜ StepPromise self event r ⌝ }
     {

@@ -59,8 +59,8 @@ replying-requires-4 c κs = search needs
 enum-told-7 : tie.Need-enum-told-7
 enum-told-7 c = search needs
 
-asleep-now-requires : tie.Need-asleep-now-requires
-asleep-now-requires c κs = search needs
+put-to-sleep-requires : tie.Need-put-to-sleep-requires
+put-to-sleep-requires c κs = search needs
 
 enum-told-8 : tie.Need-enum-told-8
 enum-told-8 c = search needs
@@ -99,7 +99,7 @@ returns-8 c = rw (c .before .enum-told6 .given .1) (c .replying4 .ensures)
 
 returns-9 : tie.Need-returns-9
 unfolding obeyed goingFrom
-returns-9 c = rw (c .before .enum-told7 .given .1) (c .asleep-now .ensures)
+returns-9 c = rw (c .before .enum-told7 .given .1) (c .put-to-sleep .ensures)
 
 returns-10 : tie.Need-returns-10
 unfolding obeyed
@@ -127,7 +127,7 @@ obeyed-spec =
     enum-told-6
     replying-requires-4
     enum-told-7
-    asleep-now-requires
+    put-to-sleep-requires
     enum-told-8
     returns
     returns-2
