@@ -14,4 +14,3 @@ pub mod Latches
 pub mod Obeying
 pub mod Sleeping
 pub mod Useless
-pub mod Figures

@@ -1,14 +1,14 @@
 -- The paper's figures, "proved (p) in a single table", on the promises of the public functions.
-use mathlib.Core.Path.{_≡_, refl, ap}
+use mathlib.Core.Path.{_≡_, refl, _∙_, ap}
 use mathlib.Core.Bool.{true, false}
-use mathlib.Core.List.{[], _∷_}
+use mathlib.Core.List.{List, [], _∷_, _++_}
 use lib.Dec.{lit≤}
 use lib.Count.{ones, onesIn}
 use lib.IntN.{pos}
 use Rattle.numbers.specs.Bits.{number, bit, bits}
 use Rattle.numbers.specs.Signed.{minus, twos, untwos, signed}
 use Rattle.numbers.specs.Parity.{even, withParity}
-use Rattle.wire.specs.Line.{namedBy}
+use Rattle.wire.specs.Line.{letterOf, namedBy, sizeBy, markedBy}
 use Rattle.wire.specs.Table.{bytesS, bytesV, rowsV, bytesB, rowsA, bytesU, bytesT, digit, bytesW, rowsW}
 use Rattle.wire.specs.Holds.{holds, accepted}
 use Rattle.wire.specs.Fits.{𝟏, 𝟎, ·, like, fitsFirst, fitsLater, fitsAt, fitsBy}
@@ -16,7 +16,43 @@ use Rattle.wire.specs.Reading.{report, reportBy, readS, readW, undigit}
 use Rattle.wire.specs.Encoder.{refusalOf}
 use Rattle.wire.specs.declared.Format.the-variants.{Mm, Microsoft, Relative, FiveByte, ThreeByte, Hexadecimal}
 use Rattle.wire.proofs.Answers.{movement-refused}
+use Rattle.reader.specs.State.{fresh, ready}
+use Rattle.reader.specs.Good.{known, placed}
+use Rattle.reader.specs.Good as reading
+use Rattle.reader.specs.Rules.{entered, answered, keep, lose, byteOf, wordOf}
+use Rattle.reader.specs.Promises as reader
+use Rattle.reader.specs.Runs.{stepsOf, StepsPromise, answers}
+use Rattle.reader.specs.declared.NewReader.{NewReader}
+use Rattle.reader.specs.declared.Read.{Read}
+use Rattle.reader.specs.declared.Answer.the-variants.{Nothing, Report, Dropped}
+use Rattle.reader.proofs.Permitted.{step-is, steps-are}
+use Rattle.ballbox.specs.Box.{Answer, freshBox, goingFrom}
+use Rattle.ballbox.specs.Motion.{apart, hasMoved}
+use Rattle.ballbox.specs.Commands.{commandOf, obeyed}
+use Rattle.ballbox.specs.Events.{latching, withByteReady, after, nextByte, sending, dropped, onHost, awake}
+use Rattle.ballbox.specs.Good.{good, goodSettings, goodTrack, goodGoing}
+use Rattle.ballbox.specs.Promises.{wordsOf, stepOf, FreshPromise, StepPromise}
+use Rattle.ballbox.specs.declared.BallBox.{BallBox}
+use Rattle.ballbox.specs.declared.Event.the-variants.{Host, Slot}
+use Rattle.ballbox.specs.declared.Stepped.{Stepped}
+use Rattle.ballbox.proofs.Kept.{step-good}
+use Rattle.ballbox.proofs.Obeying.{reply-to-f, awake-after-f}
+use Rattle.ballbox.proofs.Latches.{first-sent}
 use Rattle.demands.specs.Said.{Encodes, Refuses, StandFor, FitsNot, encodes}
+
+-- p1 `f` in S: 1A
+pub p1 : (b : BallBox) (r s : Stepped) → good b ≡ true → b .dormant ≡ false → b .settings .format ≡ letterOf Mm → StepPromise b (Host 0x66) r → StepPromise (r .next) Slot s → wordsOf (s .sent) ≡ 0x1A ∷ []
+p1 b r s g d f p q = first-sent (r .next) s 0x1A [] (step-good b (Host 0x66) r p g) (awake-after-f b r g d p) (reply-to-f b r g d Mm f p) q
+
+-- p2 `t` when fresh: 55 4F
+pub p2 : (b : BallBox) (r s t : Stepped) → FreshPromise b → StepPromise b (Host 0x74) r → StepPromise (r .next) Slot s → StepPromise (s .next) Slot t → wordsOf (s .sent) ++ wordsOf (t .sent) ≡ 0x55 ∷ 0x4F ∷ []
+unfolding stepOf good goodSettings goodTrack goodGoing freshBox awake onHost commandOf obeyed dropped sending latching withByteReady nextByte after hasMoved apart goingFrom sizeBy namedBy
+p2 b r s t f p q u =
+    let e : r .next ≡ stepOf freshBox (Host 0x74) .next = ap (λ (a : Answer). a .next) p ∙ ap (λ (x : BallBox). stepOf x (Host 0x74) .next) f in
+    let k : s .next ≡ stepOf (stepOf freshBox (Host 0x74) .next) Slot .next = ap (λ (a : Answer). a .next) q ∙ ap (λ (x : BallBox). stepOf x Slot .next) e in
+    let v : wordsOf (s .sent) ≡ 0x55 ∷ [] = ap (λ (a : Answer). a .words) q ∙ ap (λ (x : BallBox). stepOf x Slot .words) e in
+    let w : wordsOf (t .sent) ≡ 0x4F ∷ [] = ap (λ (a : Answer). a .words) u ∙ ap (λ (x : BallBox). stepOf x Slot .words) k in
+    rw (v, w)
 
 -- p3 W 36 33 45 35 32: L and M, -29, 37 (000)
 pub p3 : StandFor Hexadecimal (0x36 ∷ 0x33 ∷ 0x45 ∷ 0x35 ∷ 0x32 ∷ []) (report 6 (minus 29) (pos 37))
@@ -26,6 +62,10 @@ p3 a p = p
 pub p3-encoded : Encodes Hexadecimal (report 6 (minus 29) (pos 37)) (0x36 ∷ 0x33 ∷ 0x45 ∷ 0x35 ∷ 0x32 ∷ [])
 unfolding accepted holds number bit bits twos digit rowsW bytesW
 p3-encoded = encodes Hexadecimal (report 6 (minus 29) (pos 37)) (0x36 ∷ 0x33 ∷ 0x45 ∷ 0x35 ∷ 0x32 ∷ []) refl refl
+
+pub p3-read : (steps : List Read) → StepsPromise (ready 0x57) (0x36 ∷ 0x33 ∷ 0x45 ∷ 0x35 ∷ 0x32 ∷ []) steps → answers steps ≡ Nothing ∷ Nothing ∷ Nothing ∷ Nothing ∷ Report (report 6 (minus 29) (pos 37)) ∷ []
+unfolding reader.stepOf stepsOf reading.good known placed wordOf byteOf keep entered namedBy sizeBy markedBy fitsBy fitsAt fitsFirst fitsLater reportBy readW undigit untwos number bits bit
+p3-read steps e = rw (steps-are _ _ steps e)
 
 -- p4 V L, 5, 3: 6C 05 3D
 pub p4 : Encodes Microsoft (report 4 (pos 5) (pos 3)) (0x6C ∷ 0x05 ∷ 0x3D ∷ [])
@@ -60,6 +100,14 @@ pub p7-minus : StandFor Mm (0x80 ∷ 0x00 ∷ 0x00 ∷ []) (report 0 (pos 0) (po
 unfolding reportBy namedBy number bit bits signed readS
 p7-minus a p = p
 
+pub p7-read : (steps : List Read) → StepsPromise (ready 0x53) (0x98 ∷ 0x00 ∷ 0x00 ∷ []) steps → answers steps ≡ Nothing ∷ Nothing ∷ Report (report 0 (pos 0) (pos 0)) ∷ []
+unfolding reader.stepOf stepsOf reading.good known placed wordOf byteOf keep entered namedBy sizeBy markedBy fitsBy fitsAt fitsFirst fitsLater like reportBy readS signed number bits bit
+p7-read steps e = rw (steps-are _ _ steps e)
+
+pub p7-read-minus : (steps : List Read) → StepsPromise (ready 0x53) (0x80 ∷ 0x00 ∷ 0x00 ∷ []) steps → answers steps ≡ Nothing ∷ Nothing ∷ Report (report 0 (pos 0) (pos 0)) ∷ []
+unfolding reader.stepOf stepsOf reading.good known placed wordOf byteOf keep entered namedBy sizeBy markedBy fitsBy fitsAt fitsFirst fitsLater like reportBy readS signed number bits bit
+p7-read-minus steps e = rw (steps-are _ _ steps e)
+
 -- p8 B -1, 64: C0 3F 3F 00 81
 pub p8 : Encodes Relative (report 0 (minus 1) (pos 64)) (0xC0 ∷ 0x3F ∷ 0x3F ∷ 0x00 ∷ 0x81 ∷ [])
 unfolding accepted holds number bit bits twos withParity ones onesIn rowsA bytesB
@@ -91,3 +139,12 @@ p11-first a p = p
 pub p11-later : FitsNot Relative 1 0x40
 unfolding fitsBy namedBy fitsAt fitsLater like bit ones onesIn
 p11-later a p = p
+
+pub p11-read : (s : Read) → reader.StepPromise (fresh 0x42) 0x40 s → s ≡ answered (fresh 0x42) (Dropped 1)
+unfolding reader.stepOf reading.good known placed wordOf byteOf keep lose entered namedBy sizeBy markedBy fitsBy fitsAt fitsFirst fitsLater like bit ones onesIn
+p11-read s e = step-is (fresh 0x42) 0x40 s e
+
+-- p12 fresh U reader, 85 00: each dropped alone
+pub p12 : (a : NewReader) (steps : List Read) → reader.FreshPromise 0x55 a → StepsPromise (a .reader) (0x85 ∷ 0x00 ∷ []) steps → answers steps ≡ Dropped 1 ∷ Dropped 1 ∷ []
+unfolding reader.freshOf reader.stepOf stepsOf reading.good known placed wordOf byteOf entered namedBy sizeBy markedBy
+p12 a steps e h = rw (steps-are (a .reader) (0x85 ∷ 0x00 ∷ []) steps h, e)

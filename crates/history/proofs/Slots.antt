@@ -32,6 +32,7 @@ use Rattle.ballbox.specs.declared.Pair.{Pair}
 use Rattle.ballbox.specs.Commands.{isFormat, isStream}
 use Rattle.ballbox.specs.Good.{good, goodSettings}
 use Rattle.ballbox.proofs.Accepting.{wider, limited-within, latched-accepted}
+use Rattle.ballbox.proofs.Slots.{latching-busy, latching-wanted, latching-idle, sending-byte, sending-silence}
 use Rattle.ballbox.proofs.Steps.{parts as good-parts, good-buttons}
 use Rattle.history.specs.History.{begun, formatOf, paired, withPair, isFive}
 use Rattle.history.proofs.Carries.{onLine, OnLine, Rightly, Carries, to-line, at-five, Sends}
@@ -214,19 +215,10 @@ next-sends b g y h =
     let s = byte-sends (withByteReady b) (paired b g) (p .busy) (p .carries) in
     record { words = rw (p .words) at (s .words); carries = s .carries }
 
--- with bytes left nothing is latched, and the next byte goes out
-no-latch : (b : BallBox) → bytesLeft b ≡ true → latching b ≡ b
-unfolding latching
-no-latch b e = rw e
-
-sends-next : (b : BallBox) → bytesLeft b ≡ true → sending b ≡ nextByte (withByteReady b)
-unfolding sending
-sends-next b e = rw e
-
 pub slot-busy : (b : BallBox) (g : Going) → Busy g → Carries b g → Sends (onSlot b) g (sentOne (paired b g))
 slot-busy b g y h =
     let e = bytes-left b g y h in
-    rw (no-latch b e, sends-next b e) (next-sends b g y h)
+    rw (latching-busy b e, sending-byte b e) (next-sends b g y h)
 
 -- the format of a good box is one of the table
 one-of : (l : ℕ) (a b s t u v w : Bool) → eqb l (letterOf Absolute) ≡ a → eqb l (letterOf Relative) ≡ b → eqb l (letterOf Mm) ≡ s → eqb l (letterOf ThreeByte) ≡ t → eqb l (letterOf FiveByte) ≡ u → eqb l (letterOf Microsoft) ≡ v → eqb l (letterOf Hexadecimal) ≡ w → a || b || s || t || u || v || w ≡ true → (f : Format) × (l ≡ letterOf f)
@@ -284,18 +276,6 @@ not-yet b f r = rw (no-second (isFive f) (eqb 0 3) refl)
 pub idle-left : (b : BallBox) → Carries b nothing → bytesLeft b ≡ false
 idle-left b h = h .line
 
-latches : (b : BallBox) → bytesLeft b ≡ false → wanted b ≡ true → latching b ≡ latched b
-unfolding latching
-latches b e w = rw (e, w)
-
-keeps-still : (b : BallBox) → bytesLeft b ≡ false → wanted b ≡ false → latching b ≡ b
-unfolding latching
-keeps-still b e w = rw (e, w)
-
-sends-silence : (b : BallBox) → bytesLeft b ≡ false → sending b ≡ gives (silence ∷ []) b
-unfolding sending
-sends-silence b e = rw e
-
 pub slot-idle : (b : BallBox) → good b ≡ true → b .dormant ≡ false → Carries b nothing → Sends (onSlot b) nothing (sentOne (paired b (begun b nothing)))
 slot-idle b g d h = go (wanted b) refl
   where
@@ -304,7 +284,7 @@ slot-idle b g d h = go (wanted b) refl
         let k = latched-carries b g d in
         let y : Busy (report 0 (formatOf b) (latchedReport b)) = k .rightly .left in
         let s = rw (not-yet (latched b) (formatOf b) (latchedReport b)) at (next-sends (latched b) (report 0 (formatOf b) (latchedReport b)) y k) in
-        rw (e, latches b (idle-left b h) e, sends-next (latched b) (bytes-left (latched b) (report 0 (formatOf b) (latchedReport b)) y k), not-yet b (formatOf b) (latchedReport b))
+        rw (e, latching-wanted b (idle-left b h) e, sending-byte (latched b) (bytes-left (latched b) (report 0 (formatOf b) (latchedReport b)) y k), not-yet b (formatOf b) (latchedReport b))
         (record { words = s .words; carries = s .carries })
     go false e =
-        rw (e, keeps-still b (idle-left b h) e, sends-silence b (idle-left b h)) (record { words = refl; carries = h })
+        rw (e, latching-idle b (idle-left b h) e, sending-silence b (idle-left b h)) (record { words = refl; carries = h })

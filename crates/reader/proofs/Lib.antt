@@ -31,6 +31,5 @@ pub mod Segments
 pub mod Handed
 pub mod Stretch
 pub mod Damaged
-pub mod Figures
 pub mod Examples
 pub mod Wrong
