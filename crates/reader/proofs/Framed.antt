@@ -134,7 +134,10 @@ module _ (f : Format) (r : Reader) (g : good r ≡ true) (named : namedBy (r .fo
   waits-rightly a = go (rw a at (has-parts .awaits))
     where
       go : unmarked (r .format) && eqb (r .count) 0 ≡ true → (markedOf f ≡ false) × (r .count ≡ 0)
-      go e = (sym marked-is ∙ not-true (markedBy (r .format)) (left (unmarked (r .format)) (eqb (r .count) 0) e), eqb-true (r .count) 0 (right (unmarked (r .format)) (eqb (r .count) 0) e))
+      go e = (
+        sym marked-is ∙ not-true (markedBy (r .format)) (left (unmarked (r .format)) (eqb (r .count) 0) e),
+        eqb-true (r .count) 0 (right (unmarked (r .format)) (eqb (r .count) 0) e),
+      )
 
   -- as many bytes are kept as it counts
   kept-count : length (frame.kept (stateOf r)) ≡ r .count

@@ -29,7 +29,7 @@ use Rattle.reader.proofs.Framed.{frameOf, told, framed}
 use Rattle.reader.proofs.Took.{took}
 
 -- the steps of the definition are permitted
-permitted : (r : Reader) (words : List ℕ) → StepsPromise r words (stepsOf r words)
+pub permitted : (r : Reader) (words : List ℕ) → StepsPromise r words (stepsOf r words)
 unfolding stepsOf StepsPromise
 permitted r [] = tt
 permitted r (w ∷ words) = (refl, permitted _ words)
@@ -84,8 +84,11 @@ module _ (f : Format) (words : List ℕ) (legal : Legal words) where
         by-read = λ a steps before after b x y z room.
             let t = took f words a steps before after b legal x y room z in
             let l = answers steps in
-            let at = found-at l i p (all a steps x y) in
-            (t, rw (t .written, at) (numbers-at (handedOut (take i l)) p (handedOut (drop (suc i) l)) (drop (5 * length (handedOut (take i l) ++ (p ∷ handedOut (drop (suc i) l)))) before)));
+            let at = found-at l i p (all a steps x y) in (
+              t,
+              rw (t .written, at)
+                  (numbers-at (handedOut (take i l)) p (handedOut (drop (suc i) l)) (drop (5 * length (handedOut (take i l) ++ (p ∷ handedOut (drop (suc i) l)))) before)),
+            );
       }
     where
       all : (a : NewReader) (steps : List Read) → FreshPromise (letterOf f) a → StepsPromise (a .reader) words steps → getD (answers steps) i answer.Nothing ≡ answer.Report p

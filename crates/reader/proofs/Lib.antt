@@ -27,4 +27,5 @@ pub mod Segments
 pub mod Handed
 pub mod Stretch
 pub mod Damaged
+pub mod DamagedRuns
 pub mod Figures

@@ -1,5 +1,5 @@
 -- What the theorems on damaged lines speak of: lines of one format, what is sent on them, what is lost, and what is handed out.
-use Prim.Native.Nat.{ℕ, _*_, _≤_, _<_}
+use Prim.Native.Nat.{ℕ, suc, _+_, _*_, _≤_, _<_}
 use mathlib.Core.Path.{_≡_}
 use mathlib.Core.Bool.{true}
 use mathlib.Core.List.{List, [], _∷_, _++_}
@@ -117,6 +117,14 @@ pub record Replaced (f : Format) (passages : List Passage) (going : Going) (give
   pub in-front : Given given
   pub as-sent : passageWords passages ++ goingWords going ≡ pre ++ (old ++ post)
   pub legal : Legal new
+
+-- the stretch `old`, behind `pre`, ends before the words of what stands behind these passages
+abbrev pub Within : List Passage → List ℕ → List ℕ → Type 0
+Within before pre old = length pre + length old ≤ length (passageWords before)
+
+-- i is the place of the word that ends a report of f behind these passages, when `old` was replaced by `new`, with `given` in front of all
+abbrev pub EndsAt : Format → List Passage → List ℕ → List ℕ → List ℕ → ℕ → Type 0
+EndsAt f before given old new i = suc i + length old ≡ length given + length (passageWords before) + sizeOf f + length new
 
 -- A line of the format f of which one report lost bytes, neighbours or not, and nothing else: what was sent, `passages` and then `going`; the words
 -- that are left; and the passages other than that report. Of a finished report one byte or more is missing; of a broken-off one, or of the one

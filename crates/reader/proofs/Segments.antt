@@ -81,8 +81,11 @@ module _ (f : Format) where
   -- bytes of which each fits its place
   fits-from : (k bytes : List ℕ) → ((i : ℕ) → i < length bytes → fitsAt f (length k + i) (getD bytes i 0) ≡ true) → Fits (frameOf f) k bytes
   fits-from k [] h = tt
-  fits-from k (b ∷ bytes) h =
-      (rw add-zero at (h 0 (omega arith)), fits-from (k ++ (b ∷ [])) bytes (λ i l. rw (length-append k (b ∷ []), add-one (length k), suc-add (length k) i, ← add-suc (length k) i) (h (suc i) (omega arith))))
+  fits-from k (b ∷ bytes) h = (
+    rw add-zero at (h 0 (omega arith)),
+    fits-from (k ++ (b ∷ [])) bytes
+        (λ i l. rw (length-append k (b ∷ []), add-one (length k), suc-add (length k) i, ← add-suc (length k) i) (h (suc i) (omega arith))),
+  )
 
   full : (bytes : List ℕ) → length bytes ≡ sizeOf f → 2 ≤ sizeOf f → Full (frameOf f) bytes
   full [] e h = absurd (omega arith)
@@ -100,8 +103,11 @@ module _ (f : Format) where
 
   pub part-report : (n : ℕ) (r : Report) → accepted f r ≡ true → n < sizeOf f → Part (frameOf f) (take n (bytesOf f r))
   part-report n r a l =
-      let size = length-take n (bytesOf f r) in
-      (fits-from [] (take n (bytesOf f r)) (λ i h. let m : i < n = omega arith in rw (zero-add, getD-take n (bytesOf f r) i 0 m) (bytes-fit f r a i (omega arith))), short (take n (bytesOf f r)) (omega arith))
+      let size = length-take n (bytesOf f r) in (
+        fits-from [] (take n (bytesOf f r))
+            (λ i h. let m : i < n = omega arith in rw (zero-add, getD-take n (bytesOf f r) i 0 m) (bytes-fit f r a i (omega arith))),
+        short (take n (bytesOf f r)) (omega arith),
+      )
 
   -- so that the segments of sound passages are sound, and have the same finished reports
   sound-of : (p : Passage) → SoundOf f p → line.SoundOf (frameOf f) (segmentOf p)

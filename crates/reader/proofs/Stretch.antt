@@ -16,7 +16,7 @@ use Rattle.wire.proofs.Codec.{bytes-length, there}
 use Rattle.frames.specs.Line.{Sub, none, gone, stays, words}
 use Rattle.frames.specs.Frame as frame
 use Rattle.frames.proofs.Replaced as replaced
-use Rattle.reader.proofs.Lines.{Legal, Given, Sound, SoundGoing, Unbroken, finishedReports, HandsOut, HandsOutAt, Replaced}
+use Rattle.reader.proofs.Lines.{Legal, Given, Sound, SoundGoing, Unbroken, finishedReports, HandsOut, HandsOutAt, Replaced, Within, EndsAt}
 use Rattle.reader.proofs.Framed.{frameOf, two, laws, is-marked}
 use Rattle.reader.proofs.Segments.{legal-append, legal-replaced, segments, segments-append, same-words, words-append, calm, whole-report, part-report, sound, sound-going, same-finished, sound-left, sound-right, finished-append, fits-legal, passages-legal, line-legal}
 use Rattle.reader.proofs.Handed.{hands-out, hands-out-at, behind-given, read-given, given-legal}
@@ -24,7 +24,7 @@ use Rattle.reader.proofs.Handed.{hands-out, hands-out-at, behind-given,
 -- the finished report r stands on the line between `before` and `after`, and i is the place of its last byte when `old` is replaced by `new`
 module _ (f : Format) (passages : List Passage) (going : Going) (given pre old new post : List ℕ) (l : Replaced f passages going given pre old new post)
     (before : List Passage) (r : Report) (after : List Passage) (is : passages ≡ before ++ (finished f r ∷ after))
-    (i : ℕ) (place : suc i + length old ≡ length given + length (passageWords before) + sizeOf f + length new) where
+    (i : ℕ) (place : EndsAt f before given old new i) where
   abbrev rest : List ℕ
   rest = passageWords after ++ goingWords going
 
@@ -42,7 +42,7 @@ module _ (f : Format) (passages : List Passage) (going : Going) (given pre old n
       legal-append given (pre ++ (new ++ post)) (given-legal (l .in-front))
       (legal-replaced pre old post new (rw (l .as-sent) at (line-legal f passages going (l .sound) (l .sound-going))) (l .legal))
 
-  handed : length pre + length old ≤ length (passageWords before)
+  handed : Within before pre old
       → ((j : ℕ) → suc j + length old ≡ length (words (segments before)) + length (bytesOf f r) + length new
       → replaced.Handed (frameOf f) (pre ++ (new ++ post)) j (reportOf f (bytesOf f r)))
       → HandsOutAt f (given ++ (pre ++ (new ++ post))) i (carried f r)
@@ -54,14 +54,14 @@ module _ (f : Format) (passages : List Passage) (going : Going) (given pre old n
       (rw (split, there f r is-accepted) at
       (behind-given f (l .in-front) (pre ++ (new ++ post)) j (reportOf f (bytesOf f r)) (k j (rw (same-words before, bytes-length f r) (omega arith)))))
 
-  pub by-mark : markedOf f ≡ true → length pre + length old ≤ length (passageWords before) → HandsOutAt f (given ++ (pre ++ (new ++ post))) i (carried f r)
+  pub by-mark : markedOf f ≡ true → Within before pre old → HandsOutAt f (given ++ (pre ++ (new ++ post))) i (carried f r)
   by-mark m h =
       handed h
       (λ j at.
       replaced.marked (frameOf f) (segments before) (bytesOf f r) (whole-report f r is-accepted) rest pre old post new as-sent j at (is-marked f m)
       (rw (same-words before) h))
 
-  pub by-silence : (front quiet : List Passage) → before ≡ front ++ (silent ∷ quiet) → Unbroken quiet → length pre + length old ≤ length (passageWords front)
+  pub by-silence : (front quiet : List Passage) → before ≡ front ++ (silent ∷ quiet) → Unbroken quiet → Within front pre old
       → HandsOutAt f (given ++ (pre ++ (new ++ post))) i (carried f r)
   by-silence front quiet e u h =
       let before-sound : Sound f (front ++ (silent ∷ quiet)) = rw e at (sound-left f before (finished f r ∷ after) all-sound) in

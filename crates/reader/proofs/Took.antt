@@ -54,7 +54,8 @@ taking r w words out (answer.Report p) l later rest room =
       refusal = t .refusal;
       taken = omega (arith, t .taken);
       reports = omega (arith, t .reports);
-      written = ap (λ (x : List ℤ). fiveOf p ++ x) (t .written ∙ ap (λ (x : List ℤ). numbers (handedOut l) ++ x) (drop-drop (5 * length (handedOut l)) 5 out ∙ ap (λ (n : ℕ). drop n out) five));
+      written = ap (λ (x : List ℤ). fiveOf p ++ x)
+          (t .written ∙ ap (λ (x : List ℤ). numbers (handedOut l) ++ x) (drop-drop (5 * length (handedOut l)) 5 out ∙ ap (λ (n : ℕ). drop n out) five));
     })
 
 module _ (f : Format) where
