@@ -1,21 +1,22 @@
 -- A fresh reader of U, T or W hands out nothing before the first silence, whatever the words.
-use Prim.Native.Nat.{ℕ, _+_, _*_}
-use mathlib.Core.Path.{_≡_, refl, sym, _∙_, ap}
-use mathlib.Core.Bool.{Bool, true, false, not, _||_}
+use Prim.Native.Nat.{ℕ}
+use mathlib.Core.Path.{_≡_, refl, _∙_, ap}
+use mathlib.Core.Bool.{Bool, true, false}
 use mathlib.Core.Logic.{_⊎_, inl, inr}
-use mathlib.Core.List.{List, [], _∷_, map}
+use mathlib.Core.List.{List, [], _∷_}
 use native.Mathlib.Omega.{arith}
 use lib.Dec.{eqb}
-use lib.ListN.{length, drop}
+use lib.ListN.{length}
 use lib.IntN.{ℤ}
 use borrow.Author.Tests.{eqb-false}
-use Rattle.wire.specs.Line.{silence, markedBy}
+use Rattle.wire.specs.Line.{silence, letterOf, namedBy, markedBy}
+use Rattle.wire.specs.declared.Format.the-variants.{FiveByte}
 use Rattle.reader.specs.State.{fresh}
 use Rattle.reader.specs.Good.{known, good}
 use Rattle.reader.specs.Rules.{dropping, byteOf, breakOf, wordOf}
-use Rattle.reader.specs.Line.{Long, whole, lineOf}
+use Rattle.reader.specs.Line.{Long, lineOf}
 use Rattle.reader.specs.Counts.{reportsIn, reportsAmong}
-use Rattle.reader.specs.Promises.{FreshPromise, ReadPromise, newReader, freshOf}
+use Rattle.reader.specs.Promises.{FreshPromise, ReadPromise, freshOf}
 use Rattle.reader.specs.Runs.{stepsOf, StepsPromise, answers, hasSilence}
 use Rattle.reader.specs.declared.Reader.{Reader}
 use Rattle.reader.specs.declared.NewReader.{NewReader}
@@ -89,32 +90,39 @@ line-waits (w ∷ words) r out h n = go (line-waits words) (view r w out)
         let rest = ih (wordOf r w .next) out (next-waits r w h quiet) (or-right (eqb w silence) (hasSilence words) n) in
         rw (t .is words, front, none) (omega (arith, rest .0), rest .1)
 
--- a fresh reader of an unmarked format waits
-fresh-waits : (letter : ℕ) (a : NewReader) → known letter ≡ true → markedBy letter ≡ false → FreshPromise letter a → Waits (a .reader)
+-- a fresh reader of an unmarked format waits; so does that of U, which comes for a letter that is not in the table
+unmarked-U : markedBy (letterOf FiveByte) ≡ false
+unfolding markedBy namedBy
+unmarked-U = refl
+
+fresh-waits : (letter : ℕ) (a : NewReader) → markedBy letter ≡ false → FreshPromise letter a → Waits (a .reader)
 unfolding freshOf
-fresh-waits letter a k m e =
-    let i : a ≡ newReader 0 (fresh letter) = e ∙ rw k in
-    record { is-good = fresh-is-good letter a e; unmarked = rw i m; awaiting = rw (i, m) }
+fresh-waits letter a m e = go (known letter) refl
+  where
+    waits : (n : ℕ) → a .reader ≡ fresh n → markedBy n ≡ false → Waits (a .reader)
+    waits n i u = record { is-good = fresh-is-good letter a e; unmarked = rw i u; awaiting = rw (i, u) }
+
+    go : (k : Bool) → known letter ≡ k → Waits (a .reader)
+    go true k = waits letter (ap (λ (n : NewReader). n .reader) (rw k at e)) m
+    go false k = waits (letterOf FiveByte) (ap (λ (n : NewReader). n .reader) (rw k at e)) unmarked-U
 
 pub nothing-before-silence : (letter : ℕ) (a : NewReader) (words : List ℕ) (steps : List Read)
-    → known letter ≡ true
     → markedBy letter ≡ false
     → FreshPromise letter a
     → hasSilence words ≡ false
     → StepsPromise (a .reader) words steps
     → reportsAmong (answers steps) ≡ 0
-nothing-before-silence letter a words steps k m e n p =
-    rw (steps-are (a .reader) words steps p) (steps-wait words (a .reader) (fresh-waits letter a k m e) n)
+nothing-before-silence letter a words steps m e n p =
+    rw (steps-are (a .reader) words steps p) (steps-wait words (a .reader) (fresh-waits letter a m e) n)
 
 pub nothing-read-before-silence : (letter : ℕ) (a : NewReader) (words : List ℕ) (out : List ℤ) (b : Reading) (after : List ℤ)
-    → known letter ≡ true
     → markedBy letter ≡ false
     → FreshPromise letter a
     → hasSilence words ≡ false
     → ReadPromise (a .reader) words out b after
     → (b .reports ≡ 0) × (after ≡ out)
-nothing-read-before-silence letter a words out b after k m e n p =
-    let waits = fresh-waits letter a k m e in
+nothing-read-before-silence letter a words out b after m e n p =
+    let waits = fresh-waits letter a m e in
     let i = p ∙ read-line (a .reader) words out (waits .is-good) in
     let none = line-waits words (a .reader) out waits n in
     (ap (λ (l : Long). l .reading .reports) i ∙ none .0, ap (λ (l : Long). l .out) i ∙ none .1)

@@ -4,18 +4,17 @@ use Prim.Native.Nat.{ℕ, suc, _+_, _<_, _≤_}
 use mathlib.Core.Path.{_≡_, refl, sym, _∙_, ap}
 use mathlib.Core.Bool.{Bool, true, false}
 use mathlib.Core.List.{List, [], _∷_, _++_}
-use native.Mathlib.Numerals.{add-one}
 use native.Mathlib.Omega.{arith}
-use lib.ListN.{length, getD, take, drop, set, length-append, length-set}
+use lib.ListN.{length, getD, take, drop, length-append}
 use lib.Seq.{take-suc-set, getD-take, getD-set-same, getD-set-other, length-take-le}
-use lib.Dec.{ltb, eqb, eqb·suc-zero}
+use lib.Dec.{eqb, eqb·suc-zero}
 use borrow.Author.Tests.{lt-ltb, eqb-true, eqb-false, eq-eqb}
 use Rattle.numbers.proofs.Tested.{holds}
-use Rattle.wire.specs.Line.{namedBy, ofNamed, sizeOf, sizeBy}
-use Rattle.wire.specs.Fits.{fitsAt, fitsFirst, fitsLater, fitsBy, allLater, valid}
+use Rattle.wire.specs.Line.{namedBy, sizeOf, sizeBy}
+use Rattle.wire.specs.Fits.{fitsAt, fitsLater, fitsBy, allLater, valid}
 use Rattle.wire.specs.Reading.{reportOf, reportBy}
 use Rattle.wire.specs.Numbers.{success}
-use Rattle.wire.specs.Encoder.{Encoding, refusalOf, lengthOf, written, encodeIn}
+use Rattle.wire.specs.Encoder.{Encoding, refusalOf, lengthOf, encodeIn}
 use Rattle.wire.specs.Promises.{EncodePromise}
 use Rattle.wire.specs.declared.Report.{Report}
 use Rattle.wire.specs.declared.Format.{Format}

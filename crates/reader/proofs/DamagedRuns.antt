@@ -21,7 +21,7 @@ use Rattle.wire.specs.declared.Format.the-variants.{Mm, FiveByte, ThreeByte}
 use Rattle.frames.specs.Line.{Sub, none, gone, stays}
 use Rattle.reader.specs.State.{fresh}
 use Rattle.reader.specs.Good.{known, placed, good}
-use Rattle.reader.specs.Rules.{entered, dropping, keep, start, lose, byteOf, breakOf, silenceOf, wordOf}
+use Rattle.reader.specs.Rules.{entered, dropping, keep, start, stray, lose, byteOf, breakOf, silenceOf, wordOf}
 use Rattle.reader.specs.Promises.{FreshPromise, freshOf, stepOf}
 use Rattle.reader.specs.Runs.{stepsOf, StepsPromise, answers}
 use Rattle.reader.specs.declared.NewReader.{NewReader}
@@ -72,7 +72,7 @@ marked-run =
 
 pub marked-answers : Answered Mm (256 ∷ 0x90 ∷ 0x9A ∷ 0x7F ∷ 0xFF ∷ 0x02 ∷ 256 ∷ 0x8C ∷ 0x02 ∷ 0x07 ∷ 0x90 ∷ [])
     (Nothing ∷ Nothing ∷ Dropped 1 ∷ Nothing ∷ Dropped 3 ∷ Dropped 1 ∷ Nothing ∷ Nothing ∷ Nothing ∷ answer.Report pressed ∷ Nothing ∷ [])
-unfolding stepsOf stepOf good known placed wordOf byteOf keep start lose breakOf silenceOf dropping entered namedBy sizeBy markedBy fitsBy fitsAt fitsFirst fitsLater like reportBy readS signed number bits bit
+unfolding stepsOf stepOf good known placed wordOf byteOf keep start stray lose breakOf silenceOf dropping entered namedBy sizeBy markedBy fitsBy fitsAt fitsFirst fitsLater like reportBy readS signed number bits bit
 marked-answers = computed Mm _ _ refl
 
 -- reports of U: a fast move to the left, 87 85 00 85 00, and a slow one, 87 01 02 03 04
@@ -98,7 +98,7 @@ unmarked-run =
 
 pub unmarked-answers : Answered FiveByte (0x85 ∷ 0x00 ∷ 0x85 ∷ 0x00 ∷ 257 ∷ 0x87 ∷ 0x01 ∷ 0x02 ∷ 0x03 ∷ 0x04 ∷ [])
     (Dropped 1 ∷ Dropped 1 ∷ Dropped 1 ∷ Dropped 1 ∷ Nothing ∷ Nothing ∷ Nothing ∷ Nothing ∷ Nothing ∷ answer.Report slow ∷ [])
-unfolding stepsOf stepOf good known placed wordOf byteOf keep start lose breakOf silenceOf dropping entered namedBy sizeBy markedBy fitsBy fitsAt fitsFirst fitsLater like reportBy readU untwos number bits bit
+unfolding stepsOf stepOf good known placed wordOf byteOf keep start stray lose breakOf silenceOf dropping entered namedBy sizeBy markedBy fitsBy fitsAt fitsFirst fitsLater like reportBy readU untwos number bits bit
 unmarked-answers = computed FiveByte _ _ refl
 
 -- Exactly: 90 05 03 loses its second byte, and of the two reports the other one is handed out
@@ -109,7 +109,7 @@ exactly-run =
     (of-finished [] (finished Mm pressed ∷ []) nothing moved (0x90 ∷ 0x03 ∷ []) (stays (gone (stays none))) (omega arith))
 
 pub exactly-answers : Answered Mm (0x90 ∷ 0x03 ∷ 0x8C ∷ 0x02 ∷ 0x07 ∷ []) (Nothing ∷ Nothing ∷ Dropped 2 ∷ Nothing ∷ answer.Report pressed ∷ [])
-unfolding stepsOf stepOf good known placed wordOf byteOf keep start lose breakOf silenceOf dropping entered namedBy sizeBy markedBy fitsBy fitsAt fitsFirst fitsLater like reportBy readS signed number bits bit
+unfolding stepsOf stepOf good known placed wordOf byteOf keep start stray lose breakOf silenceOf dropping entered namedBy sizeBy markedBy fitsBy fitsAt fitsFirst fitsLater like reportBy readS signed number bits bit
 exactly-answers = computed Mm _ _ refl
 
 -- so that a line whose word i is answered otherwise does not hand out the report there
@@ -130,7 +130,7 @@ three-five = reading.report 4 (pos 3) (pos 5)
 -- reader takes its 04 for the end of another, and waits for a third byte there.
 pub no-mark-answers : Answered ThreeByte (257 ∷ 0x01 ∷ 0x02 ∷ 0x04 ∷ 0x03 ∷ 0x05 ∷ [])
     (Nothing ∷ Nothing ∷ Nothing ∷ answer.Report (reading.report 1 (pos 2) (pos 4)) ∷ Nothing ∷ Nothing ∷ [])
-unfolding stepsOf stepOf good known placed wordOf byteOf keep start lose breakOf silenceOf dropping entered namedBy sizeBy markedBy fitsBy fitsAt fitsFirst fitsLater like reportBy readT untwos number bits bit
+unfolding stepsOf stepOf good known placed wordOf byteOf keep start stray lose breakOf silenceOf dropping entered namedBy sizeBy markedBy fitsBy fitsAt fitsFirst fitsLater like reportBy readT untwos number bits bit
 no-mark-answers = computed ThreeByte _ _ refl
 
 pub mark-needed : Replaced ThreeByte (silent ∷ finished ThreeByte one-two ∷ finished ThreeByte three-five ∷ []) nothing
@@ -152,7 +152,7 @@ pub no-silence-answers : Answered FiveByte (257 ∷ 0x85 ∷ 0x00 ∷ 0x85 ∷ 0
     (Nothing
     ∷ Nothing ∷ Nothing ∷ Nothing ∷ Nothing ∷ answer.Report (record { buttons = 2; x1 = pos 0; y1 = minus 123; x2 = pos 0; y2 = minus 121 })
     ∷ Dropped 1 ∷ Dropped 1 ∷ Dropped 1 ∷ Dropped 1 ∷ [])
-unfolding stepsOf stepOf good known placed wordOf byteOf keep start lose breakOf silenceOf dropping entered namedBy sizeBy markedBy fitsBy fitsAt fitsFirst fitsLater like reportBy readU untwos number bits bit
+unfolding stepsOf stepOf good known placed wordOf byteOf keep start stray lose breakOf silenceOf dropping entered namedBy sizeBy markedBy fitsBy fitsAt fitsFirst fitsLater like reportBy readU untwos number bits bit
 no-silence-answers = computed FiveByte _ _ refl
 
 pub silence-needed : Replaced FiveByte (silent ∷ finished FiveByte fast ∷ finished FiveByte slow ∷ []) nothing
@@ -174,7 +174,7 @@ silence-needed = (
 -- dropped
 pub broken-answers : Answered ThreeByte (0x09 ∷ 257 ∷ 0x00 ∷ 256 ∷ 0x04 ∷ 0x03 ∷ 0x05 ∷ [])
     (Dropped 1 ∷ Nothing ∷ Nothing ∷ Dropped 1 ∷ Dropped 1 ∷ Dropped 1 ∷ Dropped 1 ∷ [])
-unfolding stepsOf stepOf good known placed wordOf byteOf keep start lose breakOf silenceOf dropping entered namedBy sizeBy markedBy fitsBy fitsAt fitsFirst fitsLater like reportBy readT untwos number bits bit
+unfolding stepsOf stepOf good known placed wordOf byteOf keep start stray lose breakOf silenceOf dropping entered namedBy sizeBy markedBy fitsBy fitsAt fitsFirst fitsLater like reportBy readT untwos number bits bit
 broken-answers = computed ThreeByte _ _ refl
 
 pub unbroken-needed : Replaced ThreeByte (silent ∷ broken 1 ThreeByte one-two ∷ finished ThreeByte three-five ∷ []) nothing
@@ -192,7 +192,7 @@ unbroken-needed = (
 
 -- That a byte is removed is needed: where none is, the report itself is handed out too
 pub none-removed-answers : Answered Mm (0x90 ∷ 0x05 ∷ 0x03 ∷ []) (Nothing ∷ Nothing ∷ answer.Report moved ∷ [])
-unfolding stepsOf stepOf good known placed wordOf byteOf keep start lose breakOf silenceOf dropping entered namedBy sizeBy markedBy fitsBy fitsAt fitsFirst fitsLater like reportBy readS signed number bits bit
+unfolding stepsOf stepOf good known placed wordOf byteOf keep start stray lose breakOf silenceOf dropping entered namedBy sizeBy markedBy fitsBy fitsAt fitsFirst fitsLater like reportBy readS signed number bits bit
 none-removed-answers = computed Mm _ _ refl
 
 pub removal-needed : Sound Mm (finished Mm moved ∷ []) × Sub (0x90 ∷ 0x05 ∷ 0x03 ∷ []) (bytesOf Mm moved) × (HandsOut Mm (0x90 ∷ 0x05 ∷ 0x03 ∷ []) [] → ⊥)

@@ -1,18 +1,17 @@
 -- What an encoder that was not refused has done, and what it does with a report that it accepts.
 use Prim.Native.Nat.{ℕ, _≤_}
-use mathlib.Core.Path.{_≡_, refl, sym, _∙_, ap}
-use mathlib.Core.Bool.{Bool, true, false, not, cond, _&&_}
-use mathlib.Core.List.{List, _++_}
+use mathlib.Core.Path.{_≡_, refl, ap}
+use mathlib.Core.Bool.{Bool, true, false}
+use mathlib.Core.List.{List}
 use native.Mathlib.Omega.{arith}
-use lib.ListN.{length, drop}
+use lib.ListN.{length}
 use lib.Dec.{ltb}
 use borrow.Author.Tests.{le-ltb}
 use Rattle.numbers.proofs.Tested.{left, right}
 use Rattle.wire.specs.Line.{sizeOf}
-use Rattle.wire.specs.Table.{bytesOf}
 use Rattle.wire.specs.Holds.{pressable, holds, accepted}
-use Rattle.wire.specs.Numbers.{success, badButtons, badMovement, shortBuffer}
-use Rattle.wire.specs.Encoder.{Encoding, refused, written, encodeIn}
+use Rattle.wire.specs.Numbers.{success}
+use Rattle.wire.specs.Encoder.{Encoding, written, encodeIn}
 use Rattle.wire.specs.declared.Report.{Report}
 use Rattle.wire.specs.declared.Format.{Format}
 use Rattle.wire.specs.declared.Named.the-variants.{Known}

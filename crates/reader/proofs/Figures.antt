@@ -1,7 +1,5 @@
 -- The paper's figures of reading, on the promises: p3 and p7, read; p11; p12.
-use Prim.Native.Nat.{ℕ}
-use mathlib.Core.Path.{_≡_, refl, _∙_, ap}
-use mathlib.Core.Bool.{true, false}
+use mathlib.Core.Path.{_≡_}
 use mathlib.Core.List.{List, [], _∷_}
 use lib.Count.{ones, onesIn}
 use lib.IntN.{pos}
@@ -12,12 +10,11 @@ use Rattle.wire.specs.Fits.{like, fitsFirst, fitsLater, fitsAt, fitsBy}
 use Rattle.wire.specs.Reading.{report, readS, readW, undigit, reportBy}
 use Rattle.reader.specs.State.{fresh, ready}
 use Rattle.reader.specs.Good.{known, placed, good}
-use Rattle.reader.specs.Rules.{entered, answered, dropping, keep, start, lose, byteOf, wordOf}
+use Rattle.reader.specs.Rules.{entered, answered, keep, lose, byteOf, wordOf}
 use Rattle.reader.specs.Promises.{FreshPromise, StepPromise, freshOf, stepOf}
 use Rattle.reader.specs.Runs.{stepsOf, StepsPromise, answers}
 use Rattle.reader.specs.declared.NewReader.{NewReader}
 use Rattle.reader.specs.declared.Read.{Read}
-use Rattle.reader.specs.declared.Answer.{Answer}
 use Rattle.reader.specs.declared.Answer.the-variants.{Nothing, Report, Dropped}
 use Rattle.reader.proofs.Permitted.{step-is, steps-are}
 

@@ -11,19 +11,17 @@ use lib.Seq.{take-append-add, drop-append-add}
 use lib.IntN.{ℤ}
 use Rattle.reader.specs.Good.{good}
 use Rattle.reader.specs.Rules.{wordOf}
-use Rattle.reader.specs.Line.{Long, whole, stopped, joined, lineOf}
+use Rattle.reader.specs.Line.{Long, whole, joined, unused, asOne, lineOf}
 use Rattle.reader.specs.Promises.{ReadPromise, readOf}
 use Rattle.reader.specs.declared.Reader.{Reader}
 use Rattle.reader.specs.declared.Reading.{Reading}
 use Rattle.reader.proofs.View.{Stops, Takes, view}
 use Rattle.reader.proofs.Joined.{joined-none, joined-joined}
-use Rattle.reader.proofs.Goodness.{read-line, line-stays-good}
+use Rattle.reader.proofs.Goodness.{line-stays-good}
 
 -- what was read, and then what is read of a part behind it
 abbrev thenLine : Long → List ℕ → Long
-thenLine l q =
-    joined (l .reading .taken) (l .reading .reports) (l .reading .dropped) (take (5 * l .reading .reports) (l .out))
-    (lineOf (l .reading .next) q (drop (5 * l .reading .reports) (l .out)))
+thenLine l q = asOne (l .reading) (l .out) (lineOf (l .reading .next) q (unused (l .reading) (l .out)))
 
 -- the numbers written by two, one after the other
 module _ (front rest : List ℤ) (n m : ℕ) (sized : length front ≡ 5 * n) where
@@ -59,12 +57,12 @@ join-line (w ∷ p) q r out h = go (join-line p q) (view r w out)
 
 -- the same of three reads: of p ++ q, of p, and of q with the reader that came back and the unused part of the slice
 join-read : (p q : List ℕ) (r : Reader) (out : List ℤ) (b : Long) → b ≡ readOf r p out → b .reading .taken ≡ length p
-    → readOf r (p ++ q) out ≡ joined (b .reading .taken) (b .reading .reports) (b .reading .dropped) (take (5 * b .reading .reports) (b .out)) (readOf (b .reading .next) q (drop (5 * b .reading .reports) (b .out)))
+    → readOf r (p ++ q) out ≡ asOne (b .reading) (b .out) (readOf (b .reading .next) q (unused (b .reading) (b .out)))
 unfolding readOf
 join-read p q r out b e t = go (good r) refl p q e t
   where
     go : (u : Bool) → good r ≡ u → (p q : List ℕ) → b ≡ readOf r p out → b .reading .taken ≡ length p
-        → readOf r (p ++ q) out ≡ joined (b .reading .taken) (b .reading .reports) (b .reading .dropped) (take (5 * b .reading .reports) (b .out)) (readOf (b .reading .next) q (drop (5 * b .reading .reports) (b .out)))
+        → readOf r (p ++ q) out ≡ asOne (b .reading) (b .out) (readOf (b .reading .next) q (unused (b .reading) (b .out)))
     go true g p q e t =
         let i = rw g at e in
         rw g (rw (i, line-stays-good p r out g .0) (join-line p q r out (rw i at t)))
@@ -74,8 +72,7 @@ join-read p q r out b e t = go (good r) refl p q e t
 pub joining : (r : Reader) (p q : List ℕ) (out : List ℤ) (a b c : Reading) (x y z : List ℤ)
     → ReadPromise r p out b y
     → b .taken ≡ length p
-    → ReadPromise (b .next) q (drop (5 * b .reports) y) c z
+    → ReadPromise (b .next) q (unused b y) c z
     → ReadPromise r (p ++ q) out a x
-    → whole a x ≡ joined (b .taken) (b .reports) (b .dropped) (take (5 * b .reports) y) (whole c z)
-joining r p q out a b c x y z f t h e =
-    e ∙ join-read p q r out (whole b y) f t ∙ ap (joined (b .taken) (b .reports) (b .dropped) (take (5 * b .reports) y)) (sym h)
+    → whole a x ≡ asOne b y (whole c z)
+joining r p q out a b c x y z f t h e = e ∙ join-read p q r out (whole b y) f t ∙ ap (asOne b y) (sym h)

@@ -1,10 +1,10 @@
 -- A word leaves a good reader good.
 use Prim.Native.Nat.{ℕ, _+_, _<_}
 use mathlib.Core.Path.{_≡_, refl, _∙_}
-use mathlib.Core.Bool.{Bool, true, false, not, _&&_, _||_}
-use mathlib.Core.List.{List, [], _∷_}
+use mathlib.Core.Bool.{Bool, true, false, not, _||_}
+use mathlib.Core.List.{[], _∷_}
 use native.Mathlib.Omega.{arith}
-use lib.ListN.{length, getD, set, length-set}
+use lib.ListN.{length, getD, length-set}
 use lib.Seq.{getD-set-same, getD-set-other}
 use lib.Dec.{ltb, eqb}
 use borrow.Author.Tests.{lt-ltb, le-ltb, ltb-true, ltb-false, eqb-true, eqb-false}
@@ -13,7 +13,7 @@ use Rattle.wire.specs.Line.{sizeBy, markedBy}
 use Rattle.wire.specs.Fits.{fitsBy}
 use Rattle.reader.specs.State.{reader, unmarked, noBytes, fresh, ready}
 use Rattle.reader.specs.Good.{known, placed, good}
-use Rattle.reader.specs.Rules.{entered, fitting, more, finishes, starting, keep, start, lose, byteOf, breakOf, silenceOf, wordOf}
+use Rattle.reader.specs.Rules.{entered, fitting, more, finishes, keep, start, lose, byteOf, breakOf, silenceOf, wordOf}
 use Rattle.reader.specs.declared.Reader.{Reader}
 use Rattle.reader.specs.declared.Read.{Read}
 use Rattle.reader.proofs.Choices.{either}

@@ -1,11 +1,12 @@
 -- Letters: the size of a known one is 3 to 5, and of any other 0.
 use Prim.Native.Nat.{ℕ, _<_, _≤_}
 use mathlib.Core.Path.{_≡_, refl, sym, _∙_}
-use mathlib.Core.Bool.{Bool, true, false, not, _&&_}
+use mathlib.Core.Bool.{true, false, not, _&&_}
 use native.Mathlib.Omega.{arith}
 use lib.Dec.{eqb, ltb}
-use borrow.Author.Tests.{le-ltb, eqb-false, not-true}
+use borrow.Author.Tests.{le-ltb, ne-eqb, eqb-false, not-true}
 use Rattle.wire.specs.Line.{namedBy, ofNamed, sizeOf, sizeBy}
+use Rattle.wire.specs.Fits.{fitsAt, fitsBy}
 use Rattle.wire.specs.declared.Format.{Format}
 use Rattle.wire.specs.declared.Format.the-variants.{Mm, Microsoft, Absolute, Relative, FiveByte, ThreeByte, Hexadecimal}
 use Rattle.wire.specs.declared.Named.{Named}
@@ -63,3 +64,8 @@ known-below letter n = go (namedBy letter)
     go : (m : Named) → ofNamed false (λ f. true) m && ltb n (ofNamed 0 sizeOf m) ≡ ltb n (ofNamed 0 sizeOf m)
     go (Known f) = refl
     go Unknown = sym (le-ltb n 0 (omega arith))
+
+-- a later place is as any other later place
+pub later-place : (letter n b : ℕ) → (n ≡ 0 → ⊥) → fitsBy letter 1 b ≡ fitsBy letter n b
+unfolding fitsBy fitsAt
+later-place letter n b h = rw (ne-eqb n 0 h)

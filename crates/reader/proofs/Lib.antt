@@ -1,3 +1,6 @@
+-- The laws of the reader: Permitted (one answer), Refusals, Room, Steps (word by word), Goodness, Counting, Joining, There, Back, Awaiting,
+-- Useless, Sentences and Nowhere (sentences of the paper), Figures, Examples, Wrong (wrong answers); and what their proofs and those of the
+-- functions share.
 pub mod Choices
 pub mod Letters
 pub mod Good
@@ -13,6 +16,7 @@ pub mod Counting
 pub mod Refusals
 pub mod Joining
 pub mod Room
+pub mod Steps
 pub mod Awaiting
 pub mod Front
 pub mod Encoded
@@ -20,6 +24,7 @@ pub mod There
 pub mod Back
 pub mod Useless
 pub mod Sentences
+pub mod Nowhere
 pub mod Lines
 pub mod Framed
 pub mod Took
@@ -29,3 +34,5 @@ pub mod Stretch
 pub mod Damaged
 pub mod DamagedRuns
 pub mod Figures
+pub mod Examples
+pub mod Wrong

@@ -1,13 +1,13 @@
 -- A turn of the long read's loop.
-use mathlib.Core.Path.{_≡_, refl, sym, _∙_, ap}
+use mathlib.Core.Path.{_≡_, sym, _∙_, ap}
 use mathlib.Core.Logic.{_⊎_, inl, inr}
 use mathlib.Core.List.{List, [], _∷_, _++_, append-assoc, append-nil}
-use Prim.Native.Nat.{ℕ, zero, suc, _+_, _-_, _*_, _<_, _≤_}
-use native.Mathlib.Nat.{add-zero, zero-add, add-assoc}
+use Prim.Native.Nat.{ℕ, _+_, _-_, _*_, _<_, _≤_}
+use native.Mathlib.Nat.{add-zero}
 use native.Mathlib.Numerals.{add-one}
 use native.Mathlib.Omega.{arith}
-use lib.ListN.{length, getD, take, drop, length-append, length-take, length-drop, take-append-drop, drop-of-length-le}
-use lib.Seq.{take-all, drop-cons, take-at, drop-at, take-append-add, drop-append-add, length-take-le}
+use lib.ListN.{length, getD, take, drop, length-append, length-drop, take-append-drop, drop-of-length-le}
+use lib.Seq.{take-all, drop-cons, take-at, drop-at, length-take-le}
 use lib.IntN.{ℤ}
 use borrow.Rule.Slice.PartMut.{putMid}
 use Rattle.wire.specs.Line.{isByte, sizeBy}

@@ -4,7 +4,7 @@ use mathlib.Core.Path.{_≡_, refl, sym, _∙_, ap}
 use mathlib.Core.List.{List, [], _∷_}
 use native.Mathlib.Omega.{arith}
 use lib.ListN.{length}
-use lib.IntN.{ℤ, pos}
+use lib.IntN.{ℤ}
 use Rattle.wire.specs.declared.Report.{Report}
 use Rattle.wire.proofs.Codec.Accepted.{same-report}
 use Rattle.reader.specs.State.{fiveOf, numbersOf}

@@ -1,26 +1,26 @@
 -- Refusals: 6 before 4, the old reader, no answer, counts of 0 and an unchanged slice; and 4 in a long read.
-use Prim.Native.Nat.{ℕ, _<_, _≤_, _*_}
+use Prim.Native.Nat.{ℕ, _<_, _≤_, _+_, _*_}
 use mathlib.Core.Path.{_≡_, refl, sym, _∙_, ap}
 use mathlib.Core.Bool.{Bool, true, false}
 use mathlib.Core.Logic.{_⊎_, inl, inr}
 use mathlib.Core.List.{List, [], _∷_, _++_}
+use native.Mathlib.Numerals.{one-add}
 use native.Mathlib.Omega.{arith}
-use lib.ListN.{length, drop}
+use lib.ListN.{length, getD, drop}
 use lib.IntN.{ℤ}
 use borrow.Author.Tests.{lt-leb, ne-eqb}
 use Rattle.wire.specs.Line.{break, silence}
 use Rattle.wire.specs.Numbers.{success, badState, badLetter, badWord}
 use Rattle.reader.specs.State.{fresh}
 use Rattle.reader.specs.Good.{known, good}
-use Rattle.reader.specs.Rules.{entered, refusing, finishes, keep, start, lose, breakOf, silenceOf, wordOf}
+use Rattle.reader.specs.Rules.{refusing, wordOf}
 use Rattle.reader.specs.Line.{Long, whole, stopped, joined, lineOf}
 use Rattle.reader.specs.Promises.{FreshPromise, StepPromise, ReadPromise, newReader, freshOf, stepOf, readOf}
 use Rattle.reader.specs.declared.Reader.{Reader}
 use Rattle.reader.specs.declared.NewReader.{NewReader}
 use Rattle.reader.specs.declared.Read.{Read}
 use Rattle.reader.specs.declared.Reading.{Reading}
-use Rattle.reader.proofs.Choices.{either}
-use Rattle.reader.proofs.Word.{by-rules, by-kind}
+use Rattle.reader.proofs.Word.{Numbered, word-number}
 use Rattle.reader.proofs.View.{Stops, Takes, view}
 use Rattle.reader.proofs.Permitted.{step-is}
 use Rattle.reader.proofs.Goodness.{step-word, read-line}
@@ -29,9 +29,6 @@ use Rattle.reader.proofs.Goodness.{step-word, read-line}
 pub unknown-letter : (letter : ℕ) (a : NewReader) → known letter ≡ false → FreshPromise letter a → a ≡ newReader badLetter (fresh 0x55)
 unfolding freshOf
 unknown-letter letter a k e = rw (e, k)
-
-abbrev Taken : Read → Type 0
-Taken s = s .refusal ≡ success
 
 -- 6: whatever the word
 pub bad-state : (r : Reader) (w : ℕ) (s : Read) → good r ≡ false → StepPromise r w s → s ≡ refusing badState r
@@ -53,13 +50,15 @@ pub bad-word : (r : Reader) (w : ℕ) (s : Read) → good r ≡ true → silence
 bad-word r w s g h e = step-is r w s e ∙ step-word r w g ∙ above r w h
 
 -- and no other: a good reader takes every line word
+pub word-taken : (r : Reader) (w : ℕ) → w ≤ silence → wordOf r w .refusal ≡ success
+word-taken r w h = go (word-number r w)
+  where
+    go : Numbered w (wordOf r w) → wordOf r w .refusal ≡ success
+    go (inl z) = z
+    go (inr b) = absurd (omega (arith, b .1))
+
 pub takes-line-words : (r : Reader) (w : ℕ) (s : Read) → good r ≡ true → w ≤ silence → StepPromise r w s → s .refusal ≡ success
-unfolding keep start lose breakOf silenceOf
-takes-line-words r w s g h e =
-    rw (step-is r w s e ∙ step-word r w g)
-    (by-kind Taken r w
-    (λ _. by-rules Taken r (entered (r .format) w) (λ _. refl) (λ _ _. either Taken (finishes r) _ _ (λ _. refl) (λ _. refl)) (λ _ _ _. refl) (λ _ _ _. refl))
-    (λ _ _. refl) (λ _ _. refl) (λ b. absurd (omega arith)))
+takes-line-words r w s g h e = rw (step-is r w s e ∙ step-word r w g) (word-taken r w h)
 
 -- "4 in a long read, which returns the reader, reports and counts as they stand before the bad word"
 abbrev pub withRefusal : ℕ → Long → Long
@@ -99,6 +98,30 @@ pub bad-word-read : (r : Reader) (p q : List ℕ) (w : ℕ) (out : List ℤ) (a 
 bad-word-read r p q w out a b x y g h f t e =
     let i = f ∙ read-line r p out g in
     e ∙ read-line r (p ++ w ∷ q) out g ∙ line-bad-word p q w r out h (sym (ap (λ (l : Long). l .reading .taken) i) ∙ t) ∙ ap (withRefusal badWord) (sym i)
+
+-- a long read of a good reader ends with 0, or with 4 before a word above 257
+abbrev Ends : List ℕ → Reading → Type 0
+Ends words a = (a .refusal ≡ success) ⊎ ((a .refusal ≡ badWord) × (silence < getD words (a .taken) 0))
+
+line-ends : (words : List ℕ) (r : Reader) (out : List ℤ) → Ends words (lineOf r words out .reading)
+unfolding lineOf
+line-ends [] r out = inl refl
+line-ends (w ∷ words) r out = go (line-ends words) (view r w out)
+  where
+    later : (a : Reading) → Ends words a → (a .refusal ≡ success) ⊎ ((a .refusal ≡ badWord) × (silence < getD (w ∷ words) (1 + a .taken) 0))
+    later a (inl z) = inl z
+    later a (inr b) = inr (b .0, rw (one-add (a .taken)) (b .1))
+
+    stop : (s : Stops r w out) → Ends (w ∷ words) (stopped (s .n) r out .reading)
+    stop s = s .why
+
+    go : ((r : Reader) (out : List ℤ) → Ends words (lineOf r words out .reading)) → Stops r w out ⊎ Takes r w out → Ends (w ∷ words) (lineOf r (w ∷ words) out .reading)
+    go ih (inl s) = rw (s .is words) (stop s)
+    go ih (inr t) = rw (t .is words) (later (lineOf (wordOf r w .next) words (drop (5 * t .n) out) .reading) (ih (wordOf r w .next) (drop (5 * t .n) out)))
+
+pub read-ends : (r : Reader) (words : List ℕ) (out : List ℤ) (a : Reading) (after : List ℤ) → good r ≡ true → ReadPromise r words out a after
+    → (a .refusal ≡ success) ⊎ ((a .refusal ≡ badWord) × (silence < getD words (a .taken) 0))
+read-ends r words out a after g e = rw (ap (λ (l : Long). l .reading) (e ∙ read-line r words out g)) (line-ends words r out)
 
 -- "a bad word behind a stop for room is not reached": where words are left, what follows them changes nothing
 line-stopped : (p q : List ℕ) (r : Reader) (out : List ℤ) → lineOf r p out .reading .taken < length p → lineOf r (p ++ q) out ≡ lineOf r p out

@@ -22,7 +22,7 @@ use Rattle.reader.proofs.Permitted.{step-is}
 use Rattle.reader.proofs.Goodness.{step-word, read-line, step-stays-good}
 
 -- an answer for which there is room, and one for which there is none
-goes : (r : Reader) (out : List ℤ) (a : Answer) (later : List ℤ → Long) → 5 * reportsIn a ≤ length out
+pub goes : (r : Reader) (out : List ℤ) (a : Answer) (later : List ℤ → Long) → 5 * reportsIn a ≤ length out
     → afterAnswer r out a later ≡ joined 1 (reportsIn a) (droppedIn a) (writtenIn a) (later (drop (5 * reportsIn a) out))
 goes r out Nothing later h = refl
 goes r out (Report p) later h = rw (le-ltb (length out) 5 h)

@@ -1,28 +1,29 @@
 -- Sentences of "The reader" that follow from its rules.
 use Prim.Native.Nat.{ℕ, zero, suc, _+_, _<_, _≤_}
-use mathlib.Core.Path.{_≡_, refl, sym, _∙_, ap}
-use mathlib.Core.Bool.{Bool, true, false, not, cond, _&&_, _||_}
-use mathlib.Core.List.{List, [], _∷_}
+use mathlib.Core.Path.{_≡_, refl, sym, _∙_}
+use mathlib.Core.Bool.{Bool, true, false, not, _&&_, _||_}
+use mathlib.Core.List.{[], _∷_}
 use native.Mathlib.Omega.{arith}
 use lib.ListN.{length, getD, replicate, getD-replicate}
 use lib.Seq.{ext-getD, length-take-le}
-use lib.Dec.{T, ltb, eqb, eqb·suc-zero}
-use borrow.Author.Tests.{le-leb, le-ltb, eqb-true, ne-eqb, eqb-false, eq-eqb}
-use Rattle.numbers.proofs.Tested.{left, right, refused, holds}
-use Rattle.wire.specs.Line.{isByte, namedBy, ofNamed, sizeBy, markedOf, markedBy}
-use Rattle.wire.specs.Fits.{fitsAt, fitsFirst, fitsLater, fitsBy}
+use lib.Dec.{eqb, eqb·suc-zero}
+use borrow.Author.Tests.{le-leb, le-ltb, eqb-true, ne-eqb}
+use Rattle.numbers.proofs.Tested.{refused, holds}
+use Rattle.wire.specs.Line.{namedBy, ofNamed, sizeBy, markedOf, markedBy}
+use Rattle.wire.specs.Fits.{fitsAt, fitsBy}
 use Rattle.wire.specs.declared.Named.{Named}
 use Rattle.wire.specs.declared.Named.the-variants.{Known, Unknown}
 use Rattle.wire.proofs.Codec.{mark}
-use Rattle.reader.specs.State.{reader, keptIn, unmarked, noBytes, fresh}
+use Rattle.reader.specs.State.{reader, keptIn, fresh}
 use Rattle.reader.specs.Good.{placed, good}
-use Rattle.reader.specs.Rules.{entered, answered, dropping, alone, fitting, starting, more, keep, start, lose, byteOf, wordOf}
+use Rattle.reader.specs.Rules.{entered, answered, dropping, keep, start, lose, byteOf, wordOf}
 use Rattle.reader.specs.Promises.{StepPromise}
 use Rattle.reader.specs.declared.Reader.{Reader}
 use Rattle.reader.specs.declared.Read.{Read}
-use Rattle.reader.specs.declared.Answer.the-variants.{Nothing, Dropped}
+use Rattle.reader.specs.declared.Answer.the-variants.{Dropped}
 use Rattle.reader.proofs.Letters.{at-most-five, at-least-three}
 use Rattle.reader.proofs.Good.{parts}
+use Rattle.reader.proofs.Word.{lost-is}
 use Rattle.reader.proofs.Permitted.{step-is}
 use Rattle.reader.proofs.Goodness.{step-word}
 
@@ -43,7 +44,7 @@ awaits-only-unmarked r g w =
     let o = only-unmarked (r .awaiting) (markedBy (r .format)) (eqb (r .count) 0) (parts r g .awaits) w in (o .0, eqb-true (r .count) 0 (o .1))
 
 -- so that a marked format never awaits
-never-awaits : (r : Reader) → good r ≡ true → markedBy (r .format) ≡ true → r .awaiting ≡ false
+pub never-awaits : (r : Reader) → good r ≡ true → markedBy (r .format) ≡ true → r .awaiting ≡ false
 never-awaits r g m = refused (r .awaiting) (λ w. holds (sym (awaits-only-unmarked r g w .0) ∙ m))
 
 -- in a marked format no valid first byte is a valid later one
@@ -80,17 +81,16 @@ module _ (r : Reader) (b : ℕ) (s : Read) (g : good r ≡ true) (byte : b ≤ 2
           rw (never-awaits r g m, z, h, zeros r g z, ne-eqb 1 (sizeBy (r .format)) ne)
       go (suc n) z = rw (never-awaits r g m, z, first-not-later (r .format) n b m h, m, h)
 
-  -- "In a marked format with none kept, a valid later byte is dropped alone."
-  pub later-alone : markedBy (r .format) ≡ true → r .count ≡ 0 → fitsBy (r .format) 1 b ≡ true → s ≡ answered r (Dropped 1)
-  unfolding byteOf lose
-  later-alone m z h =
-      let first : fitsBy (r .format) 0 b ≡ false = refused (fitsBy (r .format) 0 b) (λ f. holds (sym (first-not-later (r .format) 0 b m f) ∙ h)) in
-      byte-is ∙ rw (never-awaits r g m, z, first, m, zeros r g z)
-
   -- "A byte that none of these rules takes [..] is dropped with the k kept, k+1; U, T, W then await silence"
   pub lost : r .awaiting ≡ false → fitsBy (r .format) (r .count) b ≡ false → markedBy (r .format) && fitsBy (r .format) 0 b ≡ false → s ≡ answered (fresh (r .format)) (Dropped (r .count + 1))
-  unfolding byteOf lose
-  lost w f h = byte-is ∙ rw (w, f, h)
+  unfolding lose
+  lost w f h = byte-is ∙ lost-is r b w f h
+
+  -- "In a marked format with none kept, a valid later byte is dropped alone": the reader is as it was
+  pub later-alone : markedBy (r .format) ≡ true → r .count ≡ 0 → fitsBy (r .format) 1 b ≡ true → s ≡ answered r (Dropped 1)
+  later-alone m z h =
+      let first : fitsBy (r .format) 0 b ≡ false = refused (fitsBy (r .format) 0 b) (λ f. holds (sym (first-not-later (r .format) 0 b m f) ∙ h)) in
+      lost (never-awaits r g m) (rw (z, first)) (rw (m, first)) ∙ rw (never-awaits r g m, z, m, zeros r g z)
 
   -- "where each byte is dropped alone"
   pub awaiting-alone : r .awaiting ≡ true → s ≡ answered r (Dropped 1)

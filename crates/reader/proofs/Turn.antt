@@ -1,7 +1,7 @@
 -- One word of a long read: which case of the definition holds.
-use mathlib.Core.Path.{_≡_, refl, sym, _∙_, ap}
+use mathlib.Core.Path.{_≡_, refl, _∙_}
 use mathlib.Core.List.{List, [], _∷_, _++_}
-use Prim.Native.Nat.{ℕ, zero, suc, _+_, _<_, _≤_}
+use Prim.Native.Nat.{ℕ, _<_, _≤_}
 use native.Mathlib.Nat.{add-zero}
 use native.Mathlib.Omega.{arith}
 use lib.ListN.{length, getD, take, drop, set}
@@ -10,7 +10,7 @@ use borrow.Author.Tests.{eq-eqb, ne-eqb, lt-ltb, le-ltb}
 use Rattle.wire.specs.declared.Report.{Report}
 use Rattle.reader.specs.State.{fiveOf}
 use Rattle.reader.specs.Rules.{wordOf}
-use Rattle.reader.specs.Line.{whole, stopped, joined, afterAnswer, afterWord, lineOf}
+use Rattle.reader.specs.Line.{whole, stopped, joined, afterWord, lineOf}
 use Rattle.reader.specs.declared.Reader.{Reader}
 use Rattle.reader.specs.declared.Read.{Read}
 use Rattle.reader.specs.declared.Answer.the-variants as answer

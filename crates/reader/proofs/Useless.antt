@@ -1,20 +1,23 @@
 -- Two useless readers that the promises shut out.
 use Prim.Native.Nat.{ℕ, _+_, _≤_}
-use mathlib.Core.Path.{_≡_, refl, sym, _∙_}
-use mathlib.Core.List.{List, _++_}
+use mathlib.Core.Path.{_≡_, refl, sym, _∙_, ap}
+use mathlib.Core.List.{List, [], _∷_, _++_}
 use native.Mathlib.Omega.{arith}
-use lib.ListN.{length, take, drop, length-drop}
+use lib.ListN.{length, take, drop, replicate, length-drop}
 use lib.Seq.{drop-drop}
-use lib.IntN.{ℤ}
-use Rattle.wire.specs.Line.{namedBy}
+use lib.IntN.{ℤ, pos}
+use Rattle.numbers.specs.Bits.{bit}
+use Rattle.wire.specs.Line.{namedBy, sizeBy, markedBy}
+use Rattle.wire.specs.Fits.{like, fitsFirst, fitsLater, fitsAt, fitsBy}
 use Rattle.wire.specs.Numbers.{success}
 use Rattle.wire.specs.Encoder.{refusalOf, lengthOf}
 use Rattle.wire.specs.Promises.{EncodePromise}
 use Rattle.wire.specs.declared.Report.{Report}
 use Rattle.wire.specs.declared.Encoded.{Encoded}
 use Rattle.reader.specs.State.{fresh, ready, fiveOf}
-use Rattle.reader.specs.Good.{known}
-use Rattle.reader.specs.Line.{whole}
+use Rattle.reader.specs.Good.{known, placed, good}
+use Rattle.reader.specs.Rules.{entered, keep, byteOf, wordOf}
+use Rattle.reader.specs.Line.{Long, whole, lineOf}
 use Rattle.reader.specs.Promises.{StepPromise, ReadPromise, readOf}
 use Rattle.reader.specs.Runs.{carriedBy}
 use Rattle.reader.specs.declared.Reader.{Reader}
@@ -37,7 +40,7 @@ module _ (letter : ℕ) (p q : Report) (b1 b2 a1 a2 : List ℕ) (e1 e2 : Encoded
   pub both-read : (out written : List ℤ) (a : Reading) → 10 ≤ length out → ReadPromise (ready letter) (take (lengthOf e1) a1 ++ take (lengthOf e2) a2) out a written
       → whole a written
       ≡ whole (record { refusal = success; next = ready letter; taken = lengthOf e1 + lengthOf e2; reports = 2; dropped = 0 })
-        (fiveOf (carriedBy letter p) ++ (fiveOf (carriedBy letter q) ++ drop 10 out))
+      (fiveOf (carriedBy letter p) ++ (fiveOf (carriedBy letter q) ++ drop 10 out))
   both-read out written a room i =
       let w1 = take (lengthOf e1) a1 in
       let w2 = take (lengthOf e2) a2 in
@@ -52,3 +55,15 @@ module _ (letter : ℕ) (p q : Report) (b1 b2 a1 a2 : List ℕ) (e1 e2 : Encoded
       written (fiveOf (carriedBy letter p) ++ rest) (fiveOf (carriedBy letter q) ++ drop 5 rest)
       (sym one) (sym (sent-length letter p b1 a1 e1 h1 z1)) (sym two) i
       ∙ rw (drop-drop 5 5 out)
+
+-- so that no long read stops counting at one
+pub skipping-the-rest : (read : Reader → List ℕ → List ℤ → Long)
+    → ((r : Reader) (words : List ℕ) (out : List ℤ) → ReadPromise r words out (read r words out .reading) (read r words out .out))
+    → ((r : Reader) (words : List ℕ) (out : List ℤ) → read r words out .reading .reports ≤ 1)
+    → ⊥
+unfolding readOf lineOf good known placed wordOf byteOf keep entered namedBy sizeBy markedBy fitsBy fitsAt fitsFirst fitsLater like bit
+skipping-the-rest read promised skips =
+    let words : List ℕ = 0x98 ∷ 0 ∷ 0 ∷ 0x98 ∷ 0 ∷ 0 ∷ [] in
+    let out : List ℤ = replicate 10 (pos 0) in
+    let two : readOf (ready 0x53) words out .reading .reports ≡ 2 = refl in
+    omega (arith, two, skips (ready 0x53) words out, ap (λ (l : Long). l .reading .reports) (promised (ready 0x53) words out))

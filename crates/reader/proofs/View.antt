@@ -1,5 +1,5 @@
 -- A word in front of a line: either the read stops before it, or it is taken.
-use Prim.Native.Nat.{ℕ, _+_, _*_, _≤_}
+use Prim.Native.Nat.{ℕ, _+_, _*_, _<_, _≤_}
 use mathlib.Core.Path.{_≡_, refl}
 use mathlib.Core.Bool.{Bool, true, false}
 use mathlib.Core.Logic.{_⊎_, inl, inr}
@@ -9,19 +9,21 @@ use lib.ListN.{length, drop}
 use lib.Dec.{eqb}
 use lib.IntN.{ℤ}
 use borrow.Author.Tests.{eqb-true, ltb-false}
-use Rattle.wire.specs.Line.{sizeBy}
+use Rattle.wire.specs.Line.{silence, sizeBy}
+use Rattle.wire.specs.Numbers.{success, badWord}
 use Rattle.reader.specs.State.{fiveOf}
 use Rattle.reader.specs.Rules.{wordOf}
-use Rattle.reader.specs.Line.{Long, stopped, joined, noRoom, lineOf}
+use Rattle.reader.specs.Line.{stopped, joined, noRoom, lineOf}
 use Rattle.reader.specs.Counts.{byteIn, reportsIn}
 use Rattle.reader.specs.declared.Reader.{Reader}
 use Rattle.reader.specs.declared.Answer.{Answer}
 use Rattle.reader.specs.declared.Answer.the-variants.{Nothing, Report, Dropped}
-use Rattle.reader.proofs.Word.{word-kept}
+use Rattle.reader.proofs.Word.{word-number, word-kept}
 
 -- the read stops before the word, whatever follows it
 pub record Stops (r : Reader) (w : ℕ) (out : List ℤ) : Type 0 where
   pub n : ℕ
+  pub why : (n ≡ success) ⊎ ((n ≡ badWord) × (silence < w))
   pub is : (ws : List ℕ) → lineOf r (w ∷ ws) out ≡ stopped n r out
 
 -- the word is taken: the reports and bytes dropped that it gives, and the numbers that it writes
@@ -40,11 +42,11 @@ unfolding lineOf
 view r w out = go (eqb (wordOf r w .refusal) 0) refl (wordOf r w .answer) refl (noRoom out) refl
   where
     go : (t : Bool) → eqb (wordOf r w .refusal) 0 ≡ t → (a : Answer) → wordOf r w .answer ≡ a → (u : Bool) → noRoom out ≡ u → Stops r w out ⊎ Takes r w out
-    go false e a ea u eu = inl (record { n = wordOf r w .refusal; is = λ ws. rw e })
+    go false e a ea u eu = inl (record { n = wordOf r w .refusal; why = word-number r w; is = λ ws. rw e })
     go true e Nothing ea u eu =
         inr (record { n = 0; d = 0; front = []; reports = rw ea; sized = refl; room = omega arith; kept = rw ea at (word-kept r w (eqb-true _ _ e)); is = λ ws. rw (e, ea) })
     go true e (Dropped k) ea u eu =
         inr (record { n = 0; d = k; front = []; reports = rw ea; sized = refl; room = omega arith; kept = rw ea at (word-kept r w (eqb-true _ _ e)); is = λ ws. rw (e, ea) })
-    go true e (Report p) ea true eu = inl (record { n = 0; is = λ ws. rw (e, ea, eu) })
+    go true e (Report p) ea true eu = inl (record { n = 0; why = inl refl; is = λ ws. rw (e, ea, eu) })
     go true e (Report p) ea false eu =
         inr (record { n = 1; d = 0; front = fiveOf p; reports = rw ea; sized = refl; room = ltb-false _ _ eu; kept = rw ea at (word-kept r w (eqb-true _ _ e)); is = λ ws. rw (e, ea, eu) })

@@ -1,21 +1,34 @@
 -- One word: the format stays, the bytes kept stay below the size, and none is lost from the count.
 use Prim.Native.Nat.{ℕ, _+_, _*_, _<_}
-use mathlib.Core.Path.{_≡_, refl, sym}
-use mathlib.Core.Bool.{Bool, true, false}
+use mathlib.Core.Path.{_≡_, refl, sym, _∙_}
+use mathlib.Core.Bool.{true, false, cond, _&&_}
+use mathlib.Core.Logic.{_⊎_, inl, inr}
 use native.Mathlib.Omega.{arith}
 use lib.Dec.{eqb}
 use borrow.Author.Tests.{eqb-true, eqb-false, leb-false}
-use Rattle.wire.specs.Line.{isByte, break, silence, sizeBy}
-use Rattle.reader.specs.Rules.{entered, refusing, dropping, alone, fitting, finishes, starting, keep, start, lose, byteOf, breakOf, silenceOf, wordOf}
+use Rattle.numbers.proofs.Tested.{left, right, holds}
+use Rattle.wire.specs.Line.{isByte, break, silence, sizeBy, markedBy}
+use Rattle.wire.specs.Fits.{fitsBy}
+use Rattle.wire.specs.Numbers.{success, badWord}
+use Rattle.reader.specs.Rules.{entered, refusing, dropping, alone, fitting, finishes, starting, straying, keep, start, stray, lose, byteOf, breakOf, silenceOf, wordOf}
 use Rattle.reader.specs.Counts.{byteIn, reportsIn, droppedIn}
 use Rattle.reader.specs.declared.Reader.{Reader}
 use Rattle.reader.specs.declared.Read.{Read}
-use Rattle.reader.specs.declared.Answer.{Answer}
 use Rattle.reader.specs.declared.Answer.the-variants.{Nothing, Dropped}
 use Rattle.reader.proofs.Choices.{either}
 use Rattle.reader.proofs.Letters.{at-least-three}
 
--- a byte goes by one of the four rules
+-- a byte that strays is lost alone
+stray-lost : (r : Reader) (b : ℕ) → straying r b ≡ true → stray r ≡ lose r
+unfolding stray lose
+stray-lost r b e =
+    let both = left (markedBy (r .format) && eqb (r .count) 0) (fitsBy (r .format) 1 b) e in
+    rw (left (markedBy (r .format)) (eqb (r .count) 0) both, eqb-true (r .count) 0 (right (markedBy (r .format)) (eqb (r .count) 0) both))
+
+pub strays-as-lost : (r : Reader) (b : ℕ) → cond (straying r b) (stray r) (lose r) ≡ lose r
+strays-as-lost r b = either (λ (s : Read). s ≡ lose r) (straying r b) (stray r) (lose r) (stray-lost r b) (λ _. refl)
+
+-- a byte is dropped alone while awaiting, kept, the start of a report, or lost
 pub by-rules : (P : Read → Type 0) (r : Reader) (b : ℕ)
     → (r .awaiting ≡ true → P (alone r))
     → (r .awaiting ≡ false → fitting r b ≡ true → P (keep r b))
@@ -26,7 +39,12 @@ unfolding byteOf
 by-rules P r b waits keeps starts loses =
     either P (r .awaiting) _ _ waits
     (λ w. either P (fitting r b) _ _ (keeps w)
-    (λ f. either P (starting r b) _ _ (starts w f) (loses w f)))
+    (λ f. either P (starting r b) _ _ (starts w f) (λ s. rw (strays-as-lost r b) (loses w f s))))
+
+pub lost-is : (r : Reader) (b : ℕ) → r .awaiting ≡ false → fitting r b ≡ false → starting r b ≡ false → byteOf r b ≡ lose r
+lost-is r b w f s =
+    by-rules (λ (t : Read). t ≡ lose r) r b (λ e. absurd (holds (sym w ∙ e))) (λ _ e. absurd (holds (sym f ∙ e)))
+    (λ _ _ e. absurd (holds (sym s ∙ e))) (λ _ _ _. refl)
 
 -- and a word is a byte, a break, a silence or refused
 pub by-kind : (P : Read → Type 0) (r : Reader) (w : ℕ)
@@ -92,3 +110,14 @@ word-kept r w =
     (λ e _ _. rw e (omega (arith, dropping-is (sizeBy (r .format)) (r .count))))
     (λ e _ _. rw e (omega (arith, dropping-is (sizeBy (r .format)) (r .count))))
     (λ _ e. absurd (eqb-false 4 0 refl e))
+
+-- a word is refused with 4 where it is above 257, and else not
+abbrev pub Numbered : ℕ → Read → Type 0
+Numbered w s = (s .refusal ≡ success) ⊎ ((s .refusal ≡ badWord) × (silence < w))
+
+pub word-number : (r : Reader) (w : ℕ) → Numbered w (wordOf r w)
+unfolding keep start lose breakOf silenceOf
+word-number r w =
+    by-kind (Numbered w) r w
+    (λ _. by-rules (Numbered w) r (entered (r .format) w) (λ _. inl refl) (λ _ _. either (Numbered w) (finishes r) _ _ (λ _. inl refl) (λ _. inl refl)) (λ _ _ _. inl refl) (λ _ _ _. inl refl))
+    (λ _ _. inl refl) (λ _ _. inl refl) (λ h. inr (refl, h))

@@ -1,7 +1,6 @@
 -- "Good reader: a known format; kept bytes below the size, each valid in place, the rest 0; awaiting only in U, T, W with none kept."
 use Prim.Native.Nat.{ℕ, zero, suc}
 use mathlib.Core.Bool.{Bool, true, false, not, cond, _&&_, _||_}
-use mathlib.Core.List.{List}
 use lib.ListN.{length, getD}
 use lib.Dec.{ltb, eqb}
 use Rattle.wire.specs.Line.{namedBy, ofNamed, sizeBy}

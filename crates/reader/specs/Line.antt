@@ -1,8 +1,8 @@
 -- "Over many words": a line of words, word by word, and a lent slice.
-use Prim.Native.Nat.{ℕ, _+_}
+use Prim.Native.Nat.{ℕ, _+_, _*_}
 use mathlib.Core.Bool.{Bool, cond}
 use mathlib.Core.List.{List, [], _∷_, _++_}
-use lib.ListN.{length, drop}
+use lib.ListN.{length, take, drop}
 use lib.Dec.{ltb, eqb}
 use lib.IntN.{ℤ}
 use Rattle.wire.specs.Numbers.{success}
@@ -38,6 +38,17 @@ joined taken reports dropped front later =
       dropped = dropped + later .reading .dropped;
     })
     (front ++ later .out)
+
+-- "The part of the line from any word on may be handed over, with the reader that came back and the unused part of the lent slice; if the
+-- words before it were all taken, the results join as one."
+abbrev pub used : Reading → List ℤ → List ℤ
+used reading out = take (5 * reading .reports) out
+
+abbrev pub unused : Reading → List ℤ → List ℤ
+unused reading out = drop (5 * reading .reports) out
+
+abbrev pub asOne : Reading → List ℤ → Long → Long
+asOne reading out later = joined (reading .taken) (reading .reports) (reading .dropped) (used reading out) later
 
 -- "It stops, with answer 0, before a word that would finish a report when fewer than five places are left."
 abbrev pub noRoom : List ℤ → Bool

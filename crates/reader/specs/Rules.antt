@@ -1,9 +1,9 @@
 -- What one word does, rule by rule.
 use Prim.Native.Nat.{ℕ, _+_}
-use mathlib.Core.Bool.{Bool, true, false, not, cond, _&&_}
+use mathlib.Core.Bool.{Bool, false, cond, _&&_}
 use mathlib.Core.List.{List, [], _∷_}
 use lib.ListN.{set}
-use lib.Dec.{ltb, eqb}
+use lib.Dec.{eqb}
 use Rattle.wire.specs.Line.{isByte, break, silence, sizeBy, markedBy}
 use Rattle.wire.specs.Fits.{fitsBy}
 use Rattle.wire.specs.Reading.{reportBy}
@@ -52,7 +52,15 @@ starting r b = markedBy (r .format) && fitsBy (r .format) 0 b
 unfoldable pub start : Reader → ℕ → Read
 start r b = answered (reader (r .format) (b ∷ 0 ∷ 0 ∷ 0 ∷ 0 ∷ []) 1 false) (dropping (r .count))
 
--- "A byte that none of these rules takes [..] is dropped with the k kept, k+1; U, T, W then await silence"
+-- "In a marked format with none kept, a valid later byte is dropped alone."
+abbrev pub straying : Reader → ℕ → Bool
+straying r b = markedBy (r .format) && eqb (r .count) 0 && fitsBy (r .format) 1 b
+
+unfoldable pub stray : Reader → Read
+stray r = answered (ready (r .format)) (Dropped 1)
+
+-- "A byte that none of these rules takes (wrong fixed bits, odd count of ones in A or B, 128 and over in V, in W no hex digit, or a first digit
+-- above 7) is dropped with the k kept, k+1; U, T, W then await silence"
 unfoldable pub lose : Reader → Read
 lose r = answered (noBytes (r .format) (unmarked (r .format))) (Dropped (r .count + 1))
 
@@ -61,7 +69,12 @@ abbrev pub alone : Reader → Read
 alone r = answered r (Dropped 1)
 
 unfoldable pub byteOf : Reader → ℕ → Read
-byteOf r b = cond (r .awaiting) (alone r) (cond (fitting r b) (keep r b) (cond (starting r b) (start r b) (lose r)))
+byteOf r b =
+    cond (r .awaiting) (alone r)
+    (cond (fitting r b) (keep r b)
+    (cond (starting r b) (start r b)
+    (cond (straying r b) (stray r)
+    (lose r))))
 
 -- "256 drops the kept; U, T, W await silence. 257 drops the kept; U, T, W are then ready."
 unfoldable pub breakOf : Reader → Read

@@ -1,8 +1,8 @@
 -- Steps, one after the other: the answers over a list of words.
 use Prim.Native.Nat.{ℕ}
-use mathlib.Core.Bool.{Bool, false, _||_}
+use mathlib.Core.Bool.{Bool, true, false, _&&_, _||_}
 use mathlib.Core.List.{List, [], _∷_, map}
-use lib.Dec.{eqb}
+use lib.Dec.{eqb, leb}
 use Rattle.wire.specs.Line.{namedBy, ofNamed, silence}
 use Rattle.wire.specs.Holds.{carried}
 use Rattle.wire.specs.Reading.{settled}
@@ -31,6 +31,11 @@ answers steps = map (λ (s : Read). s .answer) steps
 abbrev pub readerAfter : Reader → List Read → Reader
 readerAfter r [] = r
 readerAfter r (s ∷ steps) = readerAfter (s .next) steps
+
+-- words of which none is above 257
+unfoldable pub lineWords : List ℕ → Bool
+lineWords [] = true
+lineWords (w ∷ words) = leb w silence && lineWords words
 
 -- whether a silence is among words
 unfoldable pub hasSilence : List ℕ → Bool

@@ -62,24 +62,29 @@ fn dropping(k: u8) -> Answer
 
 impl Reader {
     // A byte that fits its place is kept; the last gives the report.
-    fn keep(self, size: usize, byte: u8) -> Read
-        requires { ⌜ (self .count < size) × (size ≡ sizeBy (self .format)) ⌝ }
+    fn keep(mut self, size: usize, byte: u8) -> Read
+        requires { ⌜ (self .count < size) × (size ≡ sizeBy (self .format)) × (self .awaiting ≡ false) ⌝ }
         ensures { λ r. ⌜ r ≡ keep self byte ⌝ }
     {
         let at = self.count as usize;
-        let mut kept = self.kept;
-        kept[at] = byte;
+        self.kept[at] = byte;
         if at + 1 == size {
-            let report = wire::report_of(self.format, kept);
+            let report = wire::report_of(self.format, self.kept);
             return answered(no_bytes(self.format, false), Answer::Report(report));
         }
-        let next = Reader {
-            format: self.format,
-            kept: kept,
-            count: self.count + 1,
-            awaiting: false,
-        };
-        answered(next, Answer::Nothing)
+        self.count = self.count + 1;
+        answered(self, Answer::Nothing)
+    }
+
+    // Whether a byte fits the place that is next: the first, or a later one.
+    fn fits(self, byte: u8) -> bool
+        ensures { λ r. ⌜ r ≡ fitting self byte ⌝ }
+    {
+        if self.count == 0 {
+            wire::fits(self.format, 0, byte)
+        } else {
+            wire::fits(self.format, 1, byte)
+        }
     }
 
     // Whether a byte is a valid first byte of a marked format.
@@ -126,7 +131,7 @@ impl Reader {
         if self.awaiting {
             return answered(self, Answer::Dropped(1));
         }
-        if wire::fits(self.format, self.count, byte) {
+        if self.fits(byte) {
             return self.keep(size, byte);
         }
         if self.starts(marked, byte) {

@@ -4,6 +4,7 @@ use native.Mathlib.Omega.{arith}
 use mathlib.Core.Path.{sym, _∙_}
 use Rattle.reader.specs.Rules.{byteOf}
 use Rattle.reader.proofs.Letters.{at-most-five}
+use Rattle.reader.proofs.Word.{strays-as-lost}
 use Rattle.reader.proofs.Reader.byte.Statement.{statement}
 use Rattle.reader.proofs.Reader.byte.Tie as tie
 
@@ -44,7 +45,9 @@ lose-requires c κs = let s = c .before .before .before .before .before in
 returns-4 : tie.Need-returns-4
 unfolding byteOf
 returns-4 c = let b = c .before .before .before in
-    simp (b .before .before .if1 .left, sym (b .before .fits2 .ensures) ∙ b .if2 .left, sym (c .before .before .starts .ensures) ∙ c .before .if3 .left)
+    let s = b .before .before .before in
+    simp
+    (b .before .before .if1 .left, sym (b .before .fits2 .ensures) ∙ b .if2 .left, sym (c .before .before .starts .ensures) ∙ c .before .if3 .left, strays-as-lost (s .args .self) (s .args .byte))
     (c .lose .ensures)
 
 pub byte-spec : {M : Type 1} → statement M

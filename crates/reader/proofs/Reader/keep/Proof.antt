@@ -11,8 +11,8 @@ use Rattle.reader.proofs.Reader.keep.Tie as tie
 cast-at : tie.Need-cast-at
 cast-at c = search needs
 
-array-write-kept : tie.Need-array-write-kept
-array-write-kept c = omega (arith, at-most-five (c .before .before .args .self .format))
+element-write-self : tie.Need-element-write-self
+element-write-self c = omega (arith, at-most-five (c .args .t1 .format))
 
 add-if1 : tie.Need-add-if1
 add-if1 c = search needs
@@ -28,32 +28,32 @@ answered-requires c κs = search needs
 
 returns : tie.Need-returns
 unfolding keep
-returns c = let b = c .before .before .before in
-    simp (eq-eqb _ _ (b .if1 .taken ∙ b .before .before .before .pre .1))
+returns c = let b = c .before .before .before .before in
+    simp (eq-eqb _ _ (b .if1 .taken ∙ b .before .pre .1))
     (rw (c .before .no-bytes .ensures, c .before .before .report-of .ensures) at (c .answered .ensures))
 
-add-t16 : tie.Need-add-t16
-add-t16 c = omega (arith, at-most-five (c .before .before .before .before .args .self .format))
+add-self : tie.Need-add-self
+add-self c = omega (arith, at-most-five (c .before .args .t1 .format))
 
 answered-requires-2 : tie.Need-answered-requires-2
 answered-requires-2 c κs = search needs
 
 returns-2 : tie.Need-returns-2
 unfolding keep
-returns-2 c = let b = c .before .before in
-    simp (ne-eqb _ _ (λ e. b .if1 .left (e ∙ sym (b .before .before .before .pre .1)))) (c .answered2 .ensures)
+returns-2 c = let b = c .before in
+    simp (ne-eqb _ _ (λ e. b .if1 .left (e ∙ sym (b .before .pre .1)))) (rw (b .before .pre .2) at (c .answered2 .ensures))
 
 pub keep-spec : {M : Type 1} → statement M
 keep-spec =
     tie.close
     (tie.spec
     cast-at
-    array-write-kept
+    element-write-self
     add-if1
     report-of-requires
     no-bytes-requires
     answered-requires
     returns
-    add-t16
+    add-self
     answered-requires-2
     returns-2)

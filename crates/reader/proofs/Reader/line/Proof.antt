@@ -1,6 +1,6 @@
 -- `line`: at the loop's head what is done, joined to what the rest of the line does, is the whole.
 use Prim.Native.Nat.{_≤_, _<_, _*_, _-_, _+_}
-use mathlib.Core.Path.{_≡_, refl, sym, _∙_, ap}
+use mathlib.Core.Path.{_≡_, refl, _∙_, ap}
 use mathlib.Core.List.{[], _∷_}
 use native.Mathlib.Omega.{arith}
 use lib.ListN.{length, drop, getD, length-drop}

@@ -1,7 +1,6 @@
 -- `step`: 6 for a reader that is not good, and then the word.
 use borrow.Author.Needs.{needs}
 use mathlib.Core.Path.{ap, sym, _∙_}
-use mathlib.Core.Bool.{true}
 use borrow.Author.Tests.{not-true, not-false}
 use Rattle.reader.specs.Promises.{outcome, stepOf}
 use Rattle.reader.proofs.Good.{below-size}

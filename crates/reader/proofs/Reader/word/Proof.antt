@@ -1,5 +1,6 @@
 -- `word`: a byte as it entered, a break, a silence, or none of these.
 use borrow.Author.Needs.{needs}
+use mathlib.Core.Path.{sym}
 use borrow.Author.Tests.{le-leb, lt-leb, ne-eqb}
 use Rattle.reader.specs.Rules.{breakOf, silenceOf, wordOf}
 use Rattle.reader.proofs.Reader.word.Statement.{statement}
@@ -29,7 +30,7 @@ refusing-requires c κs = search needs
 
 returns-2 : tie.Need-returns-2
 unfolding wordOf breakOf
-returns-2 c = rw (c .before .match .keys1) (rw (c .before .before .before .pre .2) at (c .pause .ensures))
+returns-2 c = rw (c .before .match .keys1, sym (c .before .before .before .pre .2)) (c .pause .ensures)
 
 returns-3 : tie.Need-returns-3
 unfolding wordOf silenceOf
