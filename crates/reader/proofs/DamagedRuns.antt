@@ -23,7 +23,7 @@ use Rattle.reader.specs.State.{fresh}
 use Rattle.reader.specs.Good.{known, placed, good}
 use Rattle.reader.specs.Rules.{entered, dropping, keep, start, stray, lose, byteOf, breakOf, silenceOf, wordOf}
 use Rattle.reader.specs.Promises.{FreshPromise, freshOf, stepOf}
-use Rattle.reader.specs.Runs.{stepsOf, StepsPromise, answers}
+use Rattle.reader.specs.Runs.{stepsOf, StepsPromise, answers, lineWords}
 use Rattle.reader.specs.declared.NewReader.{NewReader}
 use Rattle.reader.specs.declared.Read.{Read}
 use Rattle.reader.specs.declared.Answer.{Answer}
@@ -53,14 +53,14 @@ pressed = reading.report 4 (minus 2) (pos 7)
 -- 257 8C becomes 9A 7F FF. The report 8C 02 07 begins after it, and is the answer to word 9.
 replaced-S : Replaced Mm (finished Mm moved ∷ silent ∷ broken 2 Mm pressed ∷ finished Mm pressed ∷ []) (report 1 Mm moved)
     (256 ∷ []) (0x90 ∷ []) (0x05 ∷ 0x03 ∷ 257 ∷ 0x8C ∷ []) (0x9A ∷ 0x7F ∷ 0xFF ∷ []) (0x02 ∷ 256 ∷ 0x8C ∷ 0x02 ∷ 0x07 ∷ 0x90 ∷ [])
-unfolding accepted holds bytesS number bit
+unfolding lineWords accepted holds bytesS number bit
 replaced-S =
     record {
       sound = ((refl, refl), (tt, ((refl, refl, omega arith), ((refl, refl), tt))));
       sound-going = (refl, refl, omega arith);
       in-front = a-break;
       as-sent = refl;
-      legal = (omega arith, (omega arith, (omega arith, tt)));
+      legal = refl;
     }
 
 pub marked-run : HandsOutAt Mm (256 ∷ 0x90 ∷ 0x9A ∷ 0x7F ∷ 0xFF ∷ 0x02 ∷ 256 ∷ 0x8C ∷ 0x02 ∷ 0x07 ∷ 0x90 ∷ []) 9 pressed
@@ -86,8 +86,8 @@ slow = record { buttons = 0; x1 = pos 1; y1 = pos 2; x2 = pos 3; y2 = pos 4 }
 -- header with the middle button down: it is dropped, and the report behind the silence is the answer to word 9.
 joined-U : Replaced FiveByte (finished FiveByte fast ∷ silent ∷ finished FiveByte slow ∷ []) nothing
     [] [] (0x87 ∷ []) [] (0x85 ∷ 0x00 ∷ 0x85 ∷ 0x00 ∷ 257 ∷ 0x87 ∷ 0x01 ∷ 0x02 ∷ 0x03 ∷ 0x04 ∷ [])
-unfolding accepted holds bytesU number bit twos
-joined-U = record { sound = ((refl, refl), (tt, ((refl, refl), tt))); sound-going = tt; in-front = no-word; as-sent = refl; legal = tt }
+unfolding lineWords accepted holds bytesU number bit twos
+joined-U = record { sound = ((refl, refl), (tt, ((refl, refl), tt))); sound-going = tt; in-front = no-word; as-sent = refl; legal = refl }
 
 pub unmarked-run : HandsOutAt FiveByte (0x85 ∷ 0x00 ∷ 0x85 ∷ 0x00 ∷ 257 ∷ 0x87 ∷ 0x01 ∷ 0x02 ∷ 0x03 ∷ 0x04 ∷ []) 9 slow
 unfolding bytesU
@@ -103,7 +103,7 @@ unmarked-answers = computed FiveByte _ _ refl
 
 -- Exactly: 90 05 03 loses its second byte, and of the two reports the other one is handed out
 pub exactly-run : HandsOut Mm (0x90 ∷ 0x03 ∷ 0x8C ∷ 0x02 ∷ 0x07 ∷ []) (pressed ∷ [])
-unfolding accepted holds bytesS number bit
+unfolding lineWords accepted holds bytesS number bit
 exactly-run =
     exactly Mm refl ((refl, refl), ((refl, refl), tt)) tt no-word
     (of-finished [] (finished Mm pressed ∷ []) nothing moved (0x90 ∷ 0x03 ∷ []) (stays (gone (stays none))) (omega arith))
@@ -138,9 +138,9 @@ pub mark-needed : Replaced ThreeByte (silent ∷ finished ThreeByte one-two ∷ 
     × EndsAt ThreeByte (silent ∷ finished ThreeByte one-two ∷ []) [] (0x00 ∷ []) [] 5
     × Within (silent ∷ finished ThreeByte one-two ∷ []) (257 ∷ []) (0x00 ∷ [])
     × (HandsOutAt ThreeByte (257 ∷ 0x01 ∷ 0x02 ∷ 0x04 ∷ 0x03 ∷ 0x05 ∷ []) 5 three-five → ⊥)
-unfolding accepted holds bytesT number bit twos
+unfolding lineWords accepted holds bytesT number bit twos
 mark-needed = (
-  record { sound = (tt, ((refl, refl), ((refl, refl), tt))); sound-going = tt; in-front = no-word; as-sent = refl; legal = tt },
+  record { sound = (tt, ((refl, refl), ((refl, refl), tt))); sound-going = tt; in-front = no-word; as-sent = refl; legal = refl },
   refl,
   omega arith,
   λ h. let e = only no-mark-answers h in let z : _≡_ {A = ℕ} 0 1 = cc in omega arith,
@@ -161,9 +161,9 @@ pub silence-needed : Replaced FiveByte (silent ∷ finished FiveByte fast ∷ fi
     × Within (silent ∷ finished FiveByte fast ∷ []) (257 ∷ []) (0x87 ∷ [])
     × Unbroken (finished FiveByte fast ∷ [])
     × (HandsOutAt FiveByte (257 ∷ 0x85 ∷ 0x00 ∷ 0x85 ∷ 0x00 ∷ 0x87 ∷ 0x01 ∷ 0x02 ∷ 0x03 ∷ 0x04 ∷ []) 9 slow → ⊥)
-unfolding accepted holds bytesU number bit twos
+unfolding lineWords accepted holds bytesU number bit twos
 silence-needed = (
-  record { sound = (tt, ((refl, refl), ((refl, refl), tt))); sound-going = tt; in-front = no-word; as-sent = refl; legal = tt },
+  record { sound = (tt, ((refl, refl), ((refl, refl), tt))); sound-going = tt; in-front = no-word; as-sent = refl; legal = refl },
   refl,
   omega arith,
   tt,
@@ -182,9 +182,9 @@ pub unbroken-needed : Replaced ThreeByte (silent ∷ broken 1 ThreeByte one-two 
     × EndsAt ThreeByte (silent ∷ broken 1 ThreeByte one-two ∷ []) [] [] (0x09 ∷ []) 6
     × Within [] [] []
     × (HandsOutAt ThreeByte (0x09 ∷ 257 ∷ 0x00 ∷ 256 ∷ 0x04 ∷ 0x03 ∷ 0x05 ∷ []) 6 three-five → ⊥)
-unfolding accepted holds bytesT number bit twos
+unfolding lineWords accepted holds bytesT number bit twos
 unbroken-needed = (
-  record { sound = (tt, ((refl, refl, omega arith), ((refl, refl), tt))); sound-going = tt; in-front = no-word; as-sent = refl; legal = (omega arith, tt) },
+  record { sound = (tt, ((refl, refl, omega arith), ((refl, refl), tt))); sound-going = tt; in-front = no-word; as-sent = refl; legal = refl },
   refl,
   omega arith,
   λ h. let e = only broken-answers h in let z : _≡_ {A = ℕ} 0 1 = cc in omega arith,
@@ -196,7 +196,7 @@ unfolding stepsOf stepOf good known placed wordOf byteOf keep start stray lose b
 none-removed-answers = computed Mm _ _ refl
 
 pub removal-needed : Sound Mm (finished Mm moved ∷ []) × Sub (0x90 ∷ 0x05 ∷ 0x03 ∷ []) (bytesOf Mm moved) × (HandsOut Mm (0x90 ∷ 0x05 ∷ 0x03 ∷ []) [] → ⊥)
-unfolding accepted holds bytesS number bit
+unfolding lineWords accepted holds bytesS number bit
 removal-needed = (
   ((refl, refl), tt),
   stays (stays (stays none)),

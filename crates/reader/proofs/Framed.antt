@@ -7,7 +7,7 @@ use native.Mathlib.Numerals.{add-one}
 use native.Mathlib.Omega.{arith}
 use lib.ListN.{length, take, length-append}
 use lib.Seq.{length-take-le, take-suc-set, getD-take}
-use lib.Dec.{eqb}
+use lib.Dec.{leb, eqb}
 use borrow.Author.Tests.{leb-true, leb-false, eqb-true, eqb-false, ne-eqb, not-true}
 use Rattle.numbers.proofs.Tested.{left, right}
 use Rattle.wire.specs.Line.{isByte, letterOf, namedBy, sizeOf, markedOf, sizeBy, markedBy}
@@ -29,7 +29,7 @@ use Rattle.reader.specs.Good.{known, good}
 use Rattle.reader.specs.Rules.{entered, dropping, fitting, more, starting, byteOf, breakOf, silenceOf, wordOf}
 use Rattle.reader.specs.Rules as rules
 use Rattle.reader.specs.Promises.{FreshPromise, stepOf, freshOf}
-use Rattle.reader.specs.Runs.{stepsOf, StepsPromise, answers}
+use Rattle.reader.specs.Runs.{stepsOf, StepsPromise, answers, lineWords}
 use Rattle.reader.specs.declared.Reader.{Reader}
 use Rattle.reader.specs.declared.NewReader.{NewReader}
 use Rattle.reader.specs.declared.Read.{Read}
@@ -41,7 +41,6 @@ use Rattle.reader.proofs.Word.{by-rules, word-format}
 use Rattle.reader.proofs.Keeps.{word-good}
 use Rattle.reader.proofs.Goodness.{step-word, fresh-is-good}
 use Rattle.reader.proofs.Permitted.{steps-are}
-use Rattle.reader.proofs.Lines.{Legal}
 use Rattle.reader.proofs.Front.{same-front}
 
 -- the frame of a format: its bytes, size and mark by the table
@@ -211,13 +210,13 @@ module _ (f : Format) (r : Reader) (g : good r ≡ true) (named : namedBy (r .fo
 
 -- over legal words
 module _ (f : Format) where
-  steps-like : (words : List ℕ) (r : Reader) → good r ≡ true → namedBy (r .format) ≡ Known f → Legal words
+  steps-like : (words : List ℕ) (r : Reader) → good r ≡ true → namedBy (r .format) ≡ Known f → lineWords words ≡ true
       → answers (stepsOf r words) ≡ map told (frame.answers (frameOf f) (stateOf r) words)
-  unfolding stepsOf
+  unfolding stepsOf lineWords
   steps-like [] r g named l = refl
   steps-like (w ∷ words) r g named l =
-      let like = step-like f r g named w (l .0) in
-      let rest = steps-like words (stepOf r w .next) (rw (step-word r w g) (word-good r g w)) (rw (step-word r w g, word-format r w) named) (l .1) in
+      let like = step-like f r g named w (leb-true w 257 (left (leb w 257) (lineWords words) l)) in
+      let rest = steps-like words (stepOf r w .next) (rw (step-word r w g) (word-good r g w)) (rw (step-word r w g, word-format r w) named) (right (leb w 257) (lineWords words) l) in
       rw (like .answered, rest, like .next)
 
   -- a fresh reader
@@ -225,7 +224,7 @@ module _ (f : Format) where
   unfolding freshOf known
   fresh-named a e = rw (e, letter-named f)
 
-  pub framed : (words : List ℕ) (a : NewReader) (steps : List Read) → Legal words → FreshPromise (letterOf f) a → StepsPromise (a .reader) words steps
+  pub framed : (words : List ℕ) (a : NewReader) (steps : List Read) → lineWords words ≡ true → FreshPromise (letterOf f) a → StepsPromise (a .reader) words steps
       → answers steps ≡ map told (frame.answers (frameOf f) (fresh (frameOf f)) words)
   framed words a steps l e p =
       let i = fresh-named a e in

@@ -5,7 +5,7 @@ use mathlib.Core.Bool.{true}
 use mathlib.Core.List.{List, [], _∷_, _++_}
 use lib.ListN.{length, take, drop, getD}
 use lib.IntN.{ℤ}
-use Rattle.wire.specs.Line.{break, silence, letterOf, sizeOf}
+use Rattle.wire.specs.Line.{break, letterOf, sizeOf}
 use Rattle.wire.specs.Table.{bytesOf}
 use Rattle.wire.specs.Holds.{accepted, carried}
 use Rattle.wire.specs.Passages.{Passage, silent, finished, broken, reply, brokenReply, passageWords, Going, nothing, report, goingWords}
@@ -16,17 +16,12 @@ use Rattle.wire.specs.declared.Format.{Format}
 use Rattle.frames.specs.Line.{Sub}
 use Rattle.reader.specs.State.{fiveOf}
 use Rattle.reader.specs.Promises.{FreshPromise, ReadPromise}
-use Rattle.reader.specs.Runs.{StepsPromise, answers}
+use Rattle.reader.specs.Runs.{StepsPromise, answers, lineWords}
 use Rattle.reader.specs.declared.NewReader.{NewReader}
 use Rattle.reader.specs.declared.Read.{Read}
 use Rattle.reader.specs.declared.Reading.{Reading}
 use Rattle.reader.specs.declared.Answer.{Answer}
 use Rattle.reader.specs.declared.Answer.the-variants as answer
-
--- "legal words": none is above 257
-abbrev pub Legal : List ℕ → Type 0
-Legal [] = Unit {0}
-Legal (w ∷ words) = (w ≤ silence) × Legal words
 
 -- what the command that sets a box's format itself gives, in front of the line: no word, or 256
 pub data Given : List ℕ → Type 0 where
@@ -110,13 +105,13 @@ pub record HandsOutAt (f : Format) (words : List ℕ) (i : ℕ) (p : Report) : T
       → Took words (handedOut (answers steps)) before b after
       × (take 5 (drop (5 * length (handedOut (take i (answers steps)))) after) ≡ fiveOf p)
 
--- A line of the format f, `passages` and then `going`; of its words the stretch `old` was replaced by the words `new`; `given` stands in front.
+-- A line of the format f, `passages` and then `going`; of its words the stretch `old` was replaced by the legal words `new`; `given` stands in front.
 pub record Replaced (f : Format) (passages : List Passage) (going : Going) (given pre old new post : List ℕ) : Type 0 where
   pub sound : Sound f passages
   pub sound-going : SoundGoing f going
   pub in-front : Given given
   pub as-sent : passageWords passages ++ goingWords going ≡ pre ++ (old ++ post)
-  pub legal : Legal new
+  pub legal : lineWords new ≡ true
 
 -- the stretch `old`, behind `pre`, ends before the words of what stands behind these passages
 abbrev pub Within : List Passage → List ℕ → List ℕ → Type 0
