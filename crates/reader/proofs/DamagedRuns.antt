@@ -5,7 +5,7 @@ use mathlib.Core.Path.{_≡_, refl, sym, _∙_, ap}
 use mathlib.Core.List.{List, [], _∷_}
 use native.Mathlib.Omega.{arith}
 use lib.ListN.{getD}
-use lib.IntN.{pos}
+use lib.IntN.{ℤ, pos}
 use Rattle.numbers.specs.Bits.{bit, bits, number}
 use Rattle.numbers.specs.Signed.{minus, twos, untwos, signed}
 use Rattle.wire.specs.Line.{letterOf, namedBy, sizeBy, markedBy}
@@ -14,6 +14,7 @@ use Rattle.wire.specs.Holds.{holds, accepted}
 use Rattle.wire.specs.Fits.{like, fitsFirst, fitsLater, fitsAt, fitsBy}
 use Rattle.wire.specs.Reading.{readS, readT, readU, reportBy}
 use Rattle.wire.specs.Reading as reading
+use Rattle.wire.specs.Numbers.{success}
 use Rattle.wire.specs.Passages.{silent, finished, broken, nothing, report}
 use Rattle.wire.specs.declared.Report.{Report}
 use Rattle.wire.specs.declared.Format.{Format}
@@ -22,16 +23,17 @@ use Rattle.frames.specs.Line.{Sub, none, gone, stays}
 use Rattle.reader.specs.State.{fresh}
 use Rattle.reader.specs.Good.{known, placed, good}
 use Rattle.reader.specs.Rules.{entered, dropping, keep, start, stray, lose, byteOf, breakOf, silenceOf, wordOf}
-use Rattle.reader.specs.Promises.{FreshPromise, freshOf, stepOf}
+use Rattle.reader.specs.Promises.{FreshPromise, ReadPromise, freshOf, stepOf}
 use Rattle.reader.specs.Runs.{stepsOf, StepsPromise, answers, lineWords}
 use Rattle.reader.specs.declared.NewReader.{NewReader}
 use Rattle.reader.specs.declared.Read.{Read}
+use Rattle.reader.specs.declared.Reading.{Reading}
 use Rattle.reader.specs.declared.Answer.{Answer}
 use Rattle.reader.specs.declared.Answer.the-variants.{Nothing, Dropped}
 use Rattle.reader.specs.declared.Answer.the-variants as answer
 use Rattle.reader.proofs.Permitted.{steps-are}
 use Rattle.reader.proofs.Framed.{fresh-named}
-use Rattle.reader.proofs.Lines.{no-word, a-break, Sound, Unbroken, handedOut, HandsOut, HandsOutAt, Replaced, Within, EndsAt, of-finished}
+use Rattle.reader.proofs.Lines.{no-word, a-break, Sound, Unbroken, handedOut, HandsOut, HandsOutAt, Replaced, Within, EndsAt, of-finished, of-broken, of-going}
 use Rattle.reader.proofs.Handed.{permitted}
 use Rattle.reader.proofs.Damaged.{marked, unmarked, exactly}
 
@@ -111,6 +113,26 @@ exactly-run =
 pub exactly-answers : Answered Mm (0x90 ∷ 0x03 ∷ 0x8C ∷ 0x02 ∷ 0x07 ∷ []) (Nothing ∷ Nothing ∷ Dropped 2 ∷ Nothing ∷ answer.Report pressed ∷ [])
 unfolding stepsOf stepOf good known placed wordOf byteOf keep start stray lose breakOf silenceOf dropping entered namedBy sizeBy markedBy fitsBy fitsAt fitsFirst fitsLater like reportBy readS signed number bits bit
 exactly-answers = computed Mm _ _ refl
+
+-- the broken-off 8C 02, and the same two bytes of a report that is going, lose the first: the finished report is handed out
+pub exactly-broken-run : HandsOut Mm (0x02 ∷ 256 ∷ 0x90 ∷ 0x05 ∷ 0x03 ∷ []) (moved ∷ [])
+unfolding accepted holds bytesS number bit
+exactly-broken-run =
+    exactly Mm refl ((refl, refl, omega arith), ((refl, refl), tt)) tt no-word
+    (of-broken [] (finished Mm moved ∷ []) nothing 2 pressed (0x02 ∷ []) (gone (stays none)))
+
+pub exactly-going-run : HandsOut Mm (0x90 ∷ 0x05 ∷ 0x03 ∷ 0x02 ∷ []) (moved ∷ [])
+unfolding accepted holds bytesS number bit
+exactly-going-run =
+    exactly Mm refl ((refl, refl), tt) (refl, refl, omega arith) no-word (of-going (finished Mm moved ∷ []) 2 pressed (0x02 ∷ []) (gone (stays none)))
+
+-- Room: a slice of six numbers has room for the one report found; the sixth stays
+pub room-run : (a : NewReader) (b : Reading) (after : List ℤ) → FreshPromise (letterOf Mm) a
+    → ReadPromise (a .reader) (0x90 ∷ 0x03 ∷ 0x8C ∷ 0x02 ∷ 0x07 ∷ []) (pos 9 ∷ pos 9 ∷ pos 9 ∷ pos 9 ∷ pos 9 ∷ pos 9 ∷ []) b after
+    → (b .refusal ≡ success) × (b .taken ≡ 5) × (b .reports ≡ 1) × (after ≡ pos 4 ∷ minus 2 ∷ pos 7 ∷ pos 0 ∷ pos 0 ∷ pos 9 ∷ [])
+room-run a b after e q =
+    let t = exactly-run .by-read a (pos 9 ∷ pos 9 ∷ pos 9 ∷ pos 9 ∷ pos 9 ∷ pos 9 ∷ []) after b e q (omega arith) in
+    (t .refusal, t .taken, t .reports, t .written)
 
 -- so that a line whose word i is answered otherwise does not hand out the report there
 only : {f : Format} {words : List ℕ} {l : List Answer} {i : ℕ} {p : Report} → Answered f words l → HandsOutAt f words i p → getD l i Nothing ≡ answer.Report p

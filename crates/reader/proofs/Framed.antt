@@ -193,7 +193,7 @@ module _ (f : Format) (r : Reader) (g : good r ≡ true) (named : namedBy (r .fo
       start : {t : Bool} → starting r w ≡ t → markedOf f && fitsAt f 0 w ≡ t
       start h = rw (marked-is, fits-is 0 w) at h
 
-  pub word-like : (w : ℕ) → w ≤ 257 → Like (wordOf r w) (step (frameOf f) (stateOf r) w)
+  word-like : (w : ℕ) → w ≤ 257 → Like (wordOf r w) (step (frameOf f) (stateOf r) w)
   unfolding wordOf entered breakOf silenceOf moveOf
   word-like w l = go (isByte w) refl (eqb w 256) refl
     where
