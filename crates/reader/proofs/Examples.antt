@@ -8,12 +8,13 @@ use Rattle.numbers.specs.Bits.{bit, bits, number}
 use Rattle.numbers.specs.Signed.{signed, untwos, minus}
 use Rattle.wire.specs.Line.{break, silence, namedBy, sizeBy, markedBy}
 use Rattle.wire.specs.Fits.{like, fitsFirst, fitsLater, fitsAt, fitsBy}
-use Rattle.wire.specs.Reading.{readS, readU, reportBy}
+use Rattle.wire.specs.Reading.{readS, readU, reportBy, plusZero}
 use Rattle.reader.specs.State.{reader, fresh, ready}
 use Rattle.reader.specs.Good.{known, placed, good}
 use Rattle.reader.specs.Rules.{entered, dropping, keep, start, lose, byteOf, breakOf, silenceOf, wordOf}
 use Rattle.reader.specs.Line.{whole, lineOf}
 use Rattle.reader.specs.Promises.{readOf}
+use Rattle.reader.specs.Runs.{settledBy}
 
 -- numbers that a lent slice held before
 abbrev old : ℤ
@@ -58,3 +59,16 @@ a-silence = refl
 pub header-is-data : readOf (ready 0x55) (0x85 ∷ 0x85 ∷ 0xFD ∷ 0x85 ∷ 0 ∷ []) (replicate 5 old) ≡ whole (record { refusal = 0; next = ready 0x55; taken = 5; reports = 1; dropped = 0 }) (pos 2 ∷ minus 123 ∷ minus 3 ∷ minus 123 ∷ pos 0 ∷ [])
 unfolding readOf lineOf good known placed wordOf byteOf keep start lose breakOf silenceOf dropping entered namedBy sizeBy markedBy fitsBy fitsAt fitsFirst fitsLater like reportBy readS readU signed untwos number bits bit
 header-is-data = refl
+
+-- a minus zero comes back with its sign bit set to 1, on one axis or on both; any other bytes come back as they are
+pub minus-zero : settledBy 0x53 (0x80 ∷ 0 ∷ 0 ∷ []) ≡ 0x98 ∷ 0 ∷ 0 ∷ []
+unfolding settledBy namedBy plusZero number bits bit
+minus-zero = refl
+
+pub minus-zero-y : settledBy 0x53 (0x94 ∷ 5 ∷ 0 ∷ []) ≡ 0x9C ∷ 5 ∷ 0 ∷ []
+unfolding settledBy namedBy plusZero number bits bit
+minus-zero-y = refl
+
+pub no-minus-zero : settledBy 0x53 (0x94 ∷ 5 ∷ 3 ∷ []) ≡ 0x94 ∷ 5 ∷ 3 ∷ []
+unfolding settledBy namedBy plusZero number bits bit
+no-minus-zero = refl

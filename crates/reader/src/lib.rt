@@ -1,5 +1,4 @@
 // The reader: line words in, reports out.
-ghost use mathlib.Core.Path.{_≡_};
 ghost use Rattle.reader.specs.Promises.{FreshPromise, StepPromise, ReadPromise};
 use crate::words::no_bytes;
 use crate::words::refusing;

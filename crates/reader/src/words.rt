@@ -1,10 +1,10 @@
 // What one word does to a good reader.
 ghost use mathlib.Core.Path.{_≡_};
-ghost use mathlib.Core.Bool.{true, false};
+ghost use mathlib.Core.Bool.{false};
 ghost use Prim.Native.Nat.{_<_};
 ghost use Rattle.wire.specs.Line.{sizeBy, markedBy};
 ghost use Rattle.reader.specs.State.{noBytes};
-ghost use Rattle.reader.specs.Rules.{entered, answered, refusing, dropping, fitting, starting, keep, start, lose, byteOf, breakOf, silenceOf, wordOf};
+ghost use Rattle.reader.specs.Rules.{entered, answered, refusing, dropping, fitting, starting, keep, start, lose, byteOf, wordOf};
 use crate::Answer;
 use crate::Read;
 use crate::Reader;
@@ -28,6 +28,7 @@ pub(crate) fn no_bytes(letter: u8, awaiting: bool) -> Reader
     }
 }
 
+// What a word that is not refused gives.
 fn answered(next: Reader, answer: Answer) -> Read
     ensures { λ r. ⌜ r ≡ answered next answer ⌝ }
 {
@@ -61,6 +62,17 @@ fn dropping(k: u8) -> Answer
 }
 
 impl Reader {
+    // Whether a byte fits the place that is next: the first, or a later one.
+    fn fits(self, byte: u8) -> bool
+        ensures { λ r. ⌜ r ≡ fitting self byte ⌝ }
+    {
+        if self.count == 0 {
+            wire::fits(self.format, 0, byte)
+        } else {
+            wire::fits(self.format, 1, byte)
+        }
+    }
+
     // A byte that fits its place is kept; the last gives the report.
     fn keep(mut self, size: usize, byte: u8) -> Read
         requires { ⌜ (self .count < size) × (size ≡ sizeBy (self .format)) × (self .awaiting ≡ false) ⌝ }
@@ -74,17 +86,6 @@ impl Reader {
         }
         self.count = self.count + 1;
         answered(self, Answer::Nothing)
-    }
-
-    // Whether a byte fits the place that is next: the first, or a later one.
-    fn fits(self, byte: u8) -> bool
-        ensures { λ r. ⌜ r ≡ fitting self byte ⌝ }
-    {
-        if self.count == 0 {
-            wire::fits(self.format, 0, byte)
-        } else {
-            wire::fits(self.format, 1, byte)
-        }
     }
 
     // Whether a byte is a valid first byte of a marked format.
