@@ -1,16 +1,16 @@
 -- Demand 3: "Let an awake box be set to one format and then asked only for reports, over every sequence of events, its words from then on going
 -- to a fresh reader with room for all it finds. Replace one stretch of its line words by any other legal words, or none."
-use Prim.Native.Nat.{ℕ, suc, _+_, _≤_}
+use Prim.Native.Nat.{ℕ}
 use mathlib.Core.Path.{_≡_, sym, _∙_}
 use mathlib.Core.Bool.{Bool, true, false, cond}
 use mathlib.Core.List.{List, [], _∷_, _++_}
-use lib.ListN.{length}
-use Rattle.wire.specs.Line.{letterOf, sizeOf, markedOf, break}
+use Rattle.wire.specs.Line.{letterOf, markedOf, break}
 use Rattle.wire.specs.Holds.{carried}
 use Rattle.wire.specs.Passages.{Passage, silent, finished, passageWords, Going, nothing, goingWords, Unbroken, finishedReports}
 use Rattle.wire.specs.declared.Report.{Report}
 use Rattle.wire.specs.declared.Format.{Format}
-use Rattle.reader.specs.Lines.{Legal, Given, no-word, a-break, HandsOut, HandsOutAt, Replaced, Lost}
+use Rattle.reader.specs.Runs.{lineWords}
+use Rattle.reader.specs.Lines.{Given, no-word, a-break, Within, EndsAt, HandsOut, HandsOutAt, Replaced, Lost}
 use Rattle.reader.proofs.Damaged as damaged
 use Rattle.ballbox.specs.Good.{good}
 use Rattle.ballbox.specs.Events.{bytesLeft}
@@ -64,21 +64,21 @@ module _ {f : Format} {b : BallBox} {a : Stepped} {events : List Event} {answers
   as-sent = run-passages (a .next) events answers (set-box .good) (set-box .carries .line) (run .permitted)
 
   -- "Replace one stretch of its line words", `old`, "by any other legal words, or none", `new`
-  module _ {front : List ℕ} (in-front : Front a front) (pre old new post : List ℕ) (line : wordsGiven answers ≡ pre ++ (old ++ post)) (legal : Legal new)
+  module _ {front : List ℕ} (in-front : Front a front) (pre old new post : List ℕ) (line : wordsGiven answers ≡ pre ++ (old ++ post)) (legal : lineWords new ≡ true)
       -- a finished report r, and the place i of the word that ends it
       (before : List Passage) (r : Report) (after : List Passage) (is : sent a events ≡ before ++ (finished f r ∷ after))
-      (i : ℕ) (place : suc i + length old ≡ length front + length (passageWords before) + sizeOf f + length new) where
+      (i : ℕ) (place : EndsAt f before front old new i) where
     replaced : Replaced f (sent a events) (stillGoing a events) front pre old new post
     replaced =
         let s = asked-sound f (a .next) nothing events (run .asked) set-box in
         record { sound = s .0; sound-going = s .1; in-front = front-given in-front; as-sent = sym as-sent ∙ line; legal = legal }
 
     -- "In the four formats with a marked first byte, each finished report that begins after the stretch is handed out as the box sent it."
-    pub marked : markedOf f ≡ true → length pre + length old ≤ length (passageWords before) → HandsOutAt f (front ++ (pre ++ (new ++ post))) i (carried f r)
+    pub marked : markedOf f ≡ true → Within before pre old → HandsOutAt f (front ++ (pre ++ (new ++ post))) i (carried f r)
     marked = damaged.marked f (sent a events) (stillGoing a events) front pre old new post replaced before r after is i place
 
     -- "In the other three this holds for each finished report that begins after a silence following the stretch, with no broken-off report between."
-    pub unmarked : (quietly ahead : List Passage) → before ≡ ahead ++ (silent ∷ quietly) → Unbroken quietly → length pre + length old ≤ length (passageWords ahead) → HandsOutAt f (front ++ (pre ++ (new ++ post))) i (carried f r)
+    pub unmarked : (quietly ahead : List Passage) → before ≡ ahead ++ (silent ∷ quietly) → Unbroken quietly → Within ahead pre old → HandsOutAt f (front ++ (pre ++ (new ++ post))) i (carried f r)
     unmarked quietly ahead = damaged.unmarked f (sent a events) (stillGoing a events) front pre old new post replaced before r after is i place ahead quietly
 
   -- "If the stretch only removed bytes of a single report of a marked format, exactly the finished reports other than that one are handed out, in

@@ -58,7 +58,8 @@ module _ {R : Type 0} (F : Frame R) (M : Marked F) where
   scraps [] (b ∷ l) h r = passes F 1 (has []) b l (loses [] b (h .0) (h .1) (h .1)) ∙ scraps [] l (h .2) tt
   scraps (a ∷ k) (b ∷ l) h r = go (F .fits (a ∷ k) b) refl (scraps (a ∷ k ++ (b ∷ [])) l (h .2)) (scraps [] l (h .2) tt)
     where
-      go : (t : Bool) → F .fits (a ∷ k) b ≡ t → (Few (a ∷ k ++ (b ∷ [])) l → read F (has (a ∷ k ++ (b ∷ []))) l ≡ []) → read F (has []) l ≡ [] → read F (has (a ∷ k)) (b ∷ l) ≡ []
+      go : (t : Bool) → F .fits (a ∷ k) b ≡ t → (Few (a ∷ k ++ (b ∷ [])) l → read F (has (a ∷ k ++ (b ∷ []))) l ≡ []) → read F (has []) l ≡ []
+          → read F (has (a ∷ k)) (b ∷ l) ≡ []
       go true e f g = passes F 0 (has (a ∷ k)) b l (more F (M .laws) a k b e (omega arith)) ∙ f (omega (arith, length-append k (b ∷ [])))
       go false e f g = passes F (suc (suc (length k))) (has (a ∷ k)) b l (loses (a ∷ k) b (h .0) e (h .1)) ∙ g
 

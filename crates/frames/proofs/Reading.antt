@@ -12,13 +12,13 @@ use Rattle.frames.specs.Line.{Segment, silence, sent, cut, words, Calm, 
 
 -- reports among answers
 module _ {R : Type 0} where
-  pub reports-append : (u v : List (Answer R)) → reports (u ++ v) ≡ reports u ++ reports v
+  reports-append : (u v : List (Answer R)) → reports (u ++ v) ≡ reports u ++ reports v
   reports-append [] v = refl
   reports-append (nothing ∷ u) v = reports-append u v
   reports-append (report r ∷ u) v = ap (λ (l : List R). r ∷ l) (reports-append u v)
   reports-append (dropped n ∷ u) v = reports-append u v
 
-  pub reports-drops : (n : ℕ) (l : List (Answer R)) → reports (drops n ∷ l) ≡ reports l
+  reports-drops : (n : ℕ) (l : List (Answer R)) → reports (drops n ∷ l) ≡ reports l
   reports-drops zero l = refl
   reports-drops (suc n) l = refl
 

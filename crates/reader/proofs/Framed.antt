@@ -7,7 +7,7 @@ use native.Mathlib.Numerals.{add-one}
 use native.Mathlib.Omega.{arith}
 use lib.ListN.{length, take, length-append}
 use lib.Seq.{length-take-le, take-suc-set, getD-take}
-use lib.Dec.{eqb}
+use lib.Dec.{leb, eqb}
 use borrow.Author.Tests.{leb-true, leb-false, eqb-true, eqb-false, ne-eqb, not-true}
 use Rattle.numbers.proofs.Tested.{left, right}
 use Rattle.wire.specs.Line.{isByte, letterOf, namedBy, sizeOf, markedOf, sizeBy, markedBy}
@@ -29,7 +29,7 @@ use Rattle.reader.specs.Good.{known, good}
 use Rattle.reader.specs.Rules.{entered, dropping, fitting, more, starting, byteOf, breakOf, silenceOf, wordOf}
 use Rattle.reader.specs.Rules as rules
 use Rattle.reader.specs.Promises.{FreshPromise, stepOf, freshOf}
-use Rattle.reader.specs.Runs.{stepsOf, StepsPromise, answers}
+use Rattle.reader.specs.Runs.{stepsOf, StepsPromise, answers, lineWords}
 use Rattle.reader.specs.declared.Reader.{Reader}
 use Rattle.reader.specs.declared.NewReader.{NewReader}
 use Rattle.reader.specs.declared.Read.{Read}
@@ -41,7 +41,6 @@ use Rattle.reader.proofs.Word.{by-rules, word-format}
 use Rattle.reader.proofs.Keeps.{word-good}
 use Rattle.reader.proofs.Goodness.{step-word, fresh-is-good}
 use Rattle.reader.proofs.Permitted.{steps-are}
-use Rattle.reader.specs.Lines.{Legal}
 use Rattle.reader.proofs.Front.{same-front}
 
 -- the frame of a format: its bytes, size and mark by the table
@@ -134,7 +133,10 @@ module _ (f : Format) (r : Reader) (g : good r ≡ true) (named : namedBy (r .fo
   waits-rightly a = go (rw a at (has-parts .awaits))
     where
       go : unmarked (r .format) && eqb (r .count) 0 ≡ true → (markedOf f ≡ false) × (r .count ≡ 0)
-      go e = (sym marked-is ∙ not-true (markedBy (r .format)) (left (unmarked (r .format)) (eqb (r .count) 0) e), eqb-true (r .count) 0 (right (unmarked (r .format)) (eqb (r .count) 0) e))
+      go e = (
+        sym marked-is ∙ not-true (markedBy (r .format)) (left (unmarked (r .format)) (eqb (r .count) 0) e),
+        eqb-true (r .count) 0 (right (unmarked (r .format)) (eqb (r .count) 0) e),
+      )
 
   -- as many bytes are kept as it counts
   kept-count : length (frame.kept (stateOf r)) ≡ r .count
@@ -191,7 +193,7 @@ module _ (f : Format) (r : Reader) (g : good r ≡ true) (named : namedBy (r .fo
       start : {t : Bool} → starting r w ≡ t → markedOf f && fitsAt f 0 w ≡ t
       start h = rw (marked-is, fits-is 0 w) at h
 
-  pub word-like : (w : ℕ) → w ≤ 257 → Like (wordOf r w) (step (frameOf f) (stateOf r) w)
+  word-like : (w : ℕ) → w ≤ 257 → Like (wordOf r w) (step (frameOf f) (stateOf r) w)
   unfolding wordOf entered breakOf silenceOf moveOf
   word-like w l = go (isByte w) refl (eqb w 256) refl
     where
@@ -208,13 +210,13 @@ module _ (f : Format) (r : Reader) (g : good r ≡ true) (named : namedBy (r .fo
 
 -- over legal words
 module _ (f : Format) where
-  steps-like : (words : List ℕ) (r : Reader) → good r ≡ true → namedBy (r .format) ≡ Known f → Legal words
+  steps-like : (words : List ℕ) (r : Reader) → good r ≡ true → namedBy (r .format) ≡ Known f → lineWords words ≡ true
       → answers (stepsOf r words) ≡ map told (frame.answers (frameOf f) (stateOf r) words)
-  unfolding stepsOf
+  unfolding stepsOf lineWords
   steps-like [] r g named l = refl
   steps-like (w ∷ words) r g named l =
-      let like = step-like f r g named w (l .0) in
-      let rest = steps-like words (stepOf r w .next) (rw (step-word r w g) (word-good r g w)) (rw (step-word r w g, word-format r w) named) (l .1) in
+      let like = step-like f r g named w (leb-true w 257 (left (leb w 257) (lineWords words) l)) in
+      let rest = steps-like words (stepOf r w .next) (rw (step-word r w g) (word-good r g w)) (rw (step-word r w g, word-format r w) named) (right (leb w 257) (lineWords words) l) in
       rw (like .answered, rest, like .next)
 
   -- a fresh reader
@@ -222,7 +224,7 @@ module _ (f : Format) where
   unfolding freshOf known
   fresh-named a e = rw (e, letter-named f)
 
-  pub framed : (words : List ℕ) (a : NewReader) (steps : List Read) → Legal words → FreshPromise (letterOf f) a → StepsPromise (a .reader) words steps
+  pub framed : (words : List ℕ) (a : NewReader) (steps : List Read) → lineWords words ≡ true → FreshPromise (letterOf f) a → StepsPromise (a .reader) words steps
       → answers steps ≡ map told (frame.answers (frameOf f) (fresh (frameOf f)) words)
   framed words a steps l e p =
       let i = fresh-named a e in

@@ -18,18 +18,18 @@ use Rattle.frames.proofs.Reading.{on}
 use Rattle.frames.proofs.Replaced as replaced
 use Rattle.reader.specs.State.{fiveOf}
 use Rattle.reader.specs.Promises.{FreshPromise}
-use Rattle.reader.specs.Runs.{stepsOf, StepsPromise, answers}
+use Rattle.reader.specs.Runs.{stepsOf, StepsPromise, answers, lineWords}
 use Rattle.reader.specs.declared.Reader.{Reader}
 use Rattle.reader.specs.declared.NewReader.{NewReader}
 use Rattle.reader.specs.declared.Read.{Read}
 use Rattle.reader.specs.declared.Answer.{Answer}
 use Rattle.reader.specs.declared.Answer.the-variants as answer
-use Rattle.reader.specs.Lines.{Legal, Given, no-word, a-break, handedOut, numbers, HandsOut, HandsOutAt}
+use Rattle.reader.specs.Lines.{Given, no-word, a-break, handedOut, numbers, HandsOut, HandsOutAt}
 use Rattle.reader.proofs.Framed.{frameOf, told, framed}
 use Rattle.reader.proofs.Took.{took}
 
 -- the steps of the definition are permitted
-permitted : (r : Reader) (words : List ℕ) → StepsPromise r words (stepsOf r words)
+pub permitted : (r : Reader) (words : List ℕ) → StepsPromise r words (stepsOf r words)
 unfolding stepsOf StepsPromise
 permitted r [] = tt
 permitted r (w ∷ words) = (refl, permitted _ words)
@@ -62,7 +62,7 @@ numbers-at : (l : List Report) (p : Report) (m : List Report) (rest : List ℤ) 
 numbers-at l p m rest =
     rw (numbers-append l (p ∷ m), append-assoc (numbers l), drop-at (numbers l) (fiveOf p ++ (numbers m ++ rest)) (5 * length l) (numbers-length l))
 
-module _ (f : Format) (words : List ℕ) (legal : Legal words) where
+module _ (f : Format) (words : List ℕ) (legal : lineWords words ≡ true) where
   pub hands-out : (found : List Report) → frame.read (frameOf f) (fresh (frameOf f)) words ≡ found → HandsOut f words found
   hands-out found e =
       record {
@@ -84,8 +84,11 @@ module _ (f : Format) (words : List ℕ) (legal : Legal words) where
         by-read = λ a steps before after b x y z room.
             let t = took f words a steps before after b legal x y room z in
             let l = answers steps in
-            let at = found-at l i p (all a steps x y) in
-            (t, rw (t .written, at) (numbers-at (handedOut (take i l)) p (handedOut (drop (suc i) l)) (drop (5 * length (handedOut (take i l) ++ (p ∷ handedOut (drop (suc i) l)))) before)));
+            let at = found-at l i p (all a steps x y) in (
+              t,
+              rw (t .written, at)
+                  (numbers-at (handedOut (take i l)) p (handedOut (drop (suc i) l)) (drop (5 * length (handedOut (take i l) ++ (p ∷ handedOut (drop (suc i) l)))) before)),
+            );
       }
     where
       all : (a : NewReader) (steps : List Read) → FreshPromise (letterOf f) a → StepsPromise (a .reader) words steps → getD (answers steps) i answer.Nothing ≡ answer.Report p
@@ -111,6 +114,7 @@ module _ (f : Format) where
   read-given no-word words = refl
   read-given a-break words = ap frame.reports (on (frameOf f) (fresh (frameOf f)) break words break-step)
 
-pub given-legal : {given : List ℕ} → Given given → Legal given
-given-legal no-word = tt
-given-legal a-break = (omega arith, tt)
+pub given-legal : {given : List ℕ} → Given given → lineWords given ≡ true
+unfolding lineWords
+given-legal no-word = refl
+given-legal a-break = refl

@@ -31,5 +31,6 @@ pub mod Segments
 pub mod Handed
 pub mod Stretch
 pub mod Damaged
+pub mod DamagedRuns
 pub mod Examples
 pub mod Wrong

@@ -8,6 +8,9 @@ use native.Mathlib.Numerals.{add-one}
 use native.Mathlib.Omega.{arith}
 use lib.ListN.{length, getD, take, length-append, length-take}
 use lib.Seq.{getD-take}
+use lib.Dec.{leb}
+use borrow.Author.Tests.{le-leb}
+use Rattle.numbers.proofs.Tested.{left, right}
 use Rattle.wire.specs.Line.{sizeOf}
 use Rattle.wire.specs.Table.{bytesOf}
 use Rattle.wire.specs.Holds.{accepted}
@@ -18,24 +21,27 @@ use Rattle.wire.specs.declared.Format.{Format}
 use Rattle.wire.proofs.Codec.{bytes-length, bytes-fit, there}
 use Rattle.frames.specs.Line.{Segment, silence, sent, cut, words, Calm, Fits, Full, Short, Part}
 use Rattle.frames.specs.Line as line
+use Rattle.reader.specs.Runs.{lineWords}
 use Rattle.wire.specs.Passages.{SoundOf, Sound, SoundGoing, Unbroken, finishedIn, finishedReports}
-use Rattle.reader.specs.Lines.{Legal}
 use Rattle.reader.proofs.Framed.{frameOf, two, laws}
 
 -- legal words, joined and taken apart
-pub legal-append : (u v : List ℕ) → Legal u → Legal v → Legal (u ++ v)
+pub legal-append : (u v : List ℕ) → lineWords u ≡ true → lineWords v ≡ true → lineWords (u ++ v) ≡ true
+unfolding lineWords
 legal-append [] v h k = k
-legal-append (w ∷ u) v h k = (h .0, legal-append u v (h .1) k)
+legal-append (w ∷ u) v h k = rw (left (leb w 257) (lineWords u) h) (legal-append u v (right (leb w 257) (lineWords u) h) k)
 
-legal-left : (u v : List ℕ) → Legal (u ++ v) → Legal u
-legal-left [] v h = tt
-legal-left (w ∷ u) v h = (h .0, legal-left u v (h .1))
+legal-left : (u v : List ℕ) → lineWords (u ++ v) ≡ true → lineWords u ≡ true
+unfolding lineWords
+legal-left [] v h = refl
+legal-left (w ∷ u) v h = rw (left (leb w 257) (lineWords (u ++ v)) h) (legal-left u v (right (leb w 257) (lineWords (u ++ v)) h))
 
-legal-right : (u v : List ℕ) → Legal (u ++ v) → Legal v
+legal-right : (u v : List ℕ) → lineWords (u ++ v) ≡ true → lineWords v ≡ true
+unfolding lineWords
 legal-right [] v h = h
-legal-right (w ∷ u) v h = legal-right u v (h .1)
+legal-right (w ∷ u) v h = legal-right u v (right (leb w 257) (lineWords (u ++ v)) h)
 
-pub legal-replaced : (pre old post new : List ℕ) → Legal (pre ++ (old ++ post)) → Legal new → Legal (pre ++ (new ++ post))
+pub legal-replaced : (pre old post new : List ℕ) → lineWords (pre ++ (old ++ post)) ≡ true → lineWords new ≡ true → lineWords (pre ++ (new ++ post)) ≡ true
 legal-replaced pre old post new h k =
     legal-append pre (new ++ post) (legal-left pre (old ++ post) h) (legal-append new post k (legal-right old post (legal-right pre (old ++ post) h)))
 
@@ -82,8 +88,11 @@ module _ (f : Format) where
   -- bytes of which each fits its place
   fits-from : (k bytes : List ℕ) → ((i : ℕ) → i < length bytes → fitsAt f (length k + i) (getD bytes i 0) ≡ true) → Fits (frameOf f) k bytes
   fits-from k [] h = tt
-  fits-from k (b ∷ bytes) h =
-      (rw add-zero at (h 0 (omega arith)), fits-from (k ++ (b ∷ [])) bytes (λ i l. rw (length-append k (b ∷ []), add-one (length k), suc-add (length k) i, ← add-suc (length k) i) (h (suc i) (omega arith))))
+  fits-from k (b ∷ bytes) h = (
+    rw add-zero at (h 0 (omega arith)),
+    fits-from (k ++ (b ∷ [])) bytes
+        (λ i l. rw (length-append k (b ∷ []), add-one (length k), suc-add (length k) i, ← add-suc (length k) i) (h (suc i) (omega arith))),
+  )
 
   full : (bytes : List ℕ) → length bytes ≡ sizeOf f → 2 ≤ sizeOf f → Full (frameOf f) bytes
   full [] e h = absurd (omega arith)
@@ -101,8 +110,11 @@ module _ (f : Format) where
 
   pub part-report : (n : ℕ) (r : Report) → accepted f r ≡ true → n < sizeOf f → Part (frameOf f) (take n (bytesOf f r))
   part-report n r a l =
-      let size = length-take n (bytesOf f r) in
-      (fits-from [] (take n (bytesOf f r)) (λ i h. let m : i < n = omega arith in rw (zero-add, getD-take n (bytesOf f r) i 0 m) (bytes-fit f r a i (omega arith))), short (take n (bytesOf f r)) (omega arith))
+      let size = length-take n (bytesOf f r) in (
+        fits-from [] (take n (bytesOf f r))
+            (λ i h. let m : i < n = omega arith in rw (zero-add, getD-take n (bytesOf f r) i 0 m) (bytes-fit f r a i (omega arith))),
+        short (take n (bytesOf f r)) (omega arith),
+      )
 
   -- so that the segments of sound passages are sound, and have the same finished reports
   sound-of : (p : Passage) → SoundOf f p → line.SoundOf (frameOf f) (segmentOf p)
@@ -146,22 +158,25 @@ module _ (f : Format) where
   finished-append (p ∷ l) m = rw (finished-append l m, append-assoc)
 
   -- the words of a line are legal
-  pub fits-legal : (k bytes : List ℕ) → Fits (frameOf f) k bytes → Legal bytes
-  fits-legal k [] h = tt
-  fits-legal k (b ∷ bytes) h = (omega (arith, laws f .byte k b (h .0)), fits-legal (k ++ (b ∷ [])) bytes (h .1))
+  pub fits-legal : (k bytes : List ℕ) → Fits (frameOf f) k bytes → lineWords bytes ≡ true
+  unfolding lineWords
+  fits-legal k [] h = refl
+  fits-legal k (b ∷ bytes) h = rw (le-leb b 257 (omega (arith, laws f .byte k b (h .0)))) (fits-legal (k ++ (b ∷ [])) bytes (h .1))
 
-  legal-of : (s : Segment) → line.SoundOf (frameOf f) s → Legal (line.wordsOf s)
-  legal-of silence h = (omega arith, tt)
+  legal-of : (s : Segment) → line.SoundOf (frameOf f) s → lineWords (line.wordsOf s) ≡ true
+  unfolding lineWords
+  legal-of silence h = refl
   legal-of (sent bytes) h = fits-legal [] bytes (h .0)
-  legal-of (cut bytes) h = legal-append bytes (256 ∷ []) (fits-legal [] bytes (h .0)) (omega arith, tt)
+  legal-of (cut bytes) h = legal-append bytes (256 ∷ []) (fits-legal [] bytes (h .0)) refl
 
-  legal-words : (l : List Segment) → line.Sound (frameOf f) l → Legal (words l)
-  legal-words [] h = tt
+  legal-words : (l : List Segment) → line.Sound (frameOf f) l → lineWords (words l) ≡ true
+  unfolding lineWords
+  legal-words [] h = refl
   legal-words (s ∷ l) h = legal-append (line.wordsOf s) (words l) (legal-of s (h .0)) (legal-words l (h .1))
 
-  pub passages-legal : (passages : List Passage) → Sound f passages → Legal (passageWords passages)
+  pub passages-legal : (passages : List Passage) → Sound f passages → lineWords (passageWords passages) ≡ true
   passages-legal passages s = rw same-words at (legal-words (segments passages) (sound passages s))
 
-  pub line-legal : (passages : List Passage) (going : Going) → Sound f passages → SoundGoing f going → Legal (passageWords passages ++ goingWords going)
+  pub line-legal : (passages : List Passage) (going : Going) → Sound f passages → SoundGoing f going → lineWords (passageWords passages ++ goingWords going) ≡ true
   line-legal passages going s g =
       legal-append (passageWords passages) (goingWords going) (passages-legal passages s) (fits-legal [] (goingWords going) (sound-going going g .0))

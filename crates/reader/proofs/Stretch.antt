@@ -5,6 +5,8 @@ use mathlib.Core.Bool.{true}
 use mathlib.Core.List.{List, [], _∷_, _++_, append-assoc}
 use native.Mathlib.Omega.{arith}
 use lib.ListN.{length, take, length-append}
+use lib.Dec.{leb}
+use Rattle.numbers.proofs.Tested.{left, right}
 use Rattle.wire.specs.Line.{break, sizeOf, markedOf}
 use Rattle.wire.specs.Table.{bytesOf}
 use Rattle.wire.specs.Holds.{accepted, carried}
@@ -16,8 +18,9 @@ use Rattle.wire.proofs.Codec.{bytes-length, there}
 use Rattle.frames.specs.Line.{Sub, none, gone, stays, words}
 use Rattle.frames.specs.Frame as frame
 use Rattle.frames.proofs.Replaced as replaced
+use Rattle.reader.specs.Runs.{lineWords}
 use Rattle.wire.specs.Passages.{Sound, SoundGoing, Unbroken, finishedReports}
-use Rattle.reader.specs.Lines.{Legal, Given, HandsOut, HandsOutAt, Replaced}
+use Rattle.reader.specs.Lines.{Given, HandsOut, HandsOutAt, Replaced, Within, EndsAt}
 use Rattle.reader.proofs.Framed.{frameOf, two, laws, is-marked}
 use Rattle.reader.proofs.Segments.{legal-append, legal-replaced, segments, segments-append, same-words, words-append, calm, whole-report, part-report, sound, sound-going, same-finished, sound-left, sound-right, finished-append, fits-legal, passages-legal, line-legal}
 use Rattle.reader.proofs.Handed.{hands-out, hands-out-at, behind-given, read-given, given-legal}
@@ -25,7 +28,7 @@ use Rattle.reader.proofs.Handed.{hands-out, hands-out-at, behind-given,
 -- the finished report r stands on the line between `before` and `after`, and i is the place of its last byte when `old` is replaced by `new`
 module _ (f : Format) (passages : List Passage) (going : Going) (given pre old new post : List ℕ) (l : Replaced f passages going given pre old new post)
     (before : List Passage) (r : Report) (after : List Passage) (is : passages ≡ before ++ (finished f r ∷ after))
-    (i : ℕ) (place : suc i + length old ≡ length given + length (passageWords before) + sizeOf f + length new) where
+    (i : ℕ) (place : EndsAt f before given old new i) where
   abbrev rest : List ℕ
   rest = passageWords after ++ goingWords going
 
@@ -38,12 +41,12 @@ module _ (f : Format) (passages : List Passage) (going : Going) (given pre old n
   is-accepted : accepted f r ≡ true
   is-accepted = sound-right f before (finished f r ∷ after) all-sound .0 .1
 
-  all-legal : Legal (given ++ (pre ++ (new ++ post)))
+  all-legal : lineWords (given ++ (pre ++ (new ++ post))) ≡ true
   all-legal =
       legal-append given (pre ++ (new ++ post)) (given-legal (l .in-front))
       (legal-replaced pre old post new (rw (l .as-sent) at (line-legal f passages going (l .sound) (l .sound-going))) (l .legal))
 
-  handed : length pre + length old ≤ length (passageWords before)
+  handed : Within before pre old
       → ((j : ℕ) → suc j + length old ≡ length (words (segments before)) + length (bytesOf f r) + length new
       → replaced.Handed (frameOf f) (pre ++ (new ++ post)) j (reportOf f (bytesOf f r)))
       → HandsOutAt f (given ++ (pre ++ (new ++ post))) i (carried f r)
@@ -55,14 +58,14 @@ module _ (f : Format) (passages : List Passage) (going : Going) (given pre old n
       (rw (split, there f r is-accepted) at
       (behind-given f (l .in-front) (pre ++ (new ++ post)) j (reportOf f (bytesOf f r)) (k j (rw (same-words before, bytes-length f r) (omega arith)))))
 
-  pub by-mark : markedOf f ≡ true → length pre + length old ≤ length (passageWords before) → HandsOutAt f (given ++ (pre ++ (new ++ post))) i (carried f r)
+  pub by-mark : markedOf f ≡ true → Within before pre old → HandsOutAt f (given ++ (pre ++ (new ++ post))) i (carried f r)
   by-mark m h =
       handed h
       (λ j at.
       replaced.marked (frameOf f) (segments before) (bytesOf f r) (whole-report f r is-accepted) rest pre old post new as-sent j at (is-marked f m)
       (rw (same-words before) h))
 
-  pub by-silence : (front quiet : List Passage) → before ≡ front ++ (silent ∷ quiet) → Unbroken quiet → length pre + length old ≤ length (passageWords front)
+  pub by-silence : (front quiet : List Passage) → before ≡ front ++ (silent ∷ quiet) → Unbroken quiet → Within front pre old
       → HandsOutAt f (given ++ (pre ++ (new ++ post))) i (carried f r)
   by-silence front quiet e u h =
       let before-sound : Sound f (front ++ (silent ∷ quiet)) = rw e at (sound-left f before (finished f r ∷ after) all-sound) in
@@ -74,15 +77,20 @@ module _ (f : Format) (passages : List Passage) (going : Going) (given pre old n
       (rw (same-words front) h))
 
 -- what is left of bytes is legal
-legal-left : {left bytes : List ℕ} → Sub left bytes → Legal bytes → Legal left
+legal-left : {left bytes : List ℕ} → Sub left bytes → lineWords bytes ≡ true → lineWords left ≡ true
+unfolding lineWords
 legal-left none h = h
-legal-left (gone d) h = legal-left d (h .1)
-legal-left (stays d) h = (h .0, legal-left d (h .1))
+legal-left (gone {b} {bytes} d) h = legal-left d (right (leb b 257) (lineWords bytes) h)
+legal-left (stays {b} {bytes} d) h = rw (left (leb b 257) (lineWords bytes) h) (legal-left d (right (leb b 257) (lineWords bytes) h))
+
+legal-break : (words : List ℕ) → lineWords words ≡ true → lineWords (break ∷ words) ≡ true
+unfolding lineWords
+legal-break words h = h
 
 -- a line in a marked format, of which a report lost bytes
 module _ (f : Format) (m : markedOf f ≡ true) (given : List ℕ) (v : Given given) where
   -- what the frame hands out of legal words, behind what is given
-  alone : (words : List ℕ) (others : List Passage) → Legal words → frame.read (frameOf f) (frame.fresh (frameOf f)) words ≡ finishedReports f others
+  alone : (words : List ℕ) (others : List Passage) → lineWords words ≡ true → frame.read (frameOf f) (frame.fresh (frameOf f)) words ≡ finishedReports f others
       → HandsOut f (given ++ words) (finishedReports f others)
   alone words others h e = hands-out f (given ++ words) (legal-append given words (given-legal v) h) (finishedReports f others) (read-given f v words ∙ e)
 
@@ -110,7 +118,7 @@ module _ (f : Format) (m : markedOf f ≡ true) (given : List ℕ) (v : Given gi
       alone (passageWords before ++ (left ++ (break ∷ (passageWords after ++ goingWords going)))) (before ++ after)
       (legal-append (passageWords before) (left ++ (break ∷ (passageWords after ++ goingWords going))) (passages-legal f before b)
       (legal-append left (break ∷ (passageWords after ++ goingWords going)) (legal-left d (fits-legal f [] (take n (bytesOf f r)) (p .0)))
-      (omega arith, line-legal f after going (t .1) g)))
+      (legal-break (passageWords after ++ goingWords going) (line-legal f after going (t .1) g))))
       (rw (← same-words before, ← same-words after, finished-append f before after, ← same-finished f before b, ← same-finished f after (t .1))
       (replaced.removed-cut (frameOf f) (is-marked f m) (segments before) (sound f before b) (take n (bytesOf f r)) left (segments after) (goingWords going)
       p d (sound f after (t .1)) (sound-going f going g)))

@@ -1,11 +1,11 @@
 -- What the theorems on damaged lines speak of: lines of one format, what is sent on them, what is lost, and what is handed out.
-use Prim.Native.Nat.{ℕ, _*_, _≤_, _<_}
+use Prim.Native.Nat.{ℕ, suc, _+_, _*_, _≤_, _<_}
 use mathlib.Core.Path.{_≡_}
 use mathlib.Core.Bool.{true}
 use mathlib.Core.List.{List, [], _∷_, _++_}
 use lib.ListN.{length, take, drop, getD}
 use lib.IntN.{ℤ}
-use Rattle.wire.specs.Line.{break, silence, letterOf, sizeOf}
+use Rattle.wire.specs.Line.{break, letterOf, sizeOf}
 use Rattle.wire.specs.Table.{bytesOf}
 use Rattle.wire.specs.Passages.{Passage, finished, broken, passageWords, Sound, SoundGoing, Going, report, goingWords}
 use Rattle.wire.specs.Numbers.{success}
@@ -14,17 +14,12 @@ use Rattle.wire.specs.declared.Format.{Format}
 use Rattle.frames.specs.Line.{Sub}
 use Rattle.reader.specs.State.{fiveOf}
 use Rattle.reader.specs.Promises.{FreshPromise, ReadPromise}
-use Rattle.reader.specs.Runs.{StepsPromise, answers}
+use Rattle.reader.specs.Runs.{StepsPromise, answers, lineWords}
 use Rattle.reader.specs.declared.NewReader.{NewReader}
 use Rattle.reader.specs.declared.Read.{Read}
 use Rattle.reader.specs.declared.Reading.{Reading}
 use Rattle.reader.specs.declared.Answer.{Answer}
 use Rattle.reader.specs.declared.Answer.the-variants as answer
-
--- "legal words": none is above 257
-abbrev pub Legal : List ℕ → Type 0
-Legal [] = Unit {0}
-Legal (w ∷ words) = (w ≤ silence) × Legal words
 
 -- what the command that sets a box's format itself gives, in front of the line: no word, or 256
 pub data Given : List ℕ → Type 0 where
@@ -69,13 +64,21 @@ pub record HandsOutAt (f : Format) (words : List ℕ) (i : ℕ) (p : Report) : T
       → Took words (handedOut (answers steps)) before b after
       × (take 5 (drop (5 * length (handedOut (take i (answers steps)))) after) ≡ fiveOf p)
 
--- A line of the format f, `passages` and then `going`; of its words the stretch `old` was replaced by the words `new`; `given` stands in front.
+-- A line of the format f, `passages` and then `going`; of its words the stretch `old` was replaced by the legal words `new`; `given` stands in front.
 pub record Replaced (f : Format) (passages : List Passage) (going : Going) (given pre old new post : List ℕ) : Type 0 where
   pub sound : Sound f passages
   pub sound-going : SoundGoing f going
   pub in-front : Given given
   pub as-sent : passageWords passages ++ goingWords going ≡ pre ++ (old ++ post)
-  pub legal : Legal new
+  pub legal : lineWords new ≡ true
+
+-- the stretch `old`, behind `pre`, ends before the words of what stands behind these passages
+abbrev pub Within : List Passage → List ℕ → List ℕ → Type 0
+Within before pre old = length pre + length old ≤ length (passageWords before)
+
+-- i is the place of the word that ends a report of f behind these passages, when `old` was replaced by `new`, with `given` in front of all
+abbrev pub EndsAt : Format → List Passage → List ℕ → List ℕ → List ℕ → ℕ → Type 0
+EndsAt f before given old new i = suc i + length old ≡ length given + length (passageWords before) + sizeOf f + length new
 
 -- A line of the format f of which one report lost bytes, neighbours or not, and nothing else: what was sent, `passages` and then `going`; the words
 -- that are left; and the passages other than that report. Of a finished report one byte or more is missing; of a broken-off one, or of the one

@@ -1,0 +1,236 @@
+-- Worked runs of damaged lines: for each theorem a line that meets its conditions, with the answers computed; and for each condition a line that
+-- lacks only this one, where the report is not handed out as sent.
+use Prim.Native.Nat.{ℕ}
+use mathlib.Core.Path.{_≡_, refl, sym, _∙_, ap}
+use mathlib.Core.List.{List, [], _∷_}
+use native.Mathlib.Omega.{arith}
+use lib.ListN.{getD}
+use lib.IntN.{ℤ, pos}
+use Rattle.numbers.specs.Bits.{bit, bits, number}
+use Rattle.numbers.specs.Signed.{minus, twos, untwos, signed}
+use Rattle.wire.specs.Line.{letterOf, namedBy, sizeBy, markedBy}
+use Rattle.wire.specs.Table.{bytesOf, bytesS, bytesT, bytesU}
+use Rattle.wire.specs.Holds.{holds, accepted}
+use Rattle.wire.specs.Fits.{like, fitsFirst, fitsLater, fitsAt, fitsBy}
+use Rattle.wire.specs.Reading.{readS, readT, readU, reportBy}
+use Rattle.wire.specs.Reading as reading
+use Rattle.wire.specs.Numbers.{success}
+use Rattle.wire.specs.Passages.{silent, finished, broken, nothing, report}
+use Rattle.wire.specs.declared.Report.{Report}
+use Rattle.wire.specs.declared.Format.{Format}
+use Rattle.wire.specs.declared.Format.the-variants.{Mm, FiveByte, ThreeByte}
+use Rattle.frames.specs.Line.{Sub, none, gone, stays}
+use Rattle.reader.specs.State.{fresh}
+use Rattle.reader.specs.Good.{known, placed, good}
+use Rattle.reader.specs.Rules.{entered, dropping, keep, start, stray, lose, byteOf, breakOf, silenceOf, wordOf}
+use Rattle.reader.specs.Promises.{FreshPromise, ReadPromise, freshOf, stepOf}
+use Rattle.reader.specs.Runs.{stepsOf, StepsPromise, answers, lineWords}
+use Rattle.reader.specs.declared.NewReader.{NewReader}
+use Rattle.reader.specs.declared.Read.{Read}
+use Rattle.reader.specs.declared.Reading.{Reading}
+use Rattle.reader.specs.declared.Answer.{Answer}
+use Rattle.reader.specs.declared.Answer.the-variants.{Nothing, Dropped}
+use Rattle.reader.specs.declared.Answer.the-variants as answer
+use Rattle.reader.proofs.Permitted.{steps-are}
+use Rattle.reader.proofs.Framed.{fresh-named}
+use Rattle.wire.specs.Passages.{Sound, Unbroken}
+use Rattle.reader.specs.Lines.{no-word, a-break, handedOut, HandsOut, HandsOutAt, Replaced, Within, EndsAt, of-finished, of-broken, of-going}
+use Rattle.reader.proofs.Handed.{permitted}
+use Rattle.reader.proofs.Damaged.{marked, unmarked, exactly}
+
+-- any fresh reader of f, by any steps that are permitted, gives the words these answers
+abbrev Answered : Format → List ℕ → List Answer → Type 0
+Answered f words l = (a : NewReader) (steps : List Read) → FreshPromise (letterOf f) a → StepsPromise (a .reader) words steps → answers steps ≡ l
+
+computed : (f : Format) (words : List ℕ) (l : List Answer) → answers (stepsOf (fresh (letterOf f)) words) ≡ l → Answered f words l
+computed f words l e a steps p q = rw (steps-are (a .reader) words steps q, fresh-named f a p) e
+
+-- reports of S: 90 05 03 and 8C 02 07
+abbrev moved : Report
+moved = reading.report 0 (pos 5) (minus 3)
+
+abbrev pressed : Report
+pressed = reading.report 4 (minus 2) (pos 7)
+
+-- Marked. Behind the setting's own 256 stand 90 05 03, a silence, 8C 02 broken off, 8C 02 07, and 90 of a report that is going; the stretch 05 03
+-- 257 8C becomes 9A 7F FF. The report 8C 02 07 begins after it, and is the answer to word 9.
+replaced-S : Replaced Mm (finished Mm moved ∷ silent ∷ broken 2 Mm pressed ∷ finished Mm pressed ∷ []) (report 1 Mm moved)
+    (256 ∷ []) (0x90 ∷ []) (0x05 ∷ 0x03 ∷ 257 ∷ 0x8C ∷ []) (0x9A ∷ 0x7F ∷ 0xFF ∷ []) (0x02 ∷ 256 ∷ 0x8C ∷ 0x02 ∷ 0x07 ∷ 0x90 ∷ [])
+unfolding lineWords accepted holds bytesS number bit
+replaced-S =
+    record {
+      sound = ((refl, refl), (tt, ((refl, refl, omega arith), ((refl, refl), tt))));
+      sound-going = (refl, refl, omega arith);
+      in-front = a-break;
+      as-sent = refl;
+      legal = refl;
+    }
+
+pub marked-run : HandsOutAt Mm (256 ∷ 0x90 ∷ 0x9A ∷ 0x7F ∷ 0xFF ∷ 0x02 ∷ 256 ∷ 0x8C ∷ 0x02 ∷ 0x07 ∷ 0x90 ∷ []) 9 pressed
+unfolding bytesS
+marked-run =
+    marked Mm (finished Mm moved ∷ silent ∷ broken 2 Mm pressed ∷ finished Mm pressed ∷ []) (report 1 Mm moved)
+    (256 ∷ []) (0x90 ∷ []) (0x05 ∷ 0x03 ∷ 257 ∷ 0x8C ∷ []) (0x9A ∷ 0x7F ∷ 0xFF ∷ []) (0x02 ∷ 256 ∷ 0x8C ∷ 0x02 ∷ 0x07 ∷ 0x90 ∷ []) replaced-S
+    (finished Mm moved ∷ silent ∷ broken 2 Mm pressed ∷ []) pressed [] refl 9 refl refl (omega arith)
+
+pub marked-answers : Answered Mm (256 ∷ 0x90 ∷ 0x9A ∷ 0x7F ∷ 0xFF ∷ 0x02 ∷ 256 ∷ 0x8C ∷ 0x02 ∷ 0x07 ∷ 0x90 ∷ [])
+    (Nothing ∷ Nothing ∷ Dropped 1 ∷ Nothing ∷ Dropped 3 ∷ Dropped 1 ∷ Nothing ∷ Nothing ∷ Nothing ∷ answer.Report pressed ∷ Nothing ∷ [])
+unfolding stepsOf stepOf good known placed wordOf byteOf keep start stray lose breakOf silenceOf dropping entered namedBy sizeBy markedBy fitsBy fitsAt fitsFirst fitsLater like reportBy readS signed number bits bit
+marked-answers = computed Mm _ _ refl
+
+-- reports of U: a fast move to the left, 87 85 00 85 00, and a slow one, 87 01 02 03 04
+abbrev fast : Report
+fast = record { buttons = 0; x1 = minus 123; y1 = pos 0; x2 = minus 123; y2 = pos 0 }
+
+abbrev slow : Report
+slow = record { buttons = 0; x1 = pos 1; y1 = pos 2; x2 = pos 3; y2 = pos 4 }
+
+-- Unmarked, "readers that join a report halfway": the line is 87 85 00 85 00, a silence, and 87 01 02 03 04, and the 87 in front is lost. 85 would be a
+-- header with the middle button down: it is dropped, and the report behind the silence is the answer to word 9.
+joined-U : Replaced FiveByte (finished FiveByte fast ∷ silent ∷ finished FiveByte slow ∷ []) nothing
+    [] [] (0x87 ∷ []) [] (0x85 ∷ 0x00 ∷ 0x85 ∷ 0x00 ∷ 257 ∷ 0x87 ∷ 0x01 ∷ 0x02 ∷ 0x03 ∷ 0x04 ∷ [])
+unfolding lineWords accepted holds bytesU number bit twos
+joined-U = record { sound = ((refl, refl), (tt, ((refl, refl), tt))); sound-going = tt; in-front = no-word; as-sent = refl; legal = refl }
+
+pub unmarked-run : HandsOutAt FiveByte (0x85 ∷ 0x00 ∷ 0x85 ∷ 0x00 ∷ 257 ∷ 0x87 ∷ 0x01 ∷ 0x02 ∷ 0x03 ∷ 0x04 ∷ []) 9 slow
+unfolding bytesU
+unmarked-run =
+    unmarked FiveByte (finished FiveByte fast ∷ silent ∷ finished FiveByte slow ∷ []) nothing
+    [] [] (0x87 ∷ []) [] (0x85 ∷ 0x00 ∷ 0x85 ∷ 0x00 ∷ 257 ∷ 0x87 ∷ 0x01 ∷ 0x02 ∷ 0x03 ∷ 0x04 ∷ []) joined-U
+    (finished FiveByte fast ∷ silent ∷ []) slow [] refl 9 refl (finished FiveByte fast ∷ []) [] refl tt (omega arith)
+
+pub unmarked-answers : Answered FiveByte (0x85 ∷ 0x00 ∷ 0x85 ∷ 0x00 ∷ 257 ∷ 0x87 ∷ 0x01 ∷ 0x02 ∷ 0x03 ∷ 0x04 ∷ [])
+    (Dropped 1 ∷ Dropped 1 ∷ Dropped 1 ∷ Dropped 1 ∷ Nothing ∷ Nothing ∷ Nothing ∷ Nothing ∷ Nothing ∷ answer.Report slow ∷ [])
+unfolding stepsOf stepOf good known placed wordOf byteOf keep start stray lose breakOf silenceOf dropping entered namedBy sizeBy markedBy fitsBy fitsAt fitsFirst fitsLater like reportBy readU untwos number bits bit
+unmarked-answers = computed FiveByte _ _ refl
+
+-- Exactly: 90 05 03 loses its second byte, and of the two reports the other one is handed out
+pub exactly-run : HandsOut Mm (0x90 ∷ 0x03 ∷ 0x8C ∷ 0x02 ∷ 0x07 ∷ []) (pressed ∷ [])
+unfolding lineWords accepted holds bytesS number bit
+exactly-run =
+    exactly Mm refl ((refl, refl), ((refl, refl), tt)) tt no-word
+    (of-finished [] (finished Mm pressed ∷ []) nothing moved (0x90 ∷ 0x03 ∷ []) (stays (gone (stays none))) (omega arith))
+
+pub exactly-answers : Answered Mm (0x90 ∷ 0x03 ∷ 0x8C ∷ 0x02 ∷ 0x07 ∷ []) (Nothing ∷ Nothing ∷ Dropped 2 ∷ Nothing ∷ answer.Report pressed ∷ [])
+unfolding stepsOf stepOf good known placed wordOf byteOf keep start stray lose breakOf silenceOf dropping entered namedBy sizeBy markedBy fitsBy fitsAt fitsFirst fitsLater like reportBy readS signed number bits bit
+exactly-answers = computed Mm _ _ refl
+
+-- the broken-off 8C 02, and the same two bytes of a report that is going, lose the first: the finished report is handed out
+pub exactly-broken-run : HandsOut Mm (0x02 ∷ 256 ∷ 0x90 ∷ 0x05 ∷ 0x03 ∷ []) (moved ∷ [])
+unfolding accepted holds bytesS number bit
+exactly-broken-run =
+    exactly Mm refl ((refl, refl, omega arith), ((refl, refl), tt)) tt no-word
+    (of-broken [] (finished Mm moved ∷ []) nothing 2 pressed (0x02 ∷ []) (gone (stays none)))
+
+pub exactly-going-run : HandsOut Mm (0x90 ∷ 0x05 ∷ 0x03 ∷ 0x02 ∷ []) (moved ∷ [])
+unfolding accepted holds bytesS number bit
+exactly-going-run =
+    exactly Mm refl ((refl, refl), tt) (refl, refl, omega arith) no-word (of-going (finished Mm moved ∷ []) 2 pressed (0x02 ∷ []) (gone (stays none)))
+
+-- Room: a slice of six numbers has room for the one report found; the sixth stays
+pub room-run : (a : NewReader) (b : Reading) (after : List ℤ) → FreshPromise (letterOf Mm) a
+    → ReadPromise (a .reader) (0x90 ∷ 0x03 ∷ 0x8C ∷ 0x02 ∷ 0x07 ∷ []) (pos 9 ∷ pos 9 ∷ pos 9 ∷ pos 9 ∷ pos 9 ∷ pos 9 ∷ []) b after
+    → (b .refusal ≡ success) × (b .taken ≡ 5) × (b .reports ≡ 1) × (after ≡ pos 4 ∷ minus 2 ∷ pos 7 ∷ pos 0 ∷ pos 0 ∷ pos 9 ∷ [])
+room-run a b after e q =
+    let t = exactly-run .by-read a (pos 9 ∷ pos 9 ∷ pos 9 ∷ pos 9 ∷ pos 9 ∷ pos 9 ∷ []) after b e q (omega arith) in
+    (t .refusal, t .taken, t .reports, t .written)
+
+-- so that a line whose word i is answered otherwise does not hand out the report there
+only : {f : Format} {words : List ℕ} {l : List Answer} {i : ℕ} {p : Report} → Answered f words l → HandsOutAt f words i p → getD l i Nothing ≡ answer.Report p
+only {f} {words} {l} h at =
+    let a = freshOf (letterOf f) in
+    let w = permitted (a .reader) words in
+    rw (h a (stepsOf (a .reader) words) refl w) at (at .by-steps a (stepsOf (a .reader) words) refl w)
+
+-- reports of T: 00 01 02 and 04 03 05
+abbrev one-two : Report
+one-two = reading.report 0 (pos 1) (pos 2)
+
+abbrev three-five : Report
+three-five = reading.report 4 (pos 3) (pos 5)
+
+-- The mark is needed: in T, after a silence, 00 01 02 loses its first byte. The report 04 03 05 begins after the stretch and ends at word 5; the
+-- reader takes its 04 for the end of another, and waits for a third byte there.
+pub no-mark-answers : Answered ThreeByte (257 ∷ 0x01 ∷ 0x02 ∷ 0x04 ∷ 0x03 ∷ 0x05 ∷ [])
+    (Nothing ∷ Nothing ∷ Nothing ∷ answer.Report (reading.report 1 (pos 2) (pos 4)) ∷ Nothing ∷ Nothing ∷ [])
+unfolding stepsOf stepOf good known placed wordOf byteOf keep start stray lose breakOf silenceOf dropping entered namedBy sizeBy markedBy fitsBy fitsAt fitsFirst fitsLater like reportBy readT untwos number bits bit
+no-mark-answers = computed ThreeByte _ _ refl
+
+pub mark-needed : Replaced ThreeByte (silent ∷ finished ThreeByte one-two ∷ finished ThreeByte three-five ∷ []) nothing
+    [] (257 ∷ []) (0x00 ∷ []) [] (0x01 ∷ 0x02 ∷ 0x04 ∷ 0x03 ∷ 0x05 ∷ [])
+    × EndsAt ThreeByte (silent ∷ finished ThreeByte one-two ∷ []) [] (0x00 ∷ []) [] 5
+    × Within (silent ∷ finished ThreeByte one-two ∷ []) (257 ∷ []) (0x00 ∷ [])
+    × (HandsOutAt ThreeByte (257 ∷ 0x01 ∷ 0x02 ∷ 0x04 ∷ 0x03 ∷ 0x05 ∷ []) 5 three-five → ⊥)
+unfolding lineWords accepted holds bytesT number bit twos
+mark-needed = (
+  record { sound = (tt, ((refl, refl), ((refl, refl), tt))); sound-going = tt; in-front = no-word; as-sent = refl; legal = refl },
+  refl,
+  omega arith,
+  λ h. let e = only no-mark-answers h in let z : _≡_ {A = ℕ} 0 1 = cc in omega arith,
+)
+
+-- A silence behind the stretch is needed: in U, after a silence, 87 85 00 85 00 loses its first byte. The report behind it ends at word 9 and is
+-- dropped; the one that is handed out in front of it has the middle button down, and nobody pressed it.
+pub no-silence-answers : Answered FiveByte (257 ∷ 0x85 ∷ 0x00 ∷ 0x85 ∷ 0x00 ∷ 0x87 ∷ 0x01 ∷ 0x02 ∷ 0x03 ∷ 0x04 ∷ [])
+    (Nothing
+    ∷ Nothing ∷ Nothing ∷ Nothing ∷ Nothing ∷ answer.Report (record { buttons = 2; x1 = pos 0; y1 = minus 123; x2 = pos 0; y2 = minus 121 })
+    ∷ Dropped 1 ∷ Dropped 1 ∷ Dropped 1 ∷ Dropped 1 ∷ [])
+unfolding stepsOf stepOf good known placed wordOf byteOf keep start stray lose breakOf silenceOf dropping entered namedBy sizeBy markedBy fitsBy fitsAt fitsFirst fitsLater like reportBy readU untwos number bits bit
+no-silence-answers = computed FiveByte _ _ refl
+
+pub silence-needed : Replaced FiveByte (silent ∷ finished FiveByte fast ∷ finished FiveByte slow ∷ []) nothing
+    [] (257 ∷ []) (0x87 ∷ []) [] (0x85 ∷ 0x00 ∷ 0x85 ∷ 0x00 ∷ 0x87 ∷ 0x01 ∷ 0x02 ∷ 0x03 ∷ 0x04 ∷ [])
+    × EndsAt FiveByte (silent ∷ finished FiveByte fast ∷ []) [] (0x87 ∷ []) [] 9
+    × Within (silent ∷ finished FiveByte fast ∷ []) (257 ∷ []) (0x87 ∷ [])
+    × Unbroken (finished FiveByte fast ∷ [])
+    × (HandsOutAt FiveByte (257 ∷ 0x85 ∷ 0x00 ∷ 0x85 ∷ 0x00 ∷ 0x87 ∷ 0x01 ∷ 0x02 ∷ 0x03 ∷ 0x04 ∷ []) 9 slow → ⊥)
+unfolding lineWords accepted holds bytesU number bit twos
+silence-needed = (
+  record { sound = (tt, ((refl, refl), ((refl, refl), tt))); sound-going = tt; in-front = no-word; as-sent = refl; legal = refl },
+  refl,
+  omega arith,
+  tt,
+  λ h. let e = only no-silence-answers h in let z : _≡_ {A = ℕ} 0 1 = cc in omega arith,
+)
+
+-- That no report is broken off between is needed: in T, behind the stretch, come a silence, 00 broken off, and 04 03 05, which ends at word 6 and is
+-- dropped
+pub broken-answers : Answered ThreeByte (0x09 ∷ 257 ∷ 0x00 ∷ 256 ∷ 0x04 ∷ 0x03 ∷ 0x05 ∷ [])
+    (Dropped 1 ∷ Nothing ∷ Nothing ∷ Dropped 1 ∷ Dropped 1 ∷ Dropped 1 ∷ Dropped 1 ∷ [])
+unfolding stepsOf stepOf good known placed wordOf byteOf keep start stray lose breakOf silenceOf dropping entered namedBy sizeBy markedBy fitsBy fitsAt fitsFirst fitsLater like reportBy readT untwos number bits bit
+broken-answers = computed ThreeByte _ _ refl
+
+pub unbroken-needed : Replaced ThreeByte (silent ∷ broken 1 ThreeByte one-two ∷ finished ThreeByte three-five ∷ []) nothing
+    [] [] [] (0x09 ∷ []) (257 ∷ 0x00 ∷ 256 ∷ 0x04 ∷ 0x03 ∷ 0x05 ∷ [])
+    × EndsAt ThreeByte (silent ∷ broken 1 ThreeByte one-two ∷ []) [] [] (0x09 ∷ []) 6
+    × Within [] [] []
+    × (HandsOutAt ThreeByte (0x09 ∷ 257 ∷ 0x00 ∷ 256 ∷ 0x04 ∷ 0x03 ∷ 0x05 ∷ []) 6 three-five → ⊥)
+unfolding lineWords accepted holds bytesT number bit twos
+unbroken-needed = (
+  record { sound = (tt, ((refl, refl, omega arith), ((refl, refl), tt))); sound-going = tt; in-front = no-word; as-sent = refl; legal = refl },
+  refl,
+  omega arith,
+  λ h. let e = only broken-answers h in let z : _≡_ {A = ℕ} 0 1 = cc in omega arith,
+)
+
+-- That a byte is removed is needed: where none is, the report itself is handed out too
+pub none-removed-answers : Answered Mm (0x90 ∷ 0x05 ∷ 0x03 ∷ []) (Nothing ∷ Nothing ∷ answer.Report moved ∷ [])
+unfolding stepsOf stepOf good known placed wordOf byteOf keep start stray lose breakOf silenceOf dropping entered namedBy sizeBy markedBy fitsBy fitsAt fitsFirst fitsLater like reportBy readS signed number bits bit
+none-removed-answers = computed Mm _ _ refl
+
+pub removal-needed : Sound Mm (finished Mm moved ∷ []) × Sub (0x90 ∷ 0x05 ∷ 0x03 ∷ []) (bytesOf Mm moved) × (HandsOut Mm (0x90 ∷ 0x05 ∷ 0x03 ∷ []) [] → ⊥)
+unfolding lineWords accepted holds bytesS number bit
+removal-needed = (
+  ((refl, refl), tt),
+  stays (stays (stays none)),
+  λ h. let e = ap handedOut (sym (none-removed-answers a steps refl w)) ∙ h .by-steps a steps refl w in let z : _≡_ {A = ℕ} 0 1 = cc in omega arith,
+)
+  where
+    a : NewReader
+    a = freshOf (letterOf Mm)
+
+    steps : List Read
+    steps = stepsOf (a .reader) (0x90 ∷ 0x05 ∷ 0x03 ∷ [])
+
+    w : StepsPromise (a .reader) (0x90 ∷ 0x05 ∷ 0x03 ∷ []) steps
+    w = permitted (a .reader) (0x90 ∷ 0x05 ∷ 0x03 ∷ [])
