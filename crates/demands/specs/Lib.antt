@@ -4,4 +4,5 @@ pub mod Figures
 pub mod Demand1
 pub mod Demand2
 pub mod Demand3
+pub mod Worked
 pub mod Strength

@@ -1,19 +1,42 @@
 -- "Four useless programs have to be caught": what meets the promises is none of them.
-use Prim.Native.Nat.{ℕ}
-use mathlib.Core.Path.{_≡_, sym, _∙_, ap}
+use Prim.Native.Nat.{ℕ, zero, suc, _+_, _-_, _*_, _≤_, zero-le}
+use mathlib.Core.Path.{_≡_, refl, sym, _∙_, ap}
+use mathlib.Core.Bool.{Bool, true, false}
 use mathlib.Core.List.{List, [], _∷_}
 use native.Mathlib.Omega.{arith}
-use lib.Dec.{lit≤}
-use lib.IntN.{pos}
-use Rattle.wire.specs.Line.{letterOf}
+use borrow.Author.Tests.{leb-true, leb-false}
+use lib.ListN.{take, getD, List·getD-eq-default}
+use lib.Dec.{leb, lit≤}
+use lib.IntN.{ℤ, pos}
+use Rattle.wire.specs.Line.{letterOf, silence, sizeBy}
 use Rattle.wire.specs.Reading.{report}
 use Rattle.wire.specs.Numbers.{success}
 use Rattle.wire.specs.Encoder.{refusalOf}
 use Rattle.wire.specs.Promises.{EncodePromise}
 use Rattle.wire.specs.declared.Report.{Report}
 use Rattle.wire.specs.declared.Encoded.{Encoded}
-use Rattle.wire.specs.declared.Format.the-variants.{Microsoft}
+use Rattle.wire.specs.declared.Format.the-variants.{Mm, Microsoft}
+use Rattle.reader.specs.Good as readers
+use Rattle.reader.specs.Line.{Long}
+use Rattle.reader.specs.Counts.{bytesIn}
+use Rattle.reader.specs.Promises as reader
+use Rattle.reader.specs.Runs.{StepsPromise, answers}
+use Rattle.reader.specs.declared.Reader.{Reader}
+use Rattle.reader.specs.declared.NewReader.{NewReader}
+use Rattle.reader.specs.declared.Read.{Read}
+use Rattle.reader.specs.declared.Reading.{Reading}
+use Rattle.reader.specs.declared.Answer.the-variants as answer
+use Rattle.reader.proofs.Refusals.{bad-state, bad-word, takes-line-words}
+use Rattle.reader.proofs.Useless.{skipping-the-rest}
+use Rattle.ballbox.specs.Promises as box
+use Rattle.ballbox.specs.declared.BallBox.{BallBox}
+use Rattle.ballbox.specs.declared.Event.{Event}
+use Rattle.ballbox.specs.declared.Event.the-variants.{Slot}
+use Rattle.ballbox.specs.declared.Stepped.{Stepped}
+use Rattle.ballbox.proofs.Useless.{not-only-silence}
 use Rattle.demands.specs.Figures.{p4, p5}
+use Rattle.demands.specs.Demand2.{line-counts}
+use Rattle.demands.specs.Worked.{marked-S}
 
 -- what an encoder does: the answer, and the buffer after it
 pub record Encoder : Type 0 where
@@ -44,3 +67,58 @@ no-fixed-encoder e keeps fixed =
     first : List ℕ → ℕ
     first [] = 0
     first (n ∷ ns) = n
+
+-- what a reader does, word by word
+pub record ReaderProgram : Type 0 where
+  pub fresh : ℕ → NewReader
+  pub step : Reader → ℕ → Read
+
+pub record KeepsReading (p : ReaderProgram) : Type 0 where
+  pub fresh : (letter : ℕ) → reader.FreshPromise letter (p .fresh letter)
+  pub step : (r : Reader) (w : ℕ) → reader.StepPromise r w (p .step r w)
+
+stepsBy : ReaderProgram → Reader → List ℕ → List Read
+stepsBy p r [] = []
+stepsBy p r (w ∷ words) = p .step r w ∷ stepsBy p (p .step r w .next) words
+
+steps-kept : (p : ReaderProgram) → KeepsReading p → (r : Reader) (words : List ℕ) → StepsPromise r words (stepsBy p r words)
+unfolding stepsBy StepsPromise
+steps-kept p k r [] = tt
+steps-kept p k r (w ∷ words) = (k .step r w, steps-kept p k (p .step r w .next) words)
+
+-- a refusal answers nothing
+refused-nothing : (r : Reader) (w : ℕ) (s : Read) → reader.StepPromise r w s → (s .refusal ≡ success → ⊥) → s .answer ≡ answer.Nothing
+refused-nothing r w s p n = go (readers.good r) refl (leb w silence) refl
+  where
+    go : (t : Bool) → readers.good r ≡ t → (u : Bool) → leb w silence ≡ u → s .answer ≡ answer.Nothing
+    go false g u e = ap (λ (x : Read). x .answer) (bad-state r w s g p)
+    go true g true e = absurd (n (takes-line-words r w s g (leb-true w silence e) p))
+    go true g false e = ap (λ (x : Read). x .answer) (bad-word r w s g (leb-false w silence e) p)
+
+all-nothing : (p : ReaderProgram) → KeepsReading p → ((r : Reader) (w : ℕ) → p .step r w .refusal ≡ success → ⊥) → (r : Reader) (words : List ℕ) (i : ℕ) → getD (answers (stepsBy p r words)) i answer.Nothing ≡ answer.Nothing
+unfolding stepsBy
+all-nothing p k n r [] i = List·getD-eq-default [] answer.Nothing (zero-le {n = i})
+all-nothing p k n r (w ∷ words) zero = refused-nothing r w (p .step r w) (k .step r w) (n r w)
+all-nothing p k n r (w ∷ words) (suc i) = all-nothing p k n (p .step r w .next) words i
+
+-- "a reader that refuses everything (3 shuts it out, over 2's reports)": of the words of a box, with a stretch replaced, it would hand out nothing
+pub no-refusing-reader : (p : ReaderProgram) → KeepsReading p → ((r : Reader) (w : ℕ) → p .step r w .refusal ≡ success → ⊥) → ⊥
+no-refusing-reader p k n =
+    let a = p .fresh (letterOf Mm) in
+    let words : List ℕ = 0x90 ∷ 0x9A ∷ 0x7F ∷ 0xFF ∷ 0x9C ∷ 0x00 ∷ 0x00 ∷ [] in
+    let handed = marked-S .by-steps a (stepsBy p (a .reader) words) (k .fresh (letterOf Mm)) (steps-kept p k (a .reader) words) in
+    let nothing = all-nothing p k n (a .reader) words 6 in
+    let z : _≡_ {A = ℕ} 0 1 = cc in
+    omega arith
+
+-- "a box that sends only silence (2, Slot)"
+pub no-silent-box : (step : BallBox → Event → Stepped) → ((b : BallBox) (e : Event) → box.StepPromise b e (step b e)) → ((b : BallBox) → box.wordsOf (step b Slot .sent) ≡ silence ∷ []) → ⊥
+no-silent-box = not-only-silence
+
+-- "a long read that reads its first report and skips the rest (2, since every word's answer is fixed)"
+pub no-skipping-read : (read : Reader → List ℕ → List ℤ → Long) → ((r : Reader) (words : List ℕ) (out : List ℤ) → reader.ReadPromise r words out (read r words out .reading) (read r words out .out)) → ((r : Reader) (words : List ℕ) (out : List ℤ) → read r words out .reading .reports ≤ 1) → ⊥
+no-skipping-read = skipping-the-rest
+
+-- "A made-up dropped count is caught by 2": it is what is left of the bytes
+pub no-made-up-count : (r : Reader) (words : List ℕ) (out : List ℤ) (a : Reading) (after : List ℤ) → reader.ReadPromise r words out a after → a .dropped ≡ bytesIn (take (a .taken) words) + r .count - (sizeBy (r .format) * a .reports + a .next .count)
+no-made-up-count r words out a after p = let e = line-counts r words out a after p in omega arith
