@@ -1,0 +1,10 @@
+-- Laws of the listing.
+pub mod Answers
+pub mod Cases
+pub mod Digits
+pub mod Grown
+pub mod Letters
+pub mod Parse
+pub mod Feeds
+pub mod Few
+pub mod Five
