@@ -1,6 +1,6 @@
 -- Which case of a rule holds, and the text that goes with it.
 use Prim.Native.Nat.{ℕ, _+_, _<_, _≤_}
-use mathlib.Core.Path.{_≡_, refl, sym, _∙_, ap}
+use mathlib.Core.Path.{_≡_, sym, _∙_, ap}
 use mathlib.Core.Bool.{true, false}
 use mathlib.Core.List.{List, [], _∷_, _++_, append-nil}
 use borrow.Author.Tests.{eq-eqb, ne-eqb, le-leb, lt-leb}
@@ -10,7 +10,7 @@ use Rattle.wire.specs.declared.Report.{Report}
 use Rattle.reader.specs.declared.Answer.{Answer}
 use Rattle.reader.specs.declared.Answer.the-variants as answer
 use Rattle.listing.specs.Lines.{width}
-use Rattle.listing.specs.Items.{Item, H, E, Over, answerItems}
+use Rattle.listing.specs.Items.{Item, H, Over, answerItems}
 use Rattle.listing.specs.Bytes.{lineD, lineR, bytesOf, allBytes}
 use Rattle.listing.specs.Machine.{Saying, saying, wrong, endedAt, obeyed, takenOf, endOf}
 use Rattle.listing.specs.Texts.{said}

@@ -1,6 +1,5 @@
 -- No text of the lister is longer than forty bytes.
 use Prim.Native.Nat.{ℕ, _+_, _≤_}
-use mathlib.Core.Path.{_≡_, _∙_}
 use mathlib.Core.Bool.{Bool, true, false, cond}
 use mathlib.Core.List.{List, [], _∷_, _++_}
 use native.Mathlib.Omega.{arith}
@@ -11,11 +10,11 @@ use Rattle.wire.specs.declared.Report.{Report}
 use Rattle.reader.specs.Promises.{stepOf}
 use Rattle.reader.specs.declared.Answer.{Answer}
 use Rattle.reader.specs.declared.Answer.the-variants as answer
-use Rattle.text.specs.Decimals.{digitsOf, numberOf, signedOf}
+use Rattle.text.specs.Decimals.{digitsOf, numberOf}
 use Rattle.text.proofs.Laws.{digits-long, number-long, signed-long}
 use Rattle.listing.specs.Lines.{width, newline, tab, saidBy}
-use Rattle.listing.specs.Items.{Item, H, E, Over, answerItems}
-use Rattle.listing.specs.Bytes.{buttonsOf, sumOf, lineD, lineR, lineH, lineE, lineOver, allBytes, opening}
+use Rattle.listing.specs.Items.{E, answerItems}
+use Rattle.listing.specs.Bytes.{buttonsOf, sumOf, lineD, lineR, lineH, lineE, lineOver, allBytes}
 use Rattle.listing.specs.Machine.{Saying, Turning, atFirst, formatted, worded, obeyed, takenOf, endOf, unfinished, unopened, frontOf, byteOf, closedOf, lastOf}
 use Rattle.listing.specs.declared.Line.{Line}
 use Rattle.listing.specs.declared.Line.the-variants as line

@@ -1,6 +1,6 @@
 -- What a call of the reader tells: whether a letter is in the table, whether a reader is good, and what it answers.
 use Prim.Native.Nat.{ℕ}
-use mathlib.Core.Path.{_≡_, refl, sym, _∙_, ap, subst}
+use mathlib.Core.Path.{_≡_, refl, sym, _∙_, ap}
 use mathlib.Core.Bool.{Bool, true, false, cond}
 use mathlib.Core.List.{List, [], _∷_}
 use lib.Dec.{eqb}
@@ -10,17 +10,15 @@ use Rattle.wire.specs.Numbers.{success, badLetter, badState}
 use Rattle.wire.specs.Line.{letterOf}
 use Rattle.wire.specs.declared.Report.{Report}
 use Rattle.wire.specs.declared.Format.the-variants.{FiveByte}
-use Rattle.reader.specs.State.{fresh, fiveOf, numbersOf}
+use Rattle.reader.specs.State.{fresh, numbersOf}
 use Rattle.reader.specs.Good.{known, good}
-use Rattle.reader.specs.Rules.{refusing, answered, dropping, silenceOf, wordOf}
+use Rattle.reader.specs.Rules.{refusing, silenceOf, wordOf}
 use Rattle.reader.specs.Promises.{newReader, freshOf, stepOf, Step, StepPromise}
 use Rattle.reader.specs.declared.Reader.{Reader}
-use Rattle.reader.specs.declared.NewReader.{NewReader}
 use Rattle.reader.specs.declared.Read.{Read}
 use Rattle.reader.specs.declared.Answer.{Answer}
 use Rattle.reader.specs.declared.Answer.the-variants as answer
 use Rattle.listing.specs.Lines.{formatIn}
-use Rattle.listing.specs.declared.Line.{Line}
 use Rattle.listing.specs.declared.Line.the-variants as line
 
 -- a fresh reader is refused for a letter that is not in the table

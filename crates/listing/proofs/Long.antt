@@ -8,7 +8,6 @@ use lib.Dec.{leb, eqb}
 use borrow.Author.Tests.{eqb-false, lt-leb, not-true}
 use Rattle.numbers.proofs.Tested.{left, right}
 use Rattle.listing.specs.Lines.{isDigit, allDigits, valueOf, byteIn, formatIn, saidBy}
-use Rattle.listing.specs.declared.Line.{Line}
 use Rattle.listing.specs.declared.Line.the-variants as line
 use Rattle.listing.proofs.Digits.{low}
 

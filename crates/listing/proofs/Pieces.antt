@@ -1,5 +1,5 @@
 -- Feeding pieces one after the other, whatever the cuts, and then finishing gives the listing of the whole.
-use Prim.Native.Nat.{ℕ, _+_, _-_, _*_, _≤_}
+use Prim.Native.Nat.{ℕ, _-_, _*_, _≤_}
 use mathlib.Core.Path.{_≡_, refl, sym, _∙_, ap}
 use mathlib.Core.Bool.{Bool, true, false}
 use mathlib.Core.List.{List, [], _∷_, _++_, append-assoc}
@@ -9,7 +9,7 @@ use lib.Dec.{ltb}
 use lib.ListN.{length, drop}
 use borrow.Author.Tests.{le-ltb}
 use Rattle.listing.specs.Listing.{listingOf}
-use Rattle.listing.specs.Machine.{fresh, byteOf, lastOf, feedIn, finishIn, stopped}
+use Rattle.listing.specs.Machine.{fresh, byteOf, lastOf, feedIn, finishIn}
 use Rattle.listing.specs.Promises.{enough}
 use Rattle.listing.specs.declared.Lister.{Lister}
 use Rattle.listing.proofs.Few.{few-byte, few-last}

@@ -1,16 +1,16 @@
 -- From lines to recordings: the lines, one after the other, give the items of the recording that they are.
-use Prim.Native.Nat.{ℕ, zero, suc, _+_, _<_, _≤_}
-use mathlib.Core.Path.{_≡_, refl, sym, _∙_, ap}
-use mathlib.Core.Bool.{Bool, true, false, cond}
+use Prim.Native.Nat.{ℕ, _+_, _≤_}
+use mathlib.Core.Path.{_≡_, refl, ap}
+use mathlib.Core.Bool.{Bool, true, false}
 use mathlib.Core.List.{List, [], _∷_, _++_}
 use native.Mathlib.Omega.{arith}
 use lib.Dec.{leb, eqb}
 use borrow.Author.Tests.{ne-eqb, leb-true, leb-false}
 use Rattle.reader.specs.Promises.{freshOf, stepOf}
 use Rattle.reader.specs.declared.Reader.{Reader}
-use Rattle.listing.specs.Lines.{mostLines, saidBy, Words, ends, Whole, BadLine, TooMany, numbered, wordsAfter, Recording, Missing, Of, opened, recordingOf}
-use Rattle.listing.specs.Items.{Item, H, E, Over, answerItems, lastItems, wordItems, itemsOf}
-use Rattle.listing.specs.Machine.{Saying, saying, wrong, endedAt, formatted, worded, obeyed, takenOf, endOf, fresh}
+use Rattle.listing.specs.Lines.{mostLines, saidBy, numbered, wordsAfter, opened, recordingOf}
+use Rattle.listing.specs.Items.{Item, answerItems, wordItems, itemsOf}
+use Rattle.listing.specs.Machine.{Saying, endedAt, formatted, worded, obeyed, takenOf, endOf, fresh}
 use Rattle.listing.specs.declared.Line.{Line}
 use Rattle.listing.specs.declared.Line.the-variants as line
 use Rattle.listing.specs.declared.Place.{Place}

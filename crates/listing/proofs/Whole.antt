@@ -1,5 +1,5 @@
 -- From bytes to lines: what the lister writes of an input is the listing of the input.
-use Prim.Native.Nat.{ℕ, zero, suc, _+_, _-_, _<_, _≤_}
+use Prim.Native.Nat.{ℕ, zero, suc, _+_, _<_}
 use mathlib.Core.Path.{_≡_, refl, sym, _∙_, ap}
 use mathlib.Core.Bool.{Bool, true, false, cond, not, _&&_}
 use mathlib.Core.List.{List, [], _∷_, _++_, append-assoc, append-nil}
@@ -9,12 +9,12 @@ use lib.Dec.{leb, ltb, eqb}
 use lib.ListN.{length, take, set, length-set}
 use lib.Seq.{take-suc-set, take-all}
 use borrow.Author.Tests.{eqb-true, eqb-false, ltb-true, ltb-false, ne-eqb}
-use Rattle.text.specs.Decimals.{numberOf}
-use Rattle.listing.specs.Lines.{width, mostLines, newline, front, linesIn, saidBy, recordingOf}
-use Rattle.listing.specs.Items.{Item, itemsOf}
+use Rattle.reader.proofs.Choices.{either}
+use Rattle.listing.specs.Lines.{width, mostLines, newline, front, linesIn, saidBy}
+use Rattle.listing.specs.Items.{Item}
 use Rattle.listing.specs.Bytes.{allBytes, opening}
 use Rattle.listing.specs.Listing.{listingOf}
-use Rattle.listing.specs.Machine.{Saying, saying, endedAt, atFirst, formatted, worded, obeyed, takenOf, endOf, atLine, fresh, unfinished, unopened, frontOf, byteOf, closedOf, lastOf}
+use Rattle.listing.specs.Machine.{Saying, endedAt, atFirst, formatted, worded, obeyed, takenOf, atLine, fresh, unfinished, frontOf, byteOf, closedOf, lastOf}
 use Rattle.listing.specs.declared.Line.{Line}
 use Rattle.listing.specs.declared.Line.the-variants as line
 use Rattle.listing.specs.declared.Place.{Place}
@@ -45,16 +45,12 @@ ahead-more : (p : List ℕ) (c : ℕ) (ls : List (List ℕ)) → ahead (p ++ (c 
 ahead-more [] c ls = refl
 ahead-more (d ∷ p) c ls = ap (front d) (ahead-more p c ls)
 
-on-cond : {A : Type 0} (P : A → Type 0) (t : Bool) (x y : A) → (t ≡ true → P x) → (t ≡ false → P y) → P (cond t x y)
-on-cond P true x y f g = f refl
-on-cond P false x y f g = g refl
-
 -- a bad line is the end
 pub bad-ends : (p : Place) → takenOf p line.Bad .next .ended ≡ true
 unfolding takenOf
 bad-ends p =
     let P : Saying → Type 0 = λ s. s .next .ended ≡ true in
-    on-cond P (p .ended) _ _ (λ e. e) (λ _. on-cond P (leb mostLines (p .line)) _ _ (λ _. refl) (λ _. refl))
+    either P (p .ended) _ _ (λ e. e) (λ _. either P (leb mostLines (p .line)) _ _ (λ _. refl) (λ _. refl))
 
 -- after a byte the opening has been written
 abbrev Opened : Lister → Type 0
@@ -85,15 +81,15 @@ taken-opened : (p : Place) (l : Line) → Opened (atLine (takenOf p l .next))
 unfolding takenOf formatted worded
 taken-opened p l =
     let P : Saying → Type 0 = λ s. Opened (atLine (s .next)) in
-    on-cond P (p .ended) _ _ (λ e. ended-opened (atLine p) e)
-    (λ _. on-cond P (leb mostLines (p .line)) _ _ (λ _. ended-opened (atLine (endedAt p)) refl) (λ _. go l))
+    either P (p .ended) _ _ (λ e. ended-opened (atLine p) e)
+    (λ _. either P (leb mostLines (p .line)) _ _ (λ _. ended-opened (atLine (endedAt p)) refl) (λ _. go l))
   where
     go : (l : Line) → Opened (atLine (obeyed p (p .line + 1) l .next))
     go line.Bad = ended-opened (atLine (endedAt p)) refl
     go (line.Format f) =
-        on-cond (λ (s : Saying). Opened (atLine (s .next))) (atFirst p) _ _ (λ _. line-opened _ (λ e. omega arith)) (λ _. ended-opened (atLine (endedAt p)) refl)
+        either (λ (s : Saying). Opened (atLine (s .next))) (atFirst p) _ _ (λ _. line-opened _ (λ e. omega arith)) (λ _. ended-opened (atLine (endedAt p)) refl)
     go (line.Word w) =
-        on-cond (λ (s : Saying). Opened (atLine (s .next))) (atFirst p) _ _ (λ _. ended-opened (atLine (endedAt p)) refl) (λ _. line-opened _ (λ e. omega arith))
+        either (λ (s : Saying). Opened (atLine (s .next))) (atFirst p) _ _ (λ _. ended-opened (atLine (endedAt p)) refl) (λ _. line-opened _ (λ e. omega arith))
 
 -- a line whose first five bytes are followed by more
 long : (p : Place) (l : List ℕ) (c : ℕ) (ls : List (List ℕ)) → length l ≡ 5 → linesFrom p (ahead l (front c ls)) ≡ takenOf p line.Bad .items

@@ -6,7 +6,7 @@ use Rattle.reader.specs.Promises.{freshOf, stepOf}
 use Rattle.reader.specs.declared.Reader.{Reader}
 use Rattle.reader.specs.declared.Answer.{Answer}
 use Rattle.reader.specs.declared.Answer.the-variants as answer
-use Rattle.listing.specs.Lines.{Numbered, Ending, Whole, BadLine, TooMany, Words, Recording, Missing, Of}
+use Rattle.listing.specs.Lines.{Numbered, Ending, Whole, BadLine, TooMany, Recording, Missing, Of}
 
 -- "`D`, line of the word so answered, bytes dropped (when not 0); `R`, line of the last byte, buttons [..], x and y, both pairs summed; at the end
 -- `H` and bytes kept. A bad line gives `E` and its number [..]; line 10,000 gives `E` and `over`." An R has the letter of its format.

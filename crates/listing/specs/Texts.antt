@@ -1,6 +1,4 @@
 -- What the private functions give: places and listers with their text.
-use Prim.Native.Nat.{ℕ}
-use mathlib.Core.List.{List}
 use Rattle.text.specs.Growth.{grownBy, textOf}
 use Rattle.text.specs.declared.Text.{Text}
 use Rattle.listing.specs.Lines.{width}

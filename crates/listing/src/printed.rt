@@ -103,10 +103,14 @@ fn sum(front: Text, a: i16, b: i16) -> Text
 fn report(front: Text, n: u32, letter: u8, p: Report) -> Text
     ensures { λ r. ⌜ r ≡ grownBy front (lineR width n letter p) ⌝ }
 {
+    let x1 = p.x1;
+    let y1 = p.y1;
+    let x2 = p.x2;
+    let y2 = p.y2;
     let numbered = front.with(b'R').with(b'\t').digits(WIDTH, n).with(b'\t');
     let held = buttons(numbered, letter, p.buttons).with(b'\t');
-    let east = sum(held, p.x1, p.x2).with(b'\t');
-    sum(east, p.y1, p.y2).with(b'\n')
+    let east = sum(held, x1, x2).with(b'\t');
+    sum(east, y1, y2).with(b'\n')
 }
 
 // The answer to the word of line n.

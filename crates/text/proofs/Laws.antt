@@ -1,12 +1,12 @@
 -- Texts that grow.
 use mathlib.Core.Path.{_≡_, refl, sym, _∙_, ap}
-use mathlib.Core.List.{List, [], _∷_, _++_, append-assoc, append-nil}
-use mathlib.Core.Bool.{Bool, true, false, cond, _&&_}
+use mathlib.Core.List.{List, [], _∷_, _++_, append-nil}
+use mathlib.Core.Bool.{Bool, true, false, cond}
 use Prim.Native.Nat.{ℕ, zero, suc, _+_, _-_, _/_, _<_, _≤_}
 use native.Mathlib.Omega.{arith}
 use native.Mathlib.Numerals.{add-one}
 use native.Mathlib.Nat.{not-suc-le-zero}
-use lib.Dec.{T, ltb, leb}
+use lib.Dec.{T, ltb}
 use lib.IntN.{ℤ, pos, negsuc, _-ℤ_, natAbs}
 use lib.Signed.{ltZ}
 use lib.ListN.{length, length-append, length-set, set}
@@ -15,7 +15,7 @@ use mathlib.Core.Path.{subst}
 use borrow.Author.Tests.{ltb-true, lt-ltb, le-ltb, le-leb, lt-leb}
 use mir.Syntax.{w32}
 use mir.Val.{SFits}
-use Rattle.text.specs.Growth.{capacity, shown, none, grown, grownBy, textOf, fitsAt, putOf}
+use Rattle.text.specs.Growth.{shown, none, grown, grownBy, textOf, fitsAt, putOf}
 use Rattle.text.specs.Decimals.{digitOf, digitsOf, numberOf, magnitudeOf, signedOf}
 use Rattle.text.specs.Promises.{PutPromise}
 use Rattle.text.specs.declared.Text.{Text}

@@ -3,7 +3,7 @@ use Prim.Native.Nat.{ℕ, _+_}
 use mathlib.Core.Bool.{Bool, cond, _&&_}
 use mathlib.Core.List.{List, [], _∷_, _++_}
 use lib.ListN.{length, take, drop, set, replicate}
-use lib.Dec.{ltb, leb}
+use lib.Dec.{leb}
 use Rattle.text.specs.declared.Text.{Text}
 
 -- the most bytes of a text

@@ -1,18 +1,14 @@
 -- The bytes of a piece: what is done, and what the rest gives.
-use borrow.Author.Needs.{needs}
 use mathlib.Core.Path.{_≡_, refl, sym, _∙_, ap}
 use borrow.Author.Tests.{not-true, not-false}
-use mathlib.Core.Bool.{true, false}
-use mathlib.Core.List.{List, _++_}
-use Prim.Native.Nat.{ℕ, _+_, _-_, _<_, _≤_}
+use mathlib.Core.Bool.{true}
+use Prim.Native.Nat.{_+_, _-_, _<_, _≤_}
 use native.Mathlib.Omega.{arith}
-use lib.ListN.{length, take, drop, getD}
+use lib.ListN.{length, drop, getD}
 use Rattle.text.specs.Growth.{textOf, fitsAt}
-use Rattle.text.specs.declared.Text.{Text}
 use Rattle.listing.specs.Machine.{byteOf, feedIn}
 use Rattle.listing.specs.Promises.{whole}
 use Rattle.listing.specs.declared.Turn.{Turn}
-use Rattle.listing.specs.declared.Lister.{Lister}
 use Rattle.listing.specs.declared.Listed.{Listed}
 use Rattle.listing.proofs.Few.{few-byte}
 use Rattle.listing.proofs.Feeds.{size, put-room, put-wrote, put-none, put-short, standing, starts, ends, ends-all, stops, kept, long, again, drop-more}

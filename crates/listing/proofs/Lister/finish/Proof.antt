@@ -1,11 +1,7 @@
 -- 6 for a lister that is not good; then the end, if it has room.
 use borrow.Author.Needs.{needs}
-use mathlib.Core.Path.{_≡_, sym, _∙_, ap}
+use mathlib.Core.Path.{sym, _∙_, ap}
 use borrow.Author.Tests.{not-true, not-false}
-use mathlib.Core.Bool.{true, false}
-use Rattle.text.specs.Growth.{textOf, fitsAt}
-use Rattle.text.specs.declared.Text.{Text}
-use Rattle.listing.specs.Machine.{lastOf}
 use Rattle.listing.specs.declared.Turn.{Turn}
 use Rattle.listing.specs.declared.Lister.{Lister}
 use Rattle.listing.proofs.Few.{few-last}

@@ -1,6 +1,5 @@
 -- A lister whose reader waits for a format.
 use borrow.Author.Needs.{needs}
-use mathlib.Core.Path.{ap}
 use Rattle.wire.specs.Line.{namedBy, markedBy}
 use Rattle.reader.specs.Good.{known}
 use Rattle.reader.specs.Promises.{freshOf}

@@ -1,10 +1,5 @@
 -- The lines, the bytes, and the reader by its answer to a silence.
 use borrow.Author.Needs.{needs}
-use mathlib.Core.Path.{_≡_, _∙_, ap}
-use Prim.Native.Nat.{ℕ}
-use mathlib.Core.Bool.{_&&_}
-use lib.Dec.{eqb}
-use Rattle.reader.specs.Promises.{stepOf}
 use Rattle.listing.specs.Machine.{good}
 use Rattle.listing.proofs.Letters.{step-refusal, silence-good}
 use Rattle.listing.proofs.Lister.good.Statement.{statement}

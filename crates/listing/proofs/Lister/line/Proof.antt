@@ -1,6 +1,5 @@
 -- The line taken behind the front.
 use borrow.Author.Needs.{needs}
-use mathlib.Core.Path.{_∙_, ap}
 use Rattle.listing.proofs.Grown.{apart}
 use Rattle.listing.proofs.Lister.line.Statement.{statement}
 use Rattle.listing.proofs.Lister.line.Tie as tie

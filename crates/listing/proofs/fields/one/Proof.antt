@@ -1,7 +1,7 @@
 -- Decimals of one digit.
 use borrow.Author.Needs.{needs}
 use native.Mathlib.Omega.{arith}
-use mathlib.Core.Path.{_≡_, sym, _∙_}
+use mathlib.Core.Path.{sym, _∙_}
 use mathlib.Core.List.{[], _∷_}
 use Prim.Native.Nat.{_-_}
 use Rattle.listing.proofs.Digits.{low, high, good, bad, one-test}

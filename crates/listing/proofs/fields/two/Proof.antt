@@ -1,7 +1,6 @@
 -- Decimals of two digits.
 use borrow.Author.Needs.{needs}
 use native.Mathlib.Omega.{arith}
-use mathlib.Core.Path.{_≡_, sym, _∙_}
 use mathlib.Core.List.{[], _∷_}
 use Prim.Native.Nat.{_-_, _*_, _+_}
 use Rattle.listing.proofs.Digits.{low, high, good, two-no, two-yes, two-c, two-d}

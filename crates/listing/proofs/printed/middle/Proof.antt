@@ -1,6 +1,5 @@
 -- The middle button, by the letter.
 use borrow.Author.Needs.{needs}
-use mathlib.Core.Path.{_∙_}
 use borrow.Author.Tests.{eq-eqb, ne-eqb}
 use Rattle.numbers.specs.Bits.{bit}
 use Rattle.listing.proofs.printed.middle.Statement.{statement}

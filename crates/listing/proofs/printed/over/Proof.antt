@@ -1,7 +1,6 @@
 -- The line of a line too many, byte by byte.
 use borrow.Author.Needs.{needs}
 use Rattle.listing.specs.Bytes.{lineOver}
-use Rattle.listing.proofs.Grown.{apart}
 use Rattle.listing.proofs.printed.over.Statement.{statement}
 use Rattle.listing.proofs.printed.over.Tie as tie
 
@@ -28,7 +27,7 @@ with-requires-7 c κs = search needs
 
 returns : tie.Need-returns
 unfolding lineOver
-returns c = simp (apart, c .with7 .ensures, c .before .with6 .ensures, c .before .before .with5 .ensures, c .before .before .before .with4 .ensures, c .before .before .before .before .with3 .ensures, c .before .before .before .before .before .with2 .ensures, c .before .before .before .before .before .before .with .ensures)
+returns c = simp (c .with7 .ensures, c .before .with6 .ensures, c .before .before .with5 .ensures, c .before .before .before .with4 .ensures, c .before .before .before .before .with3 .ensures, c .before .before .before .before .before .with2 .ensures, c .before .before .before .before .before .before .with .ensures)
 
 pub over-spec : {M : Type 1} → statement M
 over-spec =

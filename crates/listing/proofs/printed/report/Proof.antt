@@ -53,7 +53,7 @@ with-requires-6 c κs = search needs
 returns : tie.Need-returns
 unfolding lineR
 returns c = let s = c .before .before .before .before .before .before .before .before .before .before .before .before .before .before in
-    simp (apart, x1-is s, x2-is s, y1-is s, y2-is s, c .with6 .ensures, c .before .sum2 .ensures, c .before .before .before .before .with5 .ensures, c .before .before .before .before .before .sum .ensures, c .before .before .before .before .before .before .before .before .with4 .ensures, c .before .before .before .before .before .before .before .before .before .buttons .ensures, c .before .before .before .before .before .before .before .before .before .before .with3 .ensures, c .before .before .before .before .before .before .before .before .before .before .before .digits .ensures, c .before .before .before .before .before .before .before .before .before .before .before .before .with2 .ensures, c .before .before .before .before .before .before .before .before .before .before .before .before .before .with .ensures)
+    simp (apart, x1-is s, x2-is s, y1-is s, y2-is s, c .with6 .ensures, c .before .sum2 .ensures, c .before .before .with5 .ensures, c .before .before .before .sum .ensures, c .before .before .before .before .with4 .ensures, c .before .before .before .before .before .buttons .ensures, c .before .before .before .before .before .before .with3 .ensures, c .before .before .before .before .before .before .before .digits .ensures, c .before .before .before .before .before .before .before .before .with2 .ensures, c .before .before .before .before .before .before .before .before .before .with .ensures)
 
 pub report-spec : {M : Type 1} → statement M
 report-spec =

@@ -1,7 +1,7 @@
 -- `put`: whether there is room.
 use borrow.Author.Needs.{needs}
 use native.Mathlib.Omega.{arith}
-use mathlib.Core.Path.{_≡_, _∙_}
+use mathlib.Core.Path.{_∙_}
 use Rattle.text.proofs.Laws.{too-long, no-room, put-is}
 use Rattle.text.proofs.Text.put.Statement.{statement}
 use Rattle.text.proofs.Text.put.Tie as tie

@@ -1,11 +1,8 @@
 -- `signed`: by the sign.
 use borrow.Author.Needs.{needs}
-use mathlib.Core.Path.{_≡_, sym, _∙_, ap}
-use mathlib.Core.List.{List}
-use Prim.Native.Nat.{ℕ}
+use mathlib.Core.Path.{_≡_, _∙_}
 use mir.Syntax.{w32}
 use mir.Val.{toZ, ofZ}
-use Rattle.text.specs.Growth.{grownBy}
 use Rattle.text.proofs.Laws.{minus, plus}
 use Rattle.text.proofs.Text.signed.Statement.{statement}
 use Rattle.text.proofs.Text.signed.Tie as tie
