@@ -1,0 +1,25 @@
+-- A text behind another, part by part.
+use Prim.Native.Nat.{ℕ, _/_, _%_}
+use native.Mathlib.Omega.{arith}
+use mathlib.Core.Path.{_≡_, refl, sym}
+use mathlib.Core.List.{List, [], _∷_, _++_, append-assoc}
+use lib.Dec.{eqb}
+use Rattle.numbers.specs.Bits.{bit}
+use Rattle.text.specs.Growth.{grownBy}
+use Rattle.text.specs.declared.Text.{Text}
+use Rattle.listing.specs.Items.{Item}
+use Rattle.listing.specs.Bytes.{bytesOf, allBytes}
+use Rattle.text.proofs.Laws.{both}
+
+pub apart : (t : Text) (a b : List ℕ) → grownBy t (a ++ b) ≡ grownBy (grownBy t a) b
+apart t a b = sym (both t a b)
+
+-- the lines of items behind those of others
+pub all-apart : (w : ℕ) (a b : List Item) → allBytes w (a ++ b) ≡ allBytes w a ++ allBytes w b
+all-apart w [] b = refl
+all-apart w (i ∷ a) b = rw (all-apart w a b) (sym (append-assoc (bytesOf w i) (allBytes w a) (allBytes w b)))
+
+-- the lowest bit
+pub low-bit : (n : ℕ) → bit 0 n ≡ eqb (n % 2) 1
+unfolding bit
+low-bit n = let e : n / 1 ≡ n = omega arith in rw e

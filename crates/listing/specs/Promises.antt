@@ -1,0 +1,44 @@
+-- What is promised of `Lister::fresh`, `Lister::feed` and `Lister::finish`: for every argument one answer, and every byte of the slice.
+use Prim.Native.Nat.{ℕ}
+use mathlib.Core.Path.{_≡_}
+use mathlib.Core.Bool.{cond}
+use mathlib.Core.List.{List, _++_}
+use lib.ListN.{length, drop}
+use Rattle.wire.specs.Numbers.{success, badState}
+use Rattle.listing.specs.Machine.{fresh, Feed, stopped, feedIn, finishIn, good}
+use Rattle.listing.specs.declared.Lister.{Lister}
+use Rattle.listing.specs.declared.Listed.{Listed}
+
+-- the free places with which a call takes a byte or finishes
+abbrev pub enough : ℕ
+enough = 40
+
+-- what a call gives back, and every byte of the lent slice after it
+pub record Whole : Type 0 where
+  pub listed : Listed
+  pub out : List ℕ
+
+abbrev pub whole : Listed → List ℕ → Whole
+whole listed out = record { listed = listed; out = out }
+
+-- the text at the front of the slice, and nothing behind it
+abbrev pub written : ℕ → Feed → List ℕ → Whole
+written n f out =
+    whole (record { refusal = n; next = f .next; taken = f .taken; written = length (f .text); ended = f .next .place .ended })
+    (f .text ++ drop (length (f .text)) out)
+
+-- "a state that breaks the rules below", 6: "A refusal returns the old state [..] and counts of 0"
+unfoldable pub feedOf : Lister → List ℕ → List ℕ → Whole
+feedOf m input out = cond (good m) (written success (feedIn m input (length out)) out) (written badState (stopped m) out)
+
+unfoldable pub finishOf : Lister → List ℕ → Whole
+finishOf m out = cond (good m) (written success (finishIn m (length out)) out) (written badState (stopped m) out)
+
+abbrev pub FreshPromise : Lister → Type 0
+FreshPromise answer = answer ≡ fresh
+
+abbrev pub FeedPromise : Lister → List ℕ → List ℕ → Listed → List ℕ → Type 0
+FeedPromise m input before answer after = whole answer after ≡ feedOf m input before
+
+abbrev pub FinishPromise : Lister → List ℕ → Listed → List ℕ → Type 0
+FinishPromise m before answer after = whole answer after ≡ finishOf m before

@@ -1,0 +1,27 @@
+-- Two answers that meet a promise are equal.
+use Prim.Native.Nat.{ℕ}
+use mathlib.Core.Path.{_≡_, sym, _∙_}
+use mathlib.Core.Bool.{Bool}
+use mathlib.Core.List.{List}
+use lib.IntN.{ℤ}
+use Rattle.text.specs.Promises.{NonePromise, WithPromise, DigitsPromise, NumberPromise, SignedPromise, PutPromise}
+use Rattle.text.specs.declared.Text.{Text}
+
+pub one-none : {a b : Text} → NonePromise a → NonePromise b → a ≡ b
+one-none p q = p ∙ sym q
+
+pub one-with : (t : Text) (byte : ℕ) {a b : Text} → WithPromise t byte a → WithPromise t byte b → a ≡ b
+one-with t byte p q = p ∙ sym q
+
+pub one-digits : (t : Text) (places n : ℕ) {a b : Text} → DigitsPromise t places n a → DigitsPromise t places n b → a ≡ b
+one-digits t places n p q = p ∙ sym q
+
+pub one-number : (t : Text) (places n : ℕ) {a b : Text} → NumberPromise t places n a → NumberPromise t places n b → a ≡ b
+one-number t places n p q = p ∙ sym q
+
+pub one-signed : (t : Text) (places : ℕ) (x : ℤ) {a b : Text} → SignedPromise t places x a → SignedPromise t places x b → a ≡ b
+one-signed t places x p q = p ∙ sym q
+
+pub one-put : (t : Text) (at : ℕ) (before : List ℕ) {a b : Bool} {left right : List ℕ} → PutPromise t at before a left → PutPromise t at before b right
+    → (a ≡ b) × (left ≡ right)
+one-put t at before p q = (p .0 ∙ sym (q .0), p .1 ∙ sym (q .1))

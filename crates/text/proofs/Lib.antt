@@ -1,0 +1,3 @@
+-- Laws of texts, and one answer for every argument.
+pub mod Laws
+pub mod Answers
