@@ -1,6 +1,7 @@
--- Laws of the listing: its text is that of the definitions (Recordings, Whole), whatever the cuts (Pieces); listers stay good (Keeps) and end
+-- Laws of the listing: its text is that of the definitions (Recordings, Whole), whatever the cuts (Pieces, Calls); listers stay good (Keeps) and end
 -- (Ended); two permitted answers are equal (Answers); and what the functions' proofs share.
 pub mod Answers
+pub mod Calls
 pub mod Cases
 pub mod Digits
 pub mod Grown
