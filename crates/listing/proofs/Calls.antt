@@ -5,9 +5,6 @@ use mathlib.Core.Bool.{true}
 use mathlib.Core.List.{List, [], _∷_, _++_, append-assoc}
 use lib.ListN.{length, take, drop}
 use lib.Seq.{take-at}
-use Rattle.reader.specs.Good as reader
-use Rattle.reader.specs.Promises.{freshOf, stepOf}
-use Rattle.reader.specs.declared.Reader.{Reader}
 use Rattle.listing.specs.Listing.{listingOf}
 use Rattle.listing.specs.Machine.{Feed, fresh, lastOf, feedIn, finishIn, good}
 use Rattle.listing.specs.Promises.{enough, Whole, whole, written, feedOf, finishOf, FeedPromise, FinishPromise}
@@ -64,36 +61,34 @@ good-finish : (m : Lister) (before after : List ℕ) (a : Listed) → good m ≡
 unfolding finishOf
 good-finish m before after a g p = rw g at p
 
-module _ (fresh-good : (letter : ℕ) → reader.good (freshOf letter .reader) ≡ true) (step-good : (r : Reader) (w : ℕ) → reader.good r ≡ true → reader.good (stepOf r w .next) ≡ true) where
-  next-good : (m : Lister) (k : Fed) → good m ≡ true → FeedPromise m (k .piece) (k .before) (k .answer) (k .after) → good (k .answer .next) ≡ true
-  next-good m k g p =
-      let f = feedIn m (k .piece) (length (k .before)) in
-      ap good (call-next f (k .before) (k .after) (k .answer) (good-feed m (k .piece) (k .before) (k .after) (k .answer) g p)) ∙ feed-stays-good fresh-good step-good (k .piece) m (length (k .before)) g
+next-good : (m : Lister) (k : Fed) → good m ≡ true → FeedPromise m (k .piece) (k .before) (k .answer) (k .after) → good (k .answer .next) ≡ true
+next-good m k g p =
+    let f = feedIn m (k .piece) (length (k .before)) in
+    ap good (call-next f (k .before) (k .after) (k .answer) (good-feed m (k .piece) (k .before) (k .after) (k .answer) g p)) ∙ feed-stays-good (k .piece) m (length (k .before)) g
 
-  runs-good : (ks : List Fed) (m : Lister) → good m ≡ true → Permitted m ks → good (lastLister m ks) ≡ true
-  runs-good [] m g h = g
-  runs-good (k ∷ ks) m g h = runs-good ks (k .answer .next) (next-good m k g (h .0)) (h .2)
+runs-good : (ks : List Fed) (m : Lister) → good m ≡ true → Permitted m ks → good (lastLister m ks) ≡ true
+runs-good [] m g h = g
+runs-good (k ∷ ks) m g h = runs-good ks (k .answer .next) (next-good m k g (h .0)) (h .2)
 
-  runs : (ks : List Fed) (m : Lister) → good m ≡ true → Permitted m ks → texts ks ++ lastOf (lastLister m ks) .text ≡ allOf m (pieces ks)
-  unfolding allOf
-  runs [] m g h = refl
-  runs (k ∷ ks) m g h =
-      let f = feedIn m (k .piece) (length (k .before)) in
-      let w = good-feed m (k .piece) (k .before) (k .after) (k .answer) g (h .0) in
-      let later = runs ks (k .answer .next) (next-good m k g (h .0)) (h .2) in
-      let same = call-next f (k .before) (k .after) (k .answer) w in
-      append-assoc (take (k .answer .written) (k .after)) (texts ks) (lastOf (lastLister (k .answer .next) ks) .text)
-      ∙ ap (λ (l : List ℕ). take (k .answer .written) (k .after) ++ l) later
-      ∙ ap (λ (l : List ℕ). l ++ allOf (k .answer .next) (pieces ks)) (call-text f (k .before) (k .after) (k .answer) w)
-      ∙ ap (λ (n : Lister). f .text ++ allOf n (pieces ks)) same
-      ∙ sym (fed-all (k .piece) (pieces ks) m (length (k .before)) (sym (call-taken f (k .before) (k .after) (k .answer) w) ∙ h .1))
+runs : (ks : List Fed) (m : Lister) → good m ≡ true → Permitted m ks → texts ks ++ lastOf (lastLister m ks) .text ≡ allOf m (pieces ks)
+unfolding allOf
+runs [] m g h = refl
+runs (k ∷ ks) m g h =
+    let f = feedIn m (k .piece) (length (k .before)) in
+    let w = good-feed m (k .piece) (k .before) (k .after) (k .answer) g (h .0) in
+    let later = runs ks (k .answer .next) (next-good m k g (h .0)) (h .2) in
+    let same = call-next f (k .before) (k .after) (k .answer) w in
+    append-assoc (take (k .answer .written) (k .after)) (texts ks) (lastOf (lastLister (k .answer .next) ks) .text)
+    ∙ ap (λ (l : List ℕ). take (k .answer .written) (k .after) ++ l) later
+    ∙ ap (λ (l : List ℕ). l ++ allOf (k .answer .next) (pieces ks)) (call-text f (k .before) (k .after) (k .answer) w)
+    ∙ ap (λ (n : Lister). f .text ++ allOf n (pieces ks)) same
+    ∙ sym (fed-all (k .piece) (pieces ks) m (length (k .before)) (sym (call-taken f (k .before) (k .after) (k .answer) w) ∙ h .1))
 
-  -- IN CALLS: pieces fed to a fresh lister, each taken whole, and an end with room
-  pub in-calls : (ks : List Fed) (before after : List ℕ) (a : Listed) → Permitted fresh ks → enough ≤ length before → FinishPromise (lastLister fresh ks) before a after
-      → texts ks ++ take (a .written) after ≡ listingOf (pieces ks)
-  in-calls ks before after a h room p =
-      let g = fresh-is-good fresh-good step-good in
-      let m = lastLister fresh ks in
-      let e = good-finish m before after a (runs-good ks fresh g h) p in
-      ap (λ (l : List ℕ). texts ks ++ l) (call-text (finishIn m (length before)) before after a e ∙ ap (λ (f : Feed). f .text) (finished m (length before) room))
-      ∙ runs ks fresh g h ∙ all-at-once (pieces ks)
+-- IN CALLS: pieces fed to a fresh lister, each taken whole, and an end with room
+pub in-calls : (ks : List Fed) (before after : List ℕ) (a : Listed) → Permitted fresh ks → enough ≤ length before → FinishPromise (lastLister fresh ks) before a after
+    → texts ks ++ take (a .written) after ≡ listingOf (pieces ks)
+in-calls ks before after a h room p =
+    let m = lastLister fresh ks in
+    let e = good-finish m before after a (runs-good ks fresh fresh-is-good h) p in
+    ap (λ (l : List ℕ). texts ks ++ l) (call-text (finishIn m (length before)) before after a e ∙ ap (λ (f : Feed). f .text) (finished m (length before) room))
+    ∙ runs ks fresh fresh-is-good h ∙ all-at-once (pieces ks)
