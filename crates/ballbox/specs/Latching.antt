@@ -42,7 +42,7 @@ taken letter t = pair (limited letter (movement letter t .x)) (limited letter (m
 unfoldable pub cleared : Track → Track
 cleared t = record { counter = zeros; position = t .position; last = t .position }
 
--- the report that is latched, in U with its second pair zero
+-- the report that is latched; in U its second pair is zero: "bytes 4 and 5 are held as 0 until then"
 unfoldable pub latchedReport : BallBox → Report
 latchedReport b =
     report (b .settings .buttons) (taken (b .settings .format) (b .track) .x) (taken (b .settings .format) (b .track) .y)

@@ -50,8 +50,8 @@ pub struct BallBox {
     pub dormant: bool,
 }
 
-// What happens to the box: counts of the ball, the buttons as 4L+2M+R, a byte of the host's, time for one character, and the end of the
-// report interval.
+// "Events: Motion(dx, dy), 16-bit signed; Buttons(n); Host(byte); Slot (time for one character); Period (the report interval is over)."
+// Buttons are 4L+2M+R.
 pub enum Event {
     Motion(i16, i16),
     Buttons(u8),
