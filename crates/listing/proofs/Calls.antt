@@ -1,43 +1,23 @@
--- The same of calls: whatever answers the promises permit, the bytes written are the listing of all the pieces together.
-use Prim.Native.Nat.{ℕ, _≤_}
+-- A lister's calls, whatever answers the promises permit: the bytes written are the listing of the bytes taken.
+use Prim.Native.Nat.{ℕ, _+_, _*_, _≤_, _<_}
 use mathlib.Core.Path.{_≡_, refl, sym, _∙_, ap}
-use mathlib.Core.Bool.{true}
-use mathlib.Core.List.{List, [], _∷_, _++_, append-assoc}
-use lib.ListN.{length, take, drop}
+use mathlib.Core.Bool.{Bool, true, false, true≢false}
+use mathlib.Core.Logic.{_⊎_, inl, inr, ⊎-elim}
+use mathlib.Core.List.{List, [], _∷_, _++_, append-assoc, append-nil}
+use native.Mathlib.Omega.{arith}
+use lib.Dec.{ltb}
+use lib.ListN.{length, getD, take, drop, length-append, length-take}
 use lib.Seq.{take-at}
 use Rattle.listing.specs.Listing.{listingOf}
-use Rattle.listing.specs.Machine.{Feed, fresh, lastOf, feedIn, finishIn, good}
+use Rattle.listing.specs.Machine.{Feed, stopped, fresh, byteOf, lastOf, feedIn, finishIn, good, passed, mostBytes}
 use Rattle.listing.specs.Promises.{enough, Whole, whole, written, feedOf, finishOf, FeedPromise, FinishPromise}
+use Rattle.listing.specs.Calls.{Call, Permitted, listerAfter, takenBy, writtenBy}
 use Rattle.listing.specs.declared.Lister.{Lister}
 use Rattle.listing.specs.declared.Listed.{Listed}
 use Rattle.listing.proofs.Whole.{allOf, all-at-once}
-use Rattle.listing.proofs.Pieces.{fed-all, finished}
-use Rattle.listing.proofs.Keeps.{fresh-is-good, feed-stays-good}
-
--- a call that took its piece whole: the piece, the slice before and after, and the answer
-pub record Fed : Type 0 where
-  pub piece : List ℕ
-  pub before : List ℕ
-  pub answer : Listed
-  pub after : List ℕ
-
-abbrev pub Permitted : Lister → List Fed → Type 0
-Permitted m [] = Unit {0}
-Permitted m (k ∷ ks) =
-    FeedPromise m (k .piece) (k .before) (k .answer) (k .after) × (k .answer .taken ≡ length (k .piece)) × Permitted (k .answer .next) ks
-
--- the lister after them, what they wrote, and the input
-abbrev pub lastLister : Lister → List Fed → Lister
-lastLister m [] = m
-lastLister m (k ∷ ks) = lastLister (k .answer .next) ks
-
-abbrev pub texts : List Fed → List ℕ
-texts [] = []
-texts (k ∷ ks) = take (k .answer .written) (k .after) ++ texts ks
-
-abbrev pub pieces : List Fed → List ℕ
-pieces [] = []
-pieces (k ∷ ks) = k .piece ++ pieces ks
+use Rattle.listing.proofs.Pieces as pieces
+use Rattle.listing.proofs.Ended.{Within, piece-on, never-passed, stays-ended, quiet, end-ends}
+use Rattle.listing.proofs.Keeps.{kept, five, fresh-is-good, feed-stays-good, finish-stays-good}
 
 -- what a call of a good lister wrote
 module _ (f : Feed) (before after : List ℕ) (a : Listed) (p : whole a after ≡ written 0 f before) where
@@ -51,44 +31,143 @@ module _ (f : Feed) (before after : List ℕ) (a : Listed) (p : whole a after �
   call-taken : a .taken ≡ f .taken
   call-taken = ap (λ (w : Whole). w .listed .taken) p
 
-good-feed : (m : Lister) (input before after : List ℕ) (a : Listed) → good m ≡ true → FeedPromise m input before a after
-    → whole a after ≡ written 0 (feedIn m input (length before)) before
-unfolding feedOf
-good-feed m input before after a g p = rw g at p
+  call-written : a .written ≡ length (f .text)
+  call-written = ap (λ (w : Whole). w .listed .written) p
 
-good-finish : (m : Lister) (before after : List ℕ) (a : Listed) → good m ≡ true → FinishPromise m before a after
-    → whole a after ≡ written 0 (finishIn m (length before)) before
-unfolding finishOf
-good-finish m before after a g p = rw g at p
+  call-ended : a .ended ≡ f .next .place .ended
+  call-ended = ap (λ (w : Whole). w .listed .ended) p
 
-next-good : (m : Lister) (k : Fed) → good m ≡ true → FeedPromise m (k .piece) (k .before) (k .answer) (k .after) → good (k .answer .next) ≡ true
-next-good m k g p =
+  call-after : after ≡ f .text ++ drop (length (f .text)) before
+  call-after = ap (λ (w : Whole). w .out) p
+
+pub good-within : (m : Lister) → good m ≡ true → Within m
+good-within m g = (kept m g .few, five m g)
+
+-- a good lister and a piece of the input
+module _ (m : Lister) (input before after : List ℕ) (a : Listed) (g : good m ≡ true) (p : FeedPromise m input before a after) where
+  abbrev f : Feed
+  f = feedIn m input (length before)
+
+  pub feeds : whole a after ≡ written 0 f before
+  unfolding feedOf
+  feeds = rw g at p
+
+  pub next-good : good (a .next) ≡ true
+  next-good = ap good (call-next f before after a feeds) ∙ feed-stays-good input m (length before) g
+
+  -- with so many places for each byte it is taken whole
+  pub takes-all : enough * length input ≤ length before → a .taken ≡ length input
+  takes-all room = call-taken f before after a feeds ∙ pieces.all-taken input m (length before) room
+
+  -- where it is not, the next byte's text has no room behind what was written
+  pub takes-what-it-can : a .taken < length input → length before < a .written + length (byteOf (a .next) (getD input (a .taken) 0) .text)
+  takes-what-it-can h =
+      rw (call-next f before after a feeds, call-written f before after a feeds, call-taken f before after a feeds)
+      (pieces.takes-what-it-can input m (length before) (omega (arith, call-taken f before after a feeds)))
+
+  -- it tells whether it has ended
+  pub tells-ended : a .ended ≡ a .next .place .ended
+  tells-ended = call-ended f before after a feeds ∙ sym (ap (λ (m : Lister). m .place .ended) (call-next f before after a feeds))
+
+  -- it has ended, or is as many bytes nearer to its end
+  pub goes-on : (a .next .place .ended ≡ true) ⊎ (passed m + a .taken ≤ passed (a .next))
+  goes-on =
+      ⊎-elim (λ e. inl (ap (λ (m : Lister). m .place .ended) (call-next f before after a feeds) ∙ e))
+      (λ k. inr (rw (call-next f before after a feeds, call-taken f before after a feeds) (k .0)))
+      (piece-on input m (length before) (good-within m g))
+
+-- with so many places a byte is taken
+pub takes-some : (m : Lister) (c : ℕ) (input before after : List ℕ) (a : Listed) → good m ≡ true → FeedPromise m (c ∷ input) before a after → enough ≤ length before
+    → 1 ≤ a .taken
+takes-some m c input before after a g p room =
+    omega (arith, call-taken (feedIn m (c ∷ input) (length before)) before after a (feeds m (c ∷ input) before after a g p), pieces.one-taken c input m (length before) room)
+
+-- a good lister and the end of the input
+module _ (m : Lister) (before after : List ℕ) (a : Listed) (g : good m ≡ true) (p : FinishPromise m before a after) where
+  finishes : whole a after ≡ written 0 (finishIn m (length before)) before
+  unfolding finishOf
+  finishes = rw g at p
+
+  -- with so many places it ends
+  pub ends-with-room : enough ≤ length before → a .ended ≡ true
+  ends-with-room room =
+      call-ended (finishIn m (length before)) before after a finishes ∙ ap (λ (f : Feed). f .next .place .ended) (pieces.finished m (length before) room) ∙ end-ends m
+
+  -- it has ended with its last lines
+  ends-with : a .ended ≡ true → take (a .written) after ≡ lastOf m .text
+  unfolding finishIn allOf
+  ends-with e = go (ltb (length before) (length (lastOf m .text))) refl
+    where
+      go : (t : Bool) → ltb (length before) (length (lastOf m .text)) ≡ t → take (a .written) after ≡ lastOf m .text
+      go true h =
+          let w = rw h at finishes in
+          call-text (stopped m) before after a w ∙ sym (quiet [] m (sym (call-ended (stopped m) before after a w) ∙ e))
+      go false h = let w = rw h at finishes in call-text (record { next = lastOf m .next; taken = 0; text = lastOf m .text }) before after a w
+
+  -- or there was no room: nothing is changed, and it can be called again
+  pub finish-again : a .ended ≡ false → (a .next ≡ m) × (a .written ≡ 0) × (after ≡ before)
+  unfolding finishIn
+  finish-again e = go (ltb (length before) (length (lastOf m .text))) refl
+    where
+      go : (t : Bool) → ltb (length before) (length (lastOf m .text)) ≡ t → (a .next ≡ m) × (a .written ≡ 0) × (after ≡ before)
+      go true h =
+          let w = rw h at finishes in
+          (call-next (stopped m) before after a w, call-written (stopped m) before after a w, call-after (stopped m) before after a w)
+      go false h =
+          let w = rw h at finishes in
+          absurd (true≢false (sym (end-ends m) ∙ sym (call-ended (record { next = lastOf m .next; taken = 0; text = lastOf m .text }) before after a w) ∙ e))
+
+after-good : (ks : List Call) (m : Lister) → good m ≡ true → Permitted m ks → good (listerAfter m ks) ≡ true
+after-good [] m g h = g
+after-good (k ∷ ks) m g h = after-good ks (k .answer .next) (next-good m (k .piece) (k .before) (k .after) (k .answer) g (h .0)) (h .1)
+
+-- what calls wrote, and what comes behind the bytes that they took
+calls : (ks : List Call) (rest : List ℕ) (m : Lister) → good m ≡ true → Permitted m ks → writtenBy ks ++ allOf (listerAfter m ks) rest ≡ allOf m (takenBy ks ++ rest)
+calls [] rest m g h = refl
+calls (k ∷ ks) rest m g h =
+    let w = feeds m (k .piece) (k .before) (k .after) (k .answer) g (h .0) in
     let f = feedIn m (k .piece) (length (k .before)) in
-    ap good (call-next f (k .before) (k .after) (k .answer) (good-feed m (k .piece) (k .before) (k .after) (k .answer) g p)) ∙ feed-stays-good (k .piece) m (length (k .before)) g
-
-runs-good : (ks : List Fed) (m : Lister) → good m ≡ true → Permitted m ks → good (lastLister m ks) ≡ true
-runs-good [] m g h = g
-runs-good (k ∷ ks) m g h = runs-good ks (k .answer .next) (next-good m k g (h .0)) (h .2)
-
-runs : (ks : List Fed) (m : Lister) → good m ≡ true → Permitted m ks → texts ks ++ lastOf (lastLister m ks) .text ≡ allOf m (pieces ks)
-unfolding allOf
-runs [] m g h = refl
-runs (k ∷ ks) m g h =
-    let f = feedIn m (k .piece) (length (k .before)) in
-    let w = good-feed m (k .piece) (k .before) (k .after) (k .answer) g (h .0) in
-    let later = runs ks (k .answer .next) (next-good m k g (h .0)) (h .2) in
-    let same = call-next f (k .before) (k .after) (k .answer) w in
-    append-assoc (take (k .answer .written) (k .after)) (texts ks) (lastOf (lastLister (k .answer .next) ks) .text)
+    let part = take (k .answer .taken) (k .piece) in
+    let later = calls ks rest (k .answer .next) (next-good m (k .piece) (k .before) (k .after) (k .answer) g (h .0)) (h .1) in
+    append-assoc (take (k .answer .written) (k .after)) (writtenBy ks) (allOf (listerAfter (k .answer .next) ks) rest)
     ∙ ap (λ (l : List ℕ). take (k .answer .written) (k .after) ++ l) later
-    ∙ ap (λ (l : List ℕ). l ++ allOf (k .answer .next) (pieces ks)) (call-text f (k .before) (k .after) (k .answer) w)
-    ∙ ap (λ (n : Lister). f .text ++ allOf n (pieces ks)) same
-    ∙ sym (fed-all (k .piece) (pieces ks) m (length (k .before)) (sym (call-taken f (k .before) (k .after) (k .answer) w) ∙ h .1))
+    ∙ rw (call-text f (k .before) (k .after) (k .answer) w, call-next f (k .before) (k .after) (k .answer) w, call-taken f (k .before) (k .after) (k .answer) w, append-assoc)
+    (sym (pieces.fed (k .piece) (takenBy ks ++ rest) m (length (k .before))))
 
--- IN CALLS: pieces fed to a fresh lister, each taken whole, and an end with room
-pub in-calls : (ks : List Fed) (before after : List ℕ) (a : Listed) → Permitted fresh ks → enough ≤ length before → FinishPromise (lastLister fresh ks) before a after
-    → texts ks ++ take (a .written) after ≡ listingOf (pieces ks)
-in-calls ks before after a h room p =
-    let m = lastLister fresh ks in
-    let e = good-finish m before after a (runs-good ks fresh fresh-is-good h) p in
-    ap (λ (l : List ℕ). texts ks ++ l) (call-text (finishIn m (length before)) before after a e ∙ ap (λ (f : Feed). f .text) (finished m (length before) room))
-    ∙ runs ks fresh fresh-is-good h ∙ all-at-once (pieces ks)
+-- IN CALLS: what a fresh lister wrote, with its end, is the listing of what it took
+pub in-calls : (ks : List Call) (before after : List ℕ) (a : Listed) → Permitted fresh ks → FinishPromise (listerAfter fresh ks) before a after → a .ended ≡ true
+    → writtenBy ks ++ take (a .written) after ≡ listingOf (takenBy ks)
+unfolding allOf
+in-calls ks before after a h p e =
+    ap (λ (l : List ℕ). writtenBy ks ++ l) (ends-with (listerAfter fresh ks) before after a (after-good ks fresh fresh-is-good h) p e)
+    ∙ calls ks [] fresh fresh-is-good h ∙ ap (allOf fresh) (append-nil (takenBy ks)) ∙ all-at-once (takenBy ks)
+
+-- NOTHING AFTER THE END: once it has ended, what it wrote is the listing, whatever the rest of the input is
+pub ended-early : (ks : List Call) (rest : List ℕ) → Permitted fresh ks → listerAfter fresh ks .place .ended ≡ true → writtenBy ks ≡ listingOf (takenBy ks ++ rest)
+ended-early ks rest h e =
+    sym (append-nil (writtenBy ks)) ∙ ap (λ (l : List ℕ). writtenBy ks ++ l) (sym (quiet rest (listerAfter fresh ks) e))
+    ∙ calls ks rest fresh fresh-is-good h ∙ all-at-once (takenBy ks ++ rest)
+
+-- once ended, it stays so
+ended-after : (ks : List Call) (m : Lister) → good m ≡ true → Permitted m ks → m .place .ended ≡ true → listerAfter m ks .place .ended ≡ true
+ended-after [] m g h e = e
+ended-after (k ∷ ks) m g h e =
+    let w = feeds m (k .piece) (k .before) (k .after) (k .answer) g (h .0) in
+    let next = call-next (feedIn m (k .piece) (length (k .before))) (k .before) (k .after) (k .answer) w in
+    ended-after ks (k .answer .next) (next-good m (k .piece) (k .before) (k .after) (k .answer) g (h .0)) (h .1)
+    (ap (λ (m : Lister). m .place .ended) next ∙ stays-ended (k .piece) m (length (k .before)) e)
+
+-- or each byte taken brought it nearer to its end
+nearer : (ks : List Call) (m : Lister) → good m ≡ true → Permitted m ks → (listerAfter m ks .place .ended ≡ true) ⊎ (passed m + length (takenBy ks) ≤ passed (listerAfter m ks))
+nearer [] m g h = inr (omega arith)
+nearer (k ∷ ks) m g h =
+    let next = next-good m (k .piece) (k .before) (k .after) (k .answer) g (h .0) in
+    let part = take (k .answer .taken) (k .piece) in
+    ⊎-elim (λ e. inl (ended-after ks (k .answer .next) next (h .1) e))
+    (λ n. ⊎-elim (λ e. inl e) (λ l. inr (omega (arith, n, l, length-append part (takenBy ks), length-take (k .answer .taken) (k .piece)))) (nearer ks (k .answer .next) next (h .1)))
+    (goes-on m (k .piece) (k .before) (k .after) (k .answer) g (h .0))
+
+-- HAS ENDED: after so many bytes every lister has ended
+pub has-ended : (ks : List Call) → Permitted fresh ks → mostBytes ≤ length (takenBy ks) → listerAfter fresh ks .place .ended ≡ true
+has-ended ks h k =
+    ⊎-elim (λ e. e) (λ n. absurd (omega (arith, never-passed (listerAfter fresh ks) (good-within (listerAfter fresh ks) (after-good ks fresh fresh-is-good h))))) (nearer ks fresh fresh-is-good h)

@@ -1,21 +1,22 @@
--- A lister ends: a sixth byte that is no newline makes its line bad at once, and after a known number of bytes it has ended.
+-- A lister ends: a sixth byte that is no newline makes its line bad at once, each byte brings it nearer to its end, and behind that it is quiet.
 use Prim.Native.Nat.{ℕ, _+_, _-_, _*_, _≤_, _<_}
 use mathlib.Core.Path.{_≡_, refl, _∙_, ap}
 use mathlib.Core.Bool.{Bool, true, false}
-use mathlib.Core.Logic.{_⊎_, inl, inr}
-use mathlib.Core.List.{List, [], _∷_}
+use mathlib.Core.Logic.{_⊎_, inl, inr, ⊎-elim}
+use mathlib.Core.List.{List, [], _∷_, _++_}
 use native.Mathlib.Omega.{arith}
 use lib.Dec.{leb, ltb, eqb}
 use lib.ListN.{length}
 use borrow.Author.Tests.{ne-eqb, ltb-true, le-ltb, leb-false}
 use Rattle.reader.proofs.Choices.{either}
-use Rattle.listing.specs.Lines.{mostLines, newline, saidBy}
-use Rattle.listing.specs.Machine.{Saying, Turning, Feed, atFirst, formatted, worded, obeyed, takenOf, atLine, fresh, unfinished, lineEnds, byteOf, feedIn}
+use Rattle.listing.specs.Lines.{width, mostLines, newline, saidBy}
+use Rattle.listing.specs.Bytes.{allBytes}
+use Rattle.listing.specs.Machine.{Saying, Turning, Feed, atFirst, formatted, worded, obeyed, takenOf, endOf, atLine, unfinished, lineEnds, byteOf, closedOf, lastOf, feedIn, passed, mostBytes}
 use Rattle.listing.specs.declared.Line.{Line}
 use Rattle.listing.specs.declared.Line.the-variants as line
 use Rattle.listing.specs.declared.Lister.{Lister}
-use Rattle.listing.proofs.Cases.{done}
-use Rattle.listing.proofs.Whole.{bad-ends}
+use Rattle.listing.proofs.Cases.{done, end-done}
+use Rattle.listing.proofs.Whole.{allOf, bad-ends, ended-opened}
 
 -- SIXTH: behind five bytes a byte that is no newline makes the line bad, and the listing ends
 pub sixth-bad : (m : Lister) (c : ℕ) → m .count ≡ 5 → (c ≡ newline → ⊥) → byteOf m c ≡ lineEnds m (takenOf (m .place) line.Bad)
@@ -40,16 +41,8 @@ stays-ended (c ∷ cs) m room h =
     either (λ (f : Feed). f .next .place .ended ≡ true) (ltb room (length (byteOf m c .text))) _ _ (λ _. h)
     (λ _. stays-ended cs (byteOf m c .next) (room - length (byteOf m c .text)) (ended-stays m c h))
 
--- how far a lister has come: six bytes for each line passed, and those of the unfinished line
-abbrev pub passed : Lister → ℕ
-passed m = 6 * m .place .line + m .count
-
--- the bytes after which every lister has ended
-abbrev pub mostBytes : ℕ
-mostBytes = 6 * (mostLines + 1)
-
 -- a byte ends the listing or brings the lister on, and it stays within the lines
-abbrev Within : Lister → Type 0
+abbrev pub Within : Lister → Type 0
 Within m = (m .place .line ≤ mostLines) × (m .count ≤ 5)
 
 abbrev On : Lister → Lister → Type 0
@@ -74,21 +67,42 @@ byte-on m c h =
     either P (eqb c newline) _ _ (λ _. line-on m (saidBy (unfinished m)) h)
     (λ _. either P (ltb (m .count) 5) _ _ (λ e. let k = ltb-true (m .count) 5 e in inr (omega arith, (h .0, omega arith))) (λ _. line-on m line.Bad h))
 
--- ENDED: all of so many bytes was taken
-ends-after : (input : List ℕ) (m : Lister) (room : ℕ) → Within m → feedIn m input room .taken ≡ length input → mostBytes ≤ passed m + length input
-    → feedIn m input room .next .place .ended ≡ true
+-- a piece ends the listing, or brings the lister on by the bytes that were taken
+pub piece-on : (input : List ℕ) (m : Lister) (room : ℕ) → Within m → let f = feedIn m input room in
+    (f .next .place .ended ≡ true) ⊎ ((passed m + f .taken ≤ passed (f .next)) × Within (f .next))
 unfolding feedIn
-ends-after [] m room h t k = absurd (omega arith)
-ends-after (c ∷ cs) m room h t k = go (ends-after cs) (ltb room (length (byteOf m c .text))) refl t (byte-on m c h)
+piece-on [] m room h = inr (omega arith, h)
+piece-on (c ∷ cs) m room h =
+    either (λ (f : Feed). (f .next .place .ended ≡ true) ⊎ ((passed m + f .taken ≤ passed (f .next)) × Within (f .next))) (ltb room (length (byteOf m c .text))) _ _
+    (λ _. inr (omega arith, h)) (λ _. go (piece-on cs (byteOf m c .next) (room - length (byteOf m c .text))) (byte-on m c h))
   where
-    go : ((m : Lister) (room : ℕ) → Within m → feedIn m cs room .taken ≡ length cs → mostBytes ≤ passed m + length cs → feedIn m cs room .next .place .ended ≡ true)
-        → (b : Bool) → ltb room (length (byteOf m c .text)) ≡ b → feedIn m (c ∷ cs) room .taken ≡ length (c ∷ cs) → On m (byteOf m c .next)
-        → feedIn m (c ∷ cs) room .next .place .ended ≡ true
-    go ih true e t o = let z = rw e at t in absurd (omega arith)
-    go ih false e t (inl q) = rw e (stays-ended cs (byteOf m c .next) (room - length (byteOf m c .text)) q)
-    go ih false e t (inr q) =
-        let z = rw e at t in
-        rw e (ih (byteOf m c .next) (room - length (byteOf m c .text)) (q .1) (omega arith) (omega arith))
+    go : (let f = feedIn (byteOf m c .next) cs (room - length (byteOf m c .text)) in
+        Within (byteOf m c .next) → (f .next .place .ended ≡ true) ⊎ ((passed (byteOf m c .next) + f .taken ≤ passed (f .next)) × Within (f .next)))
+        → On m (byteOf m c .next) → let f = feedIn (byteOf m c .next) cs (room - length (byteOf m c .text)) in
+        (f .next .place .ended ≡ true) ⊎ ((passed m + (1 + f .taken) ≤ passed (f .next)) × Within (f .next))
+    go ih (inl q) = inl (stays-ended cs (byteOf m c .next) (room - length (byteOf m c .text)) q)
+    go ih (inr q) = ⊎-elim (λ e. inl e) (λ k. inr (omega (arith, k .0, q .0), k .1)) (ih (q .1))
 
-pub has-ended : (input : List ℕ) (room : ℕ) → feedIn fresh input room .taken ≡ length input → mostBytes ≤ length input → feedIn fresh input room .next .place .ended ≡ true
-has-ended input room t k = ends-after input fresh room (omega arith, omega arith) t (omega arith)
+-- so many bytes no lister has passed
+pub never-passed : (m : Lister) → Within m → passed m < mostBytes
+never-passed m h = omega arith
+
+-- QUIET: a lister that has ended writes nothing more
+pub quiet : (input : List ℕ) (m : Lister) → m .place .ended ≡ true → allOf m input ≡ []
+unfolding allOf byteOf lastOf closedOf
+quiet [] m h = rw (ended-opened m h) (either (λ (s : Saying). allBytes width (s .items ++ endOf (s .next) .items) ≡ []) (eqb (m .count) 0) _ _ (λ _. rw (end-done (m .place) h)) (λ _. rw (done (m .place) (saidBy (unfinished m)) h, end-done (m .place) h)))
+quiet (c ∷ cs) m h = rw (none, quiet cs (byteOf m c .next) (ended-stays m c h))
+  where
+    none : byteOf m c .text ≡ []
+    none =
+        let P : Turning → Type 0 = λ t. t .text ≡ [] in
+        either P (eqb c newline) _ _ (λ _. rw (ended-opened m h, done (m .place) (saidBy (unfinished m)) h))
+        (λ _. either P (ltb (m .count) 5) _ _ (λ _. ended-opened m h) (λ _. rw (ended-opened m h, done (m .place) line.Bad h)))
+
+-- the end ends the listing
+pub end-ends : (m : Lister) → lastOf m .next .place .ended ≡ true
+unfolding lastOf endOf
+end-ends m =
+    let p = closedOf m .next in
+    let P : Saying → Type 0 = λ s. s .next .ended ≡ true in
+    either P (p .ended) _ _ (λ e. e) (λ _. either P (atFirst p) _ _ (λ _. refl) (λ _. refl))

@@ -56,7 +56,7 @@ bad-ends p =
 abbrev Opened : Lister → Type 0
 Opened m = frontOf m ≡ []
 
-ended-opened : (m : Lister) → m .place .ended ≡ true → Opened m
+pub ended-opened : (m : Lister) → m .place .ended ≡ true → Opened m
 unfolding frontOf
 ended-opened m h = rw h (go (atFirst (m .place)) (eqb (m .count) 0))
   where

@@ -1,5 +1,5 @@
 -- The lister, byte by byte.
-use Prim.Native.Nat.{ℕ, _+_, _-_}
+use Prim.Native.Nat.{ℕ, _+_, _-_, _*_}
 use mathlib.Core.Bool.{Bool, true, false, not, cond, _&&_}
 use mathlib.Core.List.{List, [], _∷_, _++_}
 use lib.ListN.{length, take, set, replicate}
@@ -144,3 +144,11 @@ finishIn m room =
 -- a good lister: no line too many, a line of five bytes at most, a good reader
 unfoldable pub good : Lister → Bool
 good m = leb (m .place .line) mostLines && leb (m .count) 5 && reader.good (m .place .reader)
+
+-- how far a lister has come: six bytes for each line passed, and those of the unfinished line
+abbrev pub passed : Lister → ℕ
+passed m = 6 * m .place .line + m .count
+
+-- the bytes after which every lister has ended
+abbrev pub mostBytes : ℕ
+mostBytes = 6 * (mostLines + 1)

@@ -1,12 +1,16 @@
 // mlist: the listing of standard input, to standard output.
+ghost use mathlib.Core.Path.{_≡_};
+ghost use mathlib.Core.Bool.{true};
+ghost use Prim.Native.Nat.{_*_, _≤_};
+ghost use lib.ListN.{length};
+ghost use Rattle.listing.specs.Machine.{good};
+ghost use Rattle.listing.specs.Promises.{enough};
+ghost use Rattle.mlist.specs.Blocks.{Leaves};
 use libc::STDIN_FILENO;
 use libc::STDOUT_FILENO;
 use listing::Lister;
 
-// A lister has ended after so many bytes: ten thousand lines of five bytes and their newlines.
-const MOST_BYTES: u32 = 60000;
-
-// What a block leaves: the lister, and whether more is to be read.
+// Where the listing stands: the lister, and whether more is to be read.
 struct Went {
     next: Lister,
     on: bool,
@@ -20,45 +24,47 @@ fn show(out: &[u8], count: usize) -> bool {
     false
 }
 
-// A block of the input. Each of its bytes has forty places, so that all of it is taken.
-fn block(lister: Lister) -> Went {
-    let mut input = [0u8; 2048];
-    let mut out = [0u8; 81920];
-    let got = libc::read(STDIN_FILENO, &mut input);
-    if got <= 0 {
+// A block of the input. With forty places for each of its bytes all of it is taken.
+fn block(lister: Lister, input: &mut [u8], out: &mut [u8]) -> Went
+    requires { ⌜ good lister ≡ true ⌝ }
+    requires { ⌜ enough * length (now input) ≤ length (now out) ⌝ }
+    ensures { λ r. ⌜ Leaves lister (now (input .exit)) (now (out .entry)) (now (out .exit)) (r .next) (r .on) ⌝ }
+{
+    let got = libc::read(STDIN_FILENO, input);
+    let n = io::count(got, input);
+    if n == 0 {
         return Went {
             next: lister,
             on: false,
         };
     }
-    let n = io::count(got, &input);
-    let listed = lister.feed(&input[..n], &mut out);
+    let listed = lister.feed(&input[..n], out);
     let next = listed.next;
-    let is_shown = show(&out, listed.written);
+    let is_shown = show(out, listed.written);
     Went {
         next: next,
         on: is_shown & !listed.ended,
     }
 }
 
-// The end of the input.
-fn last(lister: Lister) {
-    let mut out = [0u8; 40];
-    let listed = lister.finish(&mut out);
-    show(&out, listed.written);
+// The blocks, one after the other, until the input is over or the listing has ended: nothing is read after its end.
+fn blocks(input: &mut [u8], out: &mut [u8]) -> Lister
+    requires { ⌜ enough * length (now input) ≤ length (now out) ⌝ }
+{
+    let mut went = Went {
+        next: Lister::fresh(),
+        on: true,
+    };
+    while went.on {
+        went = block(went.next, input, out);
+    }
+    went.next
 }
 
 fn main() {
-    let mut lister = Lister::fresh();
-    let mut left = MOST_BYTES;
-    while left > 0 {
-        let went = block(lister);
-        let next = went.next;
-        lister = next;
-        if !went.on {
-            left = 1;
-        }
-        left -= 1;
-    }
-    last(lister);
+    let mut input = [0u8; 2048];
+    let mut out = [0u8; 81920];
+    let lister = blocks(&mut input, &mut out);
+    let listed = lister.finish(&mut out);
+    show(&out, listed.written);
 }

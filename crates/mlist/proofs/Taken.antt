@@ -1,0 +1,52 @@
+-- A block that has forty places for each byte is taken whole, and brings the lister nearer to its end.
+use Prim.Native.Nat.{ℕ, _-_, _*_, _≤_, _<_}
+use mathlib.Core.Path.{_≡_, refl, sym, _∙_, ap}
+use mathlib.Core.Bool.{Bool, true, false, not, cond, _&&_, true≢false}
+use mathlib.Core.Logic.{inl, inr, ⊎-elim}
+use mathlib.Core.List.{List}
+use native.Mathlib.Omega.{arith}
+use lib.ListN.{length, take}
+use lib.Seq.{length-take-le}
+use borrow.Author.Tests.{not-true}
+use Rattle.numbers.proofs.Tested.{right}
+use Rattle.listing.specs.Machine.{good, passed, mostBytes}
+use Rattle.listing.specs.Promises.{enough, FeedPromise}
+use Rattle.listing.specs.declared.Lister.{Lister}
+use Rattle.listing.specs.declared.Listed.{Listed}
+use Rattle.listing.proofs.Calls.{good-within, next-good, takes-all, tells-ended, goes-on}
+use Rattle.listing.proofs.Ended.{never-passed}
+use Rattle.mlist.specs.Blocks.{Fed, Leaves}
+
+module _ (m : Lister) (n : ℕ) (input before after : List ℕ) (a : Listed) (g : good m ≡ true) (p : FeedPromise m (take n input) before a after) where
+  pub taken : 1 ≤ n → n ≤ length input → enough * length input ≤ length before → (shown : Bool) → Leaves m input before after (a .next) (shown && not (a .ended))
+  taken some there room shown =
+      let long = length-take-le n input there in
+      inr (record {
+        count = n;
+        some = some;
+        there = there;
+        answer = a;
+        feeds = p;
+        whole = takes-all m (take n input) before after a g p (omega (arith, long)) ∙ long;
+        same = refl;
+        going = λ e. not-true (a .ended) (right shown (not (a .ended)) e);
+      })
+
+module _ (m : Lister) (input before after : List ℕ) (next : Lister) (on : Bool) (g : good m ≡ true) where
+  pub stays-good : Leaves m input before after next on → good next ≡ true
+  stays-good (inl h) = ap good (h .0) ∙ g
+  stays-good (inr h) = ap good (sym (h .same)) ∙ next-good m (take (h .count) input) before after (h .answer) g (h .feeds)
+
+  -- by which the loop falls
+  pub falls : Leaves m input before after next on → cond on (mostBytes - passed next) 0 < mostBytes - passed m
+  falls h = go on refl h
+    where
+      go : (t : Bool) → on ≡ t → Leaves m input before after next t → cond t (mostBytes - passed next) 0 < mostBytes - passed m
+      go false e h = omega (arith, never-passed m (good-within m g))
+      go true e (inl h) = absurd (true≢false (h .1))
+      go true e (inr h) =
+          let piece = take (h .count) input in
+          let not-ended : h .answer .next .place .ended ≡ false = sym (tells-ended m piece before after (h .answer) g (h .feeds)) ∙ h .going refl in
+          rw (sym (h .same))
+          (⊎-elim (λ q. absurd (true≢false (sym q ∙ not-ended))) (λ n. omega (arith, n, h .some, h .whole, never-passed m (good-within m g)))
+          (goes-on m piece before after (h .answer) g (h .feeds)))
