@@ -45,11 +45,13 @@ finish-written m room =
     either (λ (f : Feed). length (f .text) ≤ room) (ltb room (length (lastOf m .text))) _ _ (λ _. omega arith) (λ e. ltb-false _ _ e)
 
 -- what a call answers
-pub fed : (m : Lister) (input before after : List ℕ) (a : Listed) → FeedPromise m input before a after → (a .taken ≤ length input) × (a .written ≤ length before)
+pub fed : (m : Lister) (input before after : List ℕ) (a : Listed) → FeedPromise m input before a after
+    → (a .taken ≤ length input) × (a .written ≤ length before)
 unfolding feedOf
 fed m input before after a p =
     let P : Whole → Type 0 = λ w. (w .listed .taken ≤ length input) × (w .listed .written ≤ length before) in
-    subst P (sym p) (either P (good m) _ _ (λ _. (feed-taken input m (length before), feed-written input m (length before))) (λ _. (omega arith, omega arith)))
+    subst P (sym p)
+    (either P (good m) _ _ (λ _. (feed-taken input m (length before), feed-written input m (length before))) (λ _. (omega arith, omega arith)))
 
 pub finished : (m : Lister) (before after : List ℕ) (a : Listed) → FinishPromise m before a after → a .written ≤ length before
 unfolding finishOf

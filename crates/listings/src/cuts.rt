@@ -74,7 +74,7 @@ fn gives(listing: &[u8], recording: &[u8], cut: usize, places: usize) -> bool {
     false
 }
 
-// Whether every cut gives this listing.
+// Says so where every cut gives this listing.
 fn compare(listing: &[u8], recording: &[u8]) {
     let whole = recording.len();
     let same = gives(listing, recording, 1, MANY)

@@ -14,13 +14,15 @@ least-requires-2 : tie.Need-least-requires-2
 least-requires-2 c κs = search needs
 
 slice-aggregate-feed : tie.Need-slice-aggregate-feed
-slice-aggregate-feed c = sym (length-take-le (c .before .before .least .result) (c .before .before .before .before .before .args .input .now) (search needs))
+slice-aggregate-feed c =
+    sym (length-take-le (c .before .before .least .result) (c .before .before .before .before .before .args .input .now) (search needs))
 
 slice-relend-prefix-feed : tie.Need-slice-relend-prefix-feed
 slice-relend-prefix-feed c = search needs
 
 slice-aggregate-feed-2 : tie.Need-slice-aggregate-feed-2
-slice-aggregate-feed-2 c = sym (length-take-le (c .before .before .least2 .result) (c .before .before .before .before .before .before .args .out .now) (search needs))
+slice-aggregate-feed-2 c =
+    sym (length-take-le (c .before .before .least2 .result) (c .before .before .before .before .before .before .args .out .now) (search needs))
 
 feed-requires : tie.Need-feed-requires
 feed-requires c κs = search needs

@@ -9,7 +9,8 @@ use Rattle.listings.proofs.cuts.list.Statement.{statement}
 use Rattle.listings.proofs.cuts.list.Tie as tie
 
 abbrev Inv-loop : tie.InvT-loop
-Inv-loop recording cut out₀ places lister₀ taken₀ written₀ out lister taken written = (length out ≡ length out₀) × (taken ≤ length recording) × (written ≤ length out)
+Inv-loop recording cut out₀ places lister₀ taken₀ written₀ out lister taken written =
+    (length out ≡ length out₀) × (taken ≤ length recording) × (written ≤ length out)
 
 abbrev μ-loop : tie.MeasureT-loop
 μ-loop recording cut out₀ places lister₀ taken₀ written₀ out lister taken written = length recording - taken
