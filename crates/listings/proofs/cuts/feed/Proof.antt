@@ -1,0 +1,52 @@
+-- No more is handed than there is, and no more is taken or written than is handed.
+use borrow.Author.Needs.{needs}
+use mathlib.Core.Path.{sym}
+use native.Mathlib.Omega.{arith}
+use lib.Seq.{length-take-le}
+use Rattle.listings.proofs.Within.{fed}
+use Rattle.listings.proofs.cuts.feed.Statement.{statement}
+use Rattle.listings.proofs.cuts.feed.Tie as tie
+
+least-requires : tie.Need-least-requires
+least-requires c κs = search needs
+
+least-requires-2 : tie.Need-least-requires-2
+least-requires-2 c κs = search needs
+
+slice-aggregate-feed : tie.Need-slice-aggregate-feed
+slice-aggregate-feed c =
+    sym (length-take-le (c .before .before .least .result) (c .before .before .before .before .before .args .input .now) (search needs))
+
+slice-relend-prefix-feed : tie.Need-slice-relend-prefix-feed
+slice-relend-prefix-feed c = search needs
+
+slice-aggregate-feed-2 : tie.Need-slice-aggregate-feed-2
+slice-aggregate-feed-2 c =
+    sym (length-take-le (c .before .before .least2 .result) (c .before .before .before .before .before .before .args .out .now) (search needs))
+
+feed-requires : tie.Need-feed-requires
+feed-requires c κs = search needs
+
+same-length : tie.Need-same-length
+same-length c = search needs
+
+returns : tie.Need-returns
+returns c =
+    let a = c .before .before .before .before .before .before .before .before .before .args in
+    let w = fed _ _ _ _ _ (c .before .before .feed .ensures) in
+    let piece = length-take-le (c .before .before .before .before .before .before .least .result) (a .input .now) (search needs) in
+    let places = length-take-le (c .before .before .before .before .before .least2 .result) (a .out .now) (search needs) in
+    (omega arith, omega arith)
+
+pub feed-spec : {M : Type 1} → statement M
+feed-spec =
+    tie.close
+    (tie.spec
+    least-requires
+    least-requires-2
+    slice-aggregate-feed
+    slice-relend-prefix-feed
+    slice-aggregate-feed-2
+    feed-requires
+    same-length
+    returns)
