@@ -1,6 +1,6 @@
 -- What is latched is held to the format's limits, so the encoder accepts it.
 use Prim.Native.Nat.{ℕ, _<_, _≤_}
-use mathlib.Core.Path.{_≡_, refl}
+use mathlib.Core.Path.{_≡_, refl, ap, _∙_}
 use mathlib.Core.Bool.{Bool, true, false, cond}
 use native.Mathlib.Omega.{arith}
 use lib.Dec.{eqb}
@@ -8,14 +8,17 @@ use lib.IntN.{ℤ, pos, negsuc}
 use lib.ListN.{length, drop}
 use lib.Signed.{leZ}
 use mathlib.Core.List.{List, [], _++_}
-use borrow.Author.Tests.{leb-true, le-leb, le-ltb}
+use borrow.Author.Tests.{leb-true, le-leb}
+use Rattle.wire.proofs.Accepts.{accepts}
+use Rattle.wire.proofs.Letters.{letter-named}
+use Rattle.numbers.proofs.Choices.{both}
 use Rattle.numbers.specs.Signed.{held}
 use Rattle.numbers.proofs.Held.{held-inside}
 use Rattle.numbers.proofs.Tested.{left, right, holds as so}
 use Rattle.wire.specs.Line.{letterOf, namedBy, sizeBy, sizeOf}
-use Rattle.wire.specs.Table.{five, bytesOf, bytesS, bytesV, bytesA, bytesB, bytesU, bytesT, bytesW, rowsV, rowsA, rowsW}
-use Rattle.wire.specs.Holds.{within, xRange, yRange, secondRange, pressable, holds, accepted}
-use Rattle.wire.specs.Encoder.{encodeIn, encodeOf}
+use Rattle.wire.specs.Table.{five, bytesOf, bytesS, bytesV, bytesA, bytesB, bytesU, bytesT, bytesW, rowsV, rowsA, rowsW, bytesBy}
+use Rattle.wire.specs.Holds.{within, xRange, yRange, secondRange, accepted, acceptedBy}
+use Rattle.wire.specs.Encoder.{encodeIn, encodeOf, Encoding}
 use Rattle.wire.specs.declared.Named.the-variants.{Known}
 use Rattle.wire.proofs.Front.{size-small}
 use Rattle.wire.specs.Reading.{report}
@@ -26,10 +29,9 @@ use Rattle.wire.specs.declared.Format.the-variants.{Mm, Microsoft, Absolute, Re
 use Rattle.wire.proofs.Codec.{bytes-length}
 use Rattle.wire.proofs.Codec.Accepted.{whole, one-pair}
 use Rattle.ballbox.specs.Motion.{isA}
-use Rattle.ballbox.specs.Latching.{limits, limited, taken, movement, acceptedBy, bytesBy, latchedReport, secondOnly}
+use Rattle.ballbox.specs.Latching.{limits, limited, taken, movement, latchedReport, secondOnly}
 use Rattle.ballbox.specs.declared.Track.{Track}
 use Rattle.ballbox.specs.declared.BallBox.{BallBox}
-use Rattle.ballbox.proofs.Tests.{both}
 use Rattle.ballbox.proofs.Letters.{Lettered, known, unknown, lettered}
 
 -- a wider range holds what a narrower one holds
@@ -69,19 +71,9 @@ pair-accepted FiveByte n x y p h k = whole FiveByte (report n x y) (record { pre
 pair-accepted ThreeByte n x y p h k = whole ThreeByte (report n x y) (one-pair ThreeByte refl p (wider (limits 0x54) (xRange ThreeByte) x refl refl h) (wider (limits 0x54) (yRange ThreeByte) y refl refl k))
 pair-accepted Hexadecimal n x y p h k = whole Hexadecimal (report n x y) (one-pair Hexadecimal refl p (wider (limits 0x57) (xRange Hexadecimal) x refl refl h) (wider (limits 0x57) (yRange Hexadecimal) y refl refl k))
 
-pub named : (f : Format) → namedBy (letterOf f) ≡ Known f
-unfolding namedBy
-named Mm = refl
-named Microsoft = refl
-named Absolute = refl
-named Relative = refl
-named FiveByte = refl
-named ThreeByte = refl
-named Hexadecimal = refl
-
 by-letter : (letter n : ℕ) (x y : ℤ) → n < 8 → within (limits letter) x ≡ true → within (limits letter) y ≡ true → Lettered letter → acceptedBy letter (report n x y) ≡ true
 unfolding acceptedBy
-by-letter letter n x y p h k (known f e) = rw (e, named f) (pair-accepted f n x y p (rw e at h) (rw e at k))
+by-letter letter n x y p h k (known f e) = rw (e, letter-named f) (pair-accepted f n x y p (rw e at h) (rw e at k))
 by-letter letter n x y p h k (unknown e none) = rw e
 
 -- what is latched is accepted, whatever the letter
@@ -99,22 +91,14 @@ second-accepted t =
     whole FiveByte (secondOnly (taken (letterOf FiveByte) t))
     (record { pressed = omega arith; moved = record { x = refl; y = refl; second-x = held (m .x); second-y = held (m .y) } })
 
--- the bytes by a letter are as many as the size by it, at most five
+-- the bytes by a letter are as many as the size by it
 length-in : (letter : ℕ) (r : Report) → Lettered letter → length (bytesBy letter r) ≡ sizeBy letter
 unfolding bytesBy sizeBy
-length-in letter r (known f e) = rw (e, named f) (bytes-length f r)
+length-in letter r (known f e) = rw (e, letter-named f) (bytes-length f r)
 length-in letter r (unknown e none) = rw e
 
 pub bytes-by-length : (letter : ℕ) (r : Report) → length (bytesBy letter r) ≡ sizeBy letter
 bytes-by-length letter r = length-in letter r (lettered letter)
-
-small-in : (letter : ℕ) → Lettered letter → sizeBy letter ≤ 5
-unfolding sizeBy
-small-in letter (known f e) = rw (e, named f) (size-small f)
-small-in letter (unknown e none) = rw e (omega arith)
-
-pub size-by-small : (letter : ℕ) → sizeBy letter ≤ 5
-size-by-small letter = small-in letter (lettered letter)
 
 -- an accepted report is written to a buffer of five zeros: its bytes, and zeros behind them
 abbrev blank : List ℕ
@@ -131,13 +115,11 @@ five-bytes ThreeByte r = refl
 five-bytes Hexadecimal r = refl
 
 known-bytes : (f : Format) (r : Report) → accepted f r ≡ true → encodeIn (Known f) r blank .buffer ≡ five (bytesOf f r)
-unfolding encodeIn accepted
-known-bytes f r a =
-    rw (left (pressable r) (holds f r) a, right (pressable r) (holds f r) a, le-ltb 5 (sizeOf f) (size-small f)) (five-bytes f r)
+known-bytes f r a = ap (λ (e : Encoding). e .buffer) (accepts f r blank a (size-small f)) ∙ five-bytes f r
 
 bytes-in : (letter : ℕ) (r : Report) → Lettered letter → acceptedBy letter r ≡ true → encodeOf letter r blank .buffer ≡ five (bytesBy letter r)
 unfolding acceptedBy bytesBy encodeIn
-bytes-in letter r (known f e) a = rw (e, named f) (known-bytes f r (rw (e, named f) at a))
+bytes-in letter r (known f e) a = rw (e, letter-named f) (known-bytes f r (rw (e, letter-named f) at a))
 bytes-in letter r (unknown e none) a = rw e
 
 pub encoded-bytes : (letter : ℕ) (r : Report) → acceptedBy letter r ≡ true → encodeOf letter r blank .buffer ≡ five (bytesBy letter r)

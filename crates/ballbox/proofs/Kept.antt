@@ -1,23 +1,24 @@
 -- A fresh box is good, and a step of a good box gives a good box.
 use Prim.Native.Nat.{ℕ, _+_, _≤_, _<_}
 use mathlib.Core.Path.{_≡_, refl, sym, ap, _∙_}
-use mathlib.Core.Bool.{Bool, true, false, not, _&&_, _||_}
+use mathlib.Core.Bool.{Bool, true, false, not, _&&_, _||_, and-false}
 use mathlib.Core.List.{[], _∷_}
 use native.Mathlib.Omega.{arith}
 use lib.Dec.{leb, ltb, eqb}
 use lib.IntN.{ℤ, pos, _+ℤ_}
 use borrow.Author.Tests.{ltb-true, ltb-false, lt-ltb, eqb-true, eqb-false, le-leb, eq-eqb}
+use Rattle.numbers.proofs.Choices.{both, cases}
 use Rattle.numbers.specs.Signed.{twos}
 use Rattle.numbers.proofs.Held.{held-inside}
 use Rattle.numbers.proofs.Tested.{left, right, holds}
 use Rattle.wire.specs.Line.{letterOf, namedBy, sizeBy}
-use Rattle.wire.specs.Table.{bytesS, bytesV, rowsV, bytesA, bytesB, rowsA, bytesU, bytesT, bytesW, rowsW}
+use Rattle.wire.specs.Table.{bytesS, bytesV, rowsV, bytesA, bytesB, rowsA, bytesU, bytesT, bytesW, rowsW, bytesBy}
 use Rattle.wire.specs.Reading.{at, report}
 use Rattle.wire.specs.declared.Format.{Format}
 use Rattle.wire.specs.declared.Format.the-variants.{Mm, Microsoft, Absolute, Relative, FiveByte, ThreeByte, Hexadecimal}
 use Rattle.ballbox.specs.Box.{modeD, goingFrom, nothing, freshBox, Answer}
 use Rattle.ballbox.specs.Motion.{placedAt, placed, movedBy}
-use Rattle.ballbox.specs.Latching.{cleared, latchedReport, bytesBy, latched, withSecond, secondLatched}
+use Rattle.ballbox.specs.Latching.{cleared, latchedReport, latched, withSecond, secondLatched}
 use Rattle.ballbox.specs.Commands.{isFormat, isStream, commandOf, obeyed}
 use Rattle.ballbox.specs.Events.{onMotion, onButtons, onPeriod, bytesLeft, wanted, latching, secondNow, withByteReady, after, nextByte, sending, onSlot, dropped, onHost, woken, awake, asleep}
 use Rattle.ballbox.specs.Good.{onPad, goodSettings, goodTrack, goodGoing, good}
@@ -31,7 +32,6 @@ use Rattle.ballbox.specs.declared.Command.{Command}
 use Rattle.ballbox.specs.declared.Event.{Event}
 use Rattle.ballbox.specs.declared.Event.the-variants.{Motion, Buttons, Host, Slot, Period}
 use Rattle.ballbox.specs.declared.Stepped.{Stepped}
-use Rattle.ballbox.proofs.Tests.{both, and-false, cases}
 use Rattle.ballbox.proofs.Letters.{Lettered, known, unknown, lettered}
 use Rattle.ballbox.proofs.Steps.{GoodGoing, Good, parts, whole}
 

@@ -1,7 +1,7 @@
 -- What is latched: its range, its bytes, and that it goes out.
 use Prim.Native.Nat.{ℕ}
 use mathlib.Core.Path.{_≡_, refl, ap, _∙_}
-use mathlib.Core.Bool.{true, false}
+use mathlib.Core.Bool.{true, false, and-false}
 use mathlib.Core.List.{List, [], _∷_}
 use native.Mathlib.Omega.{arith}
 use lib.Dec.{eqb}
@@ -12,14 +12,14 @@ use lib.Signed.{ltZ, leZ}
 use Rattle.numbers.specs.Signed.{minus, held}
 use Rattle.numbers.proofs.Tested.{left, right, holds}
 use Rattle.wire.specs.Line.{letterOf, namedBy}
-use Rattle.wire.specs.Table.{five, bytesOf}
+use Rattle.wire.specs.Table.{five, bytesOf, bytesBy}
 use Rattle.wire.specs.Holds.{_to_, within}
 use Rattle.wire.specs.Reading.{at}
 use Rattle.wire.specs.declared.Range.{Range}
 use Rattle.wire.specs.declared.Format.{Format}
 use Rattle.wire.specs.declared.Format.the-variants.{Mm, Microsoft, Absolute, Relative, FiveByte, ThreeByte, Hexadecimal}
 use Rattle.ballbox.specs.Box.{Answer, goingFrom, withGoing}
-use Rattle.ballbox.specs.Latching.{limits, limited, movement, taken, latchedReport, bytesBy, latched}
+use Rattle.ballbox.specs.Latching.{limits, limited, movement, taken, latchedReport, latched}
 use Rattle.ballbox.specs.Events.{bytesLeft, wanted, secondNow, nextByte, sending, onSlot, awake}
 use Rattle.ballbox.specs.Good.{onPad, good}
 use Rattle.ballbox.specs.Promises.{wordsOf, StepPromise}
@@ -27,8 +27,8 @@ use Rattle.ballbox.specs.declared.Event.the-variants.{Slot}
 use Rattle.ballbox.specs.declared.Stepped.{Stepped}
 use Rattle.ballbox.specs.declared.Track.{Track}
 use Rattle.ballbox.specs.declared.BallBox.{BallBox}
-use Rattle.ballbox.proofs.Tests.{and-false}
-use Rattle.ballbox.proofs.Accepting.{named, limited-within}
+use Rattle.wire.proofs.Letters.{letter-named}
+use Rattle.ballbox.proofs.Accepting.{limited-within}
 use Rattle.ballbox.proofs.Steps.{parts}
 use Rattle.ballbox.proofs.Kept.{latched-left}
 use Rattle.ballbox.proofs.Slots.{latching-busy, latching-wanted, sending-byte, ready-plain}
@@ -90,7 +90,7 @@ position-taken t h =
 -- the bytes are those of the table
 pub latched-bytes : (f : Format) (b : BallBox) → b .settings .format ≡ letterOf f → bytesBy (b .settings .format) (latchedReport b) ≡ bytesOf f (latchedReport b)
 unfolding bytesBy
-latched-bytes f b e = rw (ap namedBy e ∙ named f)
+latched-bytes f b e = rw (ap namedBy e ∙ letter-named f)
 
 -- nothing of it is sent: its first byte goes out
 begins : (b : BallBox) → bytesLeft b ≡ true → b .going .sent ≡ 0 → sending b .words ≡ at 0 (b .going .bytes) ∷ []

@@ -1,11 +1,11 @@
 -- Letters: the formats that they name, and the ranges in which the host's letters stand.
 use Prim.Native.Nat.{ℕ, _+_, _-_, _<_, _≤_}
-use mathlib.Core.Path.{_≡_, refl, subst}
+use mathlib.Core.Path.{_≡_, refl}
 use mathlib.Core.Bool.{Bool, true, false, not, _||_}
-use native.Mathlib.Omega.{arith}
 use lib.Dec.{T, eqb}
 use borrow.Author.Tests.{not-true, ne-eqb, eqb-true}
-use Rattle.numbers.proofs.Tested.{upto, tested, truth}
+use Rattle.numbers.specs.Tests.{each}
+use Rattle.numbers.proofs.Tested.{ranged}
 use Rattle.wire.specs.Line.{letterOf, namedBy}
 use Rattle.wire.specs.declared.Format.{Format}
 use Rattle.wire.specs.declared.Format.the-variants.{Mm, Microsoft, Absolute, Relative, FiveByte, ThreeByte, Hexadecimal}
@@ -32,17 +32,11 @@ told l false false false false false false false es ev ea eb eu et ew = unknown 
 pub lettered : (l : ℕ) → Lettered l
 lettered l = told l _ _ _ _ _ _ _ refl refl refl refl refl refl refl
 
--- a test that holds at each number of a range
-pub ranged : (f : ℕ → Bool) (lo n : ℕ) → T (upto (λ k. f (lo + k)) n) → (b : ℕ) → lo ≤ b → b < lo + n → f b ≡ true
-ranged f lo n t b h k =
-    let e : lo + (b - lo) ≡ b = omega arith in
-    truth (f b) (subst (λ (m : ℕ). T (f m)) e (tested (λ k. f (lo + k)) n t (b - lo) (omega arith)))
-
 -- no letter of a group in a range
-pub no-format : (lo n : ℕ) → T (upto (λ k. not (isFormat (lo + k))) n) → (b : ℕ) → lo ≤ b → b < lo + n → isFormat b ≡ false
+pub no-format : (lo n : ℕ) → T (each (λ k. not (isFormat (lo + k))) n) → (b : ℕ) → lo ≤ b → b < lo + n → isFormat b ≡ false
 no-format lo n t b h k = not-true (isFormat b) (ranged (λ m. not (isFormat m)) lo n t b h k)
 
-pub no-stream : (lo n : ℕ) → T (upto (λ k. not (isStream (lo + k))) n) → (b : ℕ) → lo ≤ b → b < lo + n → isStream b ≡ false
+pub no-stream : (lo n : ℕ) → T (each (λ k. not (isStream (lo + k))) n) → (b : ℕ) → lo ≤ b → b < lo + n → isStream b ≡ false
 no-stream lo n t b h k = not-true (isStream b) (ranged (λ m. not (isStream m)) lo n t b h k)
 
 pub stream : (b : ℕ) → 74 ≤ b → b < 83 → (b ≡ 80 → ⊥) → isStream b ≡ true

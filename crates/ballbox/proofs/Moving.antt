@@ -6,9 +6,9 @@ use native.Mathlib.Omega.{arith}
 use lib.Dec.{T, ltb}
 use lib.IntN.{ℤ, pos, negsuc}
 use borrow.Author.Tests.{ltb-false, le-ltb}
+use Rattle.numbers.proofs.Choices.{neither}
 use Rattle.ballbox.specs.Motion.{differ, apart}
 use Rattle.ballbox.specs.declared.Pair.{Pair}
-use Rattle.ballbox.proofs.Tests.{neither}
 
 not-below : (a b : ℕ) → ltb a b || ltb b a ≡ false → a ≡ b
 not-below a b h = let e = neither (ltb a b) (ltb b a) h in omega (arith, ltb-false a b (e .0), ltb-false b a (e .1))

@@ -1,10 +1,11 @@
 -- What the host's bytes do: the ignored rest, prompt mode, and the replies.
 use Prim.Native.Nat.{ℕ, _+_, _*_}
-use mathlib.Core.Path.{_≡_, refl, ap, ap₂, _∙_}
+use mathlib.Core.Path.{_≡_, refl, ap, _∙_}
 use mathlib.Core.Bool.{Bool, true, false, cond, _||_}
 use mathlib.Core.List.{[], _∷_}
-use lib.Dec.{eqb, ltb}
+use lib.Dec.{eqb}
 use borrow.Author.Tests.{eqb-true}
+use Rattle.numbers.proofs.Choices.{other, neither, cases}
 use Rattle.wire.specs.Line.{break, letterOf, namedBy}
 use Rattle.wire.specs.declared.Format.{Format}
 use Rattle.ballbox.specs.Box.{modeD, nothing, goingFrom, withGoing, Answer, gives, quietly}
@@ -14,14 +15,12 @@ use Rattle.ballbox.specs.Good.{good}
 use Rattle.ballbox.specs.Promises.{answerOf, StepPromise}
 use Rattle.ballbox.specs.declared.Settings.{Settings}
 use Rattle.ballbox.specs.declared.BallBox.{BallBox}
-use Rattle.ballbox.specs.declared.Command.{Command}
-use Rattle.ballbox.specs.declared.Command.the-variants.{SetFormat, Ignored}
+use Rattle.ballbox.specs.declared.Command.the-variants.{Ignored}
 use Rattle.ballbox.specs.declared.Event.the-variants.{Host}
 use Rattle.ballbox.specs.declared.Stepped.{Stepped}
-use Rattle.ballbox.proofs.Tests.{other, neither, cases}
-use Rattle.ballbox.proofs.Accepting.{named}
+use Rattle.wire.proofs.Letters.{letter-named}
 use Rattle.ballbox.proofs.Steps.{parts}
-use Rattle.ballbox.proofs.Kept.{mode-known, dropped-ready}
+use Rattle.ballbox.proofs.Kept.{mode-known}
 use Rattle.ballbox.proofs.Refusals.{awake-step}
 
 -- the letters, space and 05H
@@ -94,7 +93,7 @@ module _ (b : BallBox) (r : Stepped) (g : good b ≡ true) (d : b .dormant ≡ f
   unfolding commandOf obeyed codeByte
   reply-to-f f e s =
       ap (λ (x : BallBox). x .going) (next-is b 0x66 r s g d) ∙
-      ap (λ (c : ℕ). goingFrom (c ∷ [])) (ap (λ (x : Settings). codeByte (x .format)) (dropped-settings b) ∙ rw (ap namedBy e ∙ named f))
+      ap (λ (c : ℕ). goingFrom (c ∷ [])) (ap (λ (x : Settings). codeByte (x .format)) (dropped-settings b) ∙ rw (ap namedBy e ∙ letter-named f))
 
   pub awake-after-f : StepPromise b (Host 0x66) r → r .next .dormant ≡ false
   unfolding commandOf obeyed
@@ -113,13 +112,3 @@ module _ (b : BallBox) (r : Stepped) (g : good b ≡ true) (d : b .dormant ≡ f
   reply-to-05 s =
       ap (λ (x : BallBox). x .going) (next-is b 0x05 r s g d) ∙
       ap (λ (x : Settings). goingFrom (x .buttons ∷ 0 ∷ 0 ∷ [])) (dropped-settings b)
-
--- a format letter sets the format; the box is awake and nothing is going
-pub format-set : (b : BallBox) (n : ℕ) (r : Stepped) → good b ≡ true → b .dormant ≡ false → isFormat n ≡ true → StepPromise b (Host n) r →
-    (r .next .settings .format ≡ n) × (r .next .dormant ≡ false) × (bytesLeft (r .next) ≡ false)
-unfolding commandOf obeyed
-format-set b n r g d f s =
-    let i = dropped-ready b d (parts b g) .idle in
-    let c : commandOf n ≡ SetFormat n = rw f in
-    let e = next-is b n r s g d ∙ ap (λ (x : Command). obeyed x (dropped b)) c in
-    (ap (λ (x : BallBox). x .settings .format) e, ap (λ (x : BallBox). x .dormant) e ∙ (dropped-awake b ∙ d), ap bytesLeft e ∙ ap₂ ltb (i .sent0) (i .length0))

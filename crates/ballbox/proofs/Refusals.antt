@@ -4,6 +4,7 @@ use mathlib.Core.Path.{_≡_, refl, sym, ap, _∙_}
 use mathlib.Core.Bool.{Bool, true, false, not, cond, _||_}
 use lib.Dec.{eqb}
 use borrow.Author.Tests.{lt-ltb}
+use Rattle.numbers.proofs.Choices.{cases}
 use Rattle.wire.specs.Numbers.{success, badState, badButtons}
 use Rattle.ballbox.specs.Box.{Answer, refused}
 use Rattle.ballbox.specs.Events.{bytesLeft, latching, nextByte, sending, onHost, awake, asleep}
@@ -15,7 +16,6 @@ use Rattle.ballbox.specs.declared.Event.the-variants.{Motion, Buttons, H
 use Rattle.ballbox.specs.declared.Sent.{Sent}
 use Rattle.ballbox.specs.declared.Sent.the-variants.{Nothing, Word}
 use Rattle.ballbox.specs.declared.Stepped.{Stepped}
-use Rattle.ballbox.proofs.Tests.{cases}
 
 -- two answers that the promise permits are equal
 pub fresh-one : (b c : BallBox) → FreshPromise b → FreshPromise c → b ≡ c

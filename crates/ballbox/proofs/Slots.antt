@@ -31,11 +31,7 @@ module _ (b : BallBox) where
   unfolding sending
   sending-silence l = ap (λ (t : Bool). cond t (nextByte (withByteReady b)) (gives (silence ∷ []) b)) l
 
-  -- the slot of byte 4 in U, or another
-  pub ready-second : secondNow b ≡ true → withByteReady b ≡ secondLatched b
-  unfolding withByteReady
-  ready-second e = ap (λ (t : Bool). cond t (secondLatched b) b) e
-
+  -- not the slot of byte 4 in U
   pub ready-plain : secondNow b ≡ false → withByteReady b ≡ b
   unfolding withByteReady
   ready-plain e = ap (λ (t : Bool). cond t (secondLatched b) b) e

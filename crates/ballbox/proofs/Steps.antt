@@ -5,6 +5,7 @@ use mathlib.Core.Bool.{Bool, true, false, not, _&&_, _||_}
 use native.Mathlib.Omega.{arith}
 use lib.Dec.{leb, ltb, eqb}
 use borrow.Author.Tests.{leb-true, leb-false, ltb-true, ltb-false, eqb-true, eqb-false, lt-ltb, le-ltb, le-leb, lt-leb, eq-eqb, not-false}
+use Rattle.numbers.proofs.Choices.{other, either, neither, both, cases}
 use Rattle.numbers.proofs.Tested.{left, right}
 use Rattle.wire.specs.Line.{letterOf, sizeBy}
 use Rattle.wire.specs.Reading.{at}
@@ -16,8 +17,8 @@ use Rattle.ballbox.specs.Events.{bytesLeft, wanted, latching, secondNow,
 use Rattle.ballbox.specs.Good.{good, goodSettings, goodTrack, sentBelow, lengthKnown, begun, secondHeld, zeroFrom, restZero, goodGoing, restful}
 use Rattle.ballbox.specs.declared.Going.{Going}
 use Rattle.ballbox.specs.declared.BallBox.{BallBox}
-use Rattle.ballbox.proofs.Tests.{other, either, neither, both, cases}
-use Rattle.ballbox.proofs.Accepting.{bytes-by-length, size-by-small}
+use Rattle.wire.proofs.Letters.{at-most-five}
+use Rattle.ballbox.proofs.Accepting.{bytes-by-length}
 
 -- the rules of what is going
 pub record GoodGoing (letter : ℕ) (g : Going) : Type 0 where
@@ -155,7 +156,7 @@ length-most letter g o = go (leb (g .length) 3) refl
   where
     go : (t : Bool) → leb (g .length) 3 ≡ t → g .length ≤ 5
     go true e = omega (arith, leb-true (g .length) 3 e)
-    go false e = omega (arith, o .known (leb-false (g .length) 3 e), size-by-small letter)
+    go false e = omega (arith, o .known (leb-false (g .length) 3 e), at-most-five letter)
 
 pub good-length : (b : BallBox) → good b ≡ true → b .going .length ≤ 5
 good-length b g = length-most (b .settings .format) (b .going) (parts b g .going)
@@ -165,5 +166,5 @@ pub latching-length : (b : BallBox) → b .going .length ≤ 5 → latching b .g
 unfolding latching latched goingFrom
 latching-length b h =
     cases (λ (x : BallBox). x .going .length ≤ 5) (not (bytesLeft b) && wanted b)
-    (λ e. rw (bytes-by-length (b .settings .format)) (size-by-small (b .settings .format)))
+    (λ e. rw (bytes-by-length (b .settings .format)) (at-most-five (b .settings .format)))
     (λ e. h)

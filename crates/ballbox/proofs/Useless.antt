@@ -5,10 +5,10 @@ use native.Mathlib.Omega.{arith}
 use Rattle.numbers.specs.Bits.{number, bit}
 use Rattle.numbers.specs.Signed.{held}
 use Rattle.wire.specs.Line.{silence, namedBy, sizeBy}
-use Rattle.wire.specs.Table.{bytesU}
+use Rattle.wire.specs.Table.{bytesU, bytesBy}
 use Rattle.ballbox.specs.Box.{Answer, freshBox, goingFrom}
 use Rattle.ballbox.specs.Motion.{apart, hasMoved}
-use Rattle.ballbox.specs.Latching.{limits, limited, movement, taken, cleared, latchedReport, bytesBy, latched}
+use Rattle.ballbox.specs.Latching.{limits, limited, movement, taken, cleared, latchedReport, latched}
 use Rattle.ballbox.specs.Commands.{commandOf, obeyed}
 use Rattle.ballbox.specs.Events.{latching, withByteReady, after, nextByte, sending, dropped, onHost, awake}
 use Rattle.ballbox.specs.Good.{good, goodSettings, goodTrack, goodGoing}

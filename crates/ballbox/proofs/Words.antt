@@ -8,17 +8,19 @@ use lib.Dec.{eqb, ltb}
 use lib.ListN.{length, take, set, replicate, length-set, length-append}
 use lib.Seq.{length-take-le}
 use borrow.Author.Tests.{eqb-true, leb-true, ltb-true, ltb-false, ne-eqb, not-false}
+use Rattle.numbers.proofs.Choices.{cases}
 use Rattle.numbers.proofs.Tested.{left, holds}
 use Rattle.wire.specs.Line.{letterOf, namedBy}
-use Rattle.wire.specs.Table.{bytesOf}
-use Rattle.wire.specs.Holds.{accepted}
+use Rattle.wire.specs.Table.{bytesOf, bytesBy}
+use Rattle.wire.specs.Holds.{accepted, acceptedBy}
 use Rattle.wire.specs.Reading.{at}
 use Rattle.wire.specs.declared.Format.{Format}
 use Rattle.wire.specs.declared.Format.the-variants.{Mm, Microsoft, Absolute, Relative, FiveByte, ThreeByte, Hexadecimal}
 use Rattle.wire.specs.declared.Report.{Report}
+use Rattle.wire.proofs.Letters.{letter-named}
 use Rattle.wire.proofs.Codec.{bytes-below}
 use Rattle.ballbox.specs.Box.{freshBox, modeD, Answer, nothing, goingFrom, withGoing}
-use Rattle.ballbox.specs.Latching.{taken, acceptedBy, latchedReport, bytesBy, latched, secondOnly, withSecond, secondLatched}
+use Rattle.ballbox.specs.Latching.{taken, latchedReport, latched, secondOnly, withSecond, secondLatched}
 use Rattle.ballbox.specs.Commands.{isFormat, isStream, codeOf, codeByte, commandOf, obeyed}
 use Rattle.ballbox.specs.Events.{Speaks, onButtons, onPeriod, bytesLeft, wanted, latching, secondNow, withByteReady, after, nextByte, sending, onSlot, dropped, onHost, woken, awake, asleep}
 use Rattle.ballbox.specs.Good.{good, goodSettings}
@@ -29,9 +31,8 @@ use Rattle.ballbox.specs.declared.Command.{Command}
 use Rattle.ballbox.specs.declared.Event.{Event}
 use Rattle.ballbox.specs.declared.Event.the-variants.{Motion, Buttons, Host, Slot, Period}
 use Rattle.ballbox.specs.declared.Stepped.{Stepped}
-use Rattle.ballbox.proofs.Tests.{cases}
 use Rattle.ballbox.proofs.Letters.{Lettered, known, unknown, lettered}
-use Rattle.ballbox.proofs.Accepting.{named, latched-accepted, second-accepted}
+use Rattle.ballbox.proofs.Accepting.{latched-accepted, second-accepted}
 use Rattle.ballbox.proofs.Steps.{parts, good-buttons}
 use Rattle.ballbox.proofs.Kept.{letter-known, mode-known, few}
 
@@ -126,7 +127,7 @@ after-five g h = cases FiveBytes (ltb (g .sent + 1) (g .length)) (λ e. record {
 -- an accepted report's bytes are bytes
 report-bytes : (letter : ℕ) (r : Report) → Lettered letter → acceptedBy letter r ≡ true → Bytes (bytesBy letter r)
 unfolding acceptedBy bytesBy
-report-bytes letter r (known f e) a = rw (e, named f) (of-at (bytesOf f r) (bytes-below f r (rw (e, named f) at a)))
+report-bytes letter r (known f e) a = rw (e, letter-named f) (of-at (bytesOf f r) (bytes-below f r (rw (e, letter-named f) at a)))
 report-bytes letter r (unknown e none) a = rw e tt
 
 latched-five : (b : BallBox) → good b ≡ true → FiveBytes (latched b .going)
@@ -198,7 +199,7 @@ format-small l (unknown e none) h = absurd (holds (sym none ∙ h))
 
 code-byte : (l : ℕ) → Lettered l → codeByte l < 256
 unfolding codeByte
-code-byte l (known f e) = rw (e, named f) (code-small f)
+code-byte l (known f e) = rw (e, letter-named f) (code-small f)
 code-byte l (unknown e none) = rw e (omega arith)
 
 -- a command keeps what is going, or a reply is to be sent

@@ -1,14 +1,13 @@
 -- Latching: what a report takes of the box.
 use Prim.Native.Nat.{ℕ}
-use mathlib.Core.Bool.{Bool, true, false, cond}
-use mathlib.Core.List.{List, []}
+use mathlib.Core.Bool.{false, cond}
 use lib.Dec.{eqb}
 use lib.IntN.{ℤ, pos}
 use lib.ListN.{set}
 use Rattle.numbers.specs.Signed.{minus, held}
-use Rattle.wire.specs.Line.{letterOf, namedBy, ofNamed}
-use Rattle.wire.specs.Table.{bytesOf}
-use Rattle.wire.specs.Holds.{_to_, accepted}
+use Rattle.wire.specs.Line.{letterOf}
+use Rattle.wire.specs.Table.{bytesOf, bytesBy}
+use Rattle.wire.specs.Holds.{_to_}
 use Rattle.wire.specs.Reading.{report, at}
 use Rattle.wire.specs.declared.Report.{Report}
 use Rattle.wire.specs.declared.Range.{Range}
@@ -46,14 +45,6 @@ cleared t = record { counter = zeros; position = t .position; last = t .position
 unfoldable pub latchedReport : BallBox → Report
 latchedReport b =
     report (b .settings .buttons) (taken (b .settings .format) (b .track) .x) (taken (b .settings .format) (b .track) .y)
-
--- its bytes, by the table
-unfoldable pub bytesBy : ℕ → Report → List ℕ
-bytesBy letter r = ofNamed [] (λ f. bytesOf f r) (namedBy letter)
-
--- the encoder accepts a report in the format that a letter names
-unfoldable pub acceptedBy : ℕ → Report → Bool
-acceptedBy letter r = ofNamed true (λ f. accepted f r) (namedBy letter)
 
 -- "a report is latched, due is cleared"
 unfoldable pub latched : BallBox → BallBox

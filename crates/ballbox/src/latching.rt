@@ -2,8 +2,9 @@
 ghost use mathlib.Core.Path.{_≡_};
 ghost use mathlib.Core.Bool.{true};
 ghost use Prim.Native.Nat.{_≤_};
-ghost use Rattle.wire.specs.Table.{five};
-ghost use Rattle.ballbox.specs.Latching.{limited, taken, acceptedBy, bytesBy, latched, secondLatched};
+ghost use Rattle.wire.specs.Holds.{acceptedBy};
+ghost use Rattle.wire.specs.Table.{five, bytesBy};
+ghost use Rattle.ballbox.specs.Latching.{limited, taken, latched, secondLatched};
 use crate::BallBox;
 use crate::Going;
 use crate::Pair;

@@ -9,7 +9,7 @@ use mathlib.Core.List.{List, _∷_, _++_}
 use mathlib.Core.Logic.{_⊎_}
 use lib.ListN.{length, getD}
 use lib.IntN.{ℤ}
-use Rattle.wire.specs.Line.{silence}
+use Rattle.wire.specs.Line.{silence, known}
 use Rattle.wire.specs.Numbers.{success, badState, badLetter, badButtons, badWord}
 use Rattle.wire.specs.Encoder.{refusalOf, lengthOf}
 use Rattle.wire.specs.Promises.{SizePromise, MarkedPromise, FitsPromise, ReportPromise, EncodePromise, RefusalPromise, LengthPromise}
@@ -19,7 +19,7 @@ use Rattle.wire.proofs.Answers as wire
 use Rattle.reader.specs.State.{fresh}
 use Rattle.reader.specs.Good as readers
 use Rattle.reader.specs.Rules.{refusing}
-use Rattle.reader.specs.Line.{whole, stopped}
+use Rattle.reader.specs.Line.{whole, stopped, withRefusal}
 use Rattle.reader.specs.Promises as reader
 use Rattle.reader.specs.Promises.{ReadPromise, newReader}
 use Rattle.reader.specs.declared.Reader.{Reader}
@@ -28,7 +28,6 @@ use Rattle.reader.specs.declared.Read.{Read}
 use Rattle.reader.specs.declared.Reading.{Reading}
 use Rattle.reader.proofs.Permitted as permitted
 use Rattle.reader.proofs.Refusals as refusals
-use Rattle.reader.proofs.Refusals.{withRefusal}
 use Rattle.reader.proofs.Goodness as goodness
 use Rattle.ballbox.specs.Box.{refused}
 use Rattle.ballbox.specs.Good as boxes
@@ -71,7 +70,7 @@ encode-refused = wire.refusal-leaves
 pub fresh-reader-one : (letter : ℕ) (a b : NewReader) → reader.FreshPromise letter a → reader.FreshPromise letter b → a ≡ b
 fresh-reader-one = permitted.one-fresh
 
-pub fresh-reader-refused : (letter : ℕ) (a : NewReader) → readers.known letter ≡ false → reader.FreshPromise letter a → a ≡ newReader badLetter (fresh 0x55)
+pub fresh-reader-refused : (letter : ℕ) (a : NewReader) → known letter ≡ false → reader.FreshPromise letter a → a ≡ newReader badLetter (fresh 0x55)
 fresh-reader-refused = refusals.unknown-letter
 
 -- `Reader::step`: one answer; 6, and then 4, hand back the old reader and answer nothing

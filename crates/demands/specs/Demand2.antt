@@ -7,9 +7,10 @@ use mathlib.Core.Bool.{true, false}
 use mathlib.Core.List.{List, [], _∷_, _++_}
 use lib.ListN.{length, take, drop, replicate}
 use lib.IntN.{ℤ}
+use Rattle.wire.specs.Reading.{settledBy}
 use Rattle.wire.specs.Line.{letterOf, sizeOf, sizeBy}
 use Rattle.wire.specs.Table.{bytesOf}
-use Rattle.wire.specs.Holds.{accepted}
+use Rattle.wire.specs.Holds.{accepted, carriedBy}
 use Rattle.wire.specs.Numbers.{success}
 use Rattle.wire.specs.Encoder.{refusalOf, lengthOf}
 use Rattle.wire.specs.Promises.{EncodePromise}
@@ -25,7 +26,7 @@ use Rattle.reader.specs.Line.{whole}
 use Rattle.reader.specs.Counts.{byteIn, bytesIn, reportsIn, droppedIn}
 use Rattle.reader.specs.Promises as reader
 use Rattle.reader.specs.Promises.{ReadPromise}
-use Rattle.reader.specs.Runs.{StepsPromise, answers, readerAfter, carriedBy, settledBy}
+use Rattle.reader.specs.Runs.{StepsPromise, answers, readerAfter}
 use Rattle.reader.specs.declared.Reader.{Reader}
 use Rattle.reader.specs.declared.Read.{Read}
 use Rattle.reader.specs.declared.Reading.{Reading}

@@ -4,12 +4,11 @@ use Prim.Native.Nat.{ℕ}
 use mathlib.Core.Path.{_≡_, sym, _∙_}
 use mathlib.Core.Bool.{Bool, true, false, cond}
 use mathlib.Core.List.{List, [], _∷_, _++_}
-use Rattle.wire.specs.Line.{letterOf, markedOf, break}
+use Rattle.wire.specs.Line.{letterOf, markedOf, break, lineWords}
 use Rattle.wire.specs.Holds.{carried}
 use Rattle.wire.specs.Passages.{Passage, silent, finished, passageWords, Going, nothing, goingWords, Unbroken, finishedReports}
 use Rattle.wire.specs.declared.Report.{Report}
 use Rattle.wire.specs.declared.Format.{Format}
-use Rattle.reader.specs.Runs.{lineWords}
 use Rattle.reader.specs.Lines.{Given, no-word, a-break, Within, EndsAt, HandsOut, HandsOutAt, Replaced, Lost}
 use Rattle.reader.proofs.Damaged as damaged
 use Rattle.ballbox.specs.Good.{good}

@@ -8,7 +8,7 @@ use lib.IntN.{pos}
 use Rattle.numbers.specs.Bits.{number, bit, bits}
 use Rattle.numbers.specs.Signed.{minus, twos, untwos, signed}
 use Rattle.numbers.specs.Parity.{even, withParity}
-use Rattle.wire.specs.Line.{letterOf, namedBy, sizeBy, markedBy}
+use Rattle.wire.specs.Line.{letterOf, namedBy, sizeBy, markedBy, known}
 use Rattle.wire.specs.Table.{bytesS, bytesV, rowsV, bytesB, rowsA, bytesU, bytesT, digit, bytesW, rowsW}
 use Rattle.wire.specs.Holds.{holds, accepted}
 use Rattle.wire.specs.Fits.{𝟏, 𝟎, ·, like, fitsFirst, fitsLater, fitsAt, fitsBy}
@@ -17,7 +17,7 @@ use Rattle.wire.specs.Encoder.{refusalOf}
 use Rattle.wire.specs.declared.Format.the-variants.{Mm, Microsoft, Relative, FiveByte, ThreeByte, Hexadecimal}
 use Rattle.wire.proofs.Answers.{movement-refused}
 use Rattle.reader.specs.State.{fresh, ready}
-use Rattle.reader.specs.Good.{known, placed}
+use Rattle.reader.specs.Good.{placed}
 use Rattle.reader.specs.Good as reading
 use Rattle.reader.specs.Rules.{entered, answered, keep, lose, byteOf, wordOf}
 use Rattle.reader.specs.Promises as reader

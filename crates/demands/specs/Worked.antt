@@ -2,24 +2,24 @@
 -- where the report is not handed out as sent, stand in crates/reader/proofs/DamagedRuns.antt.
 use Prim.Native.Nat.{ℕ}
 use mathlib.Core.Path.{_≡_, refl}
-use mathlib.Core.Bool.{true, not}
+use mathlib.Core.Bool.{not}
 use mathlib.Core.List.{List, [], _∷_}
 use native.Mathlib.Omega.{arith}
 use lib.IntN.{pos}
+use Rattle.numbers.proofs.Choices.{cases}
 use Rattle.numbers.specs.Bits.{number, bit}
 use Rattle.numbers.specs.Signed.{minus, twos, held, heldSum}
-use Rattle.wire.specs.Line.{namedBy, sizeBy}
-use Rattle.wire.specs.Table.{bytesS, bytesU}
+use Rattle.wire.specs.Line.{namedBy, sizeBy, lineWords}
+use Rattle.wire.specs.Table.{bytesS, bytesU, bytesBy}
 use Rattle.wire.specs.Reading.{report}
-use Rattle.wire.specs.Passages.{Passage, silent, finished, nothing, passagesOver, goingOver}
+use Rattle.wire.specs.Passages.{silent, finished, nothing, passagesOver, goingOver}
 use Rattle.wire.specs.declared.Report.{Report}
 use Rattle.wire.specs.declared.Format.the-variants.{Mm, FiveByte}
 use Rattle.frames.specs.Line.{none, gone, stays}
-use Rattle.reader.specs.Runs.{lineWords}
 use Rattle.reader.specs.Lines.{HandsOut, HandsOutAt, Lost, of-finished}
 use Rattle.ballbox.specs.Box.{Answer, freshBox, goingFrom}
 use Rattle.ballbox.specs.Motion.{counted, placedAt, placed, movedBy, apart, hasMoved}
-use Rattle.ballbox.specs.Latching.{limits, limited, movement, taken, cleared, latchedReport, bytesBy, latched, withSecond, secondLatched}
+use Rattle.ballbox.specs.Latching.{limits, limited, movement, taken, cleared, latchedReport, latched, withSecond, secondLatched}
 use Rattle.ballbox.specs.Commands.{commandOf, obeyed}
 use Rattle.ballbox.specs.Events.{bytesLeft, onButtons, latching, withByteReady, after, nextByte, sending, dropped, onHost, awake, asleep}
 use Rattle.ballbox.specs.Good.{good, goodSettings, goodTrack, goodGoing}
@@ -30,7 +30,6 @@ use Rattle.ballbox.specs.declared.Sent.{Sent}
 use Rattle.ballbox.specs.declared.Sent.the-variants.{Nothing, Word}
 use Rattle.ballbox.specs.declared.Event.{Event}
 use Rattle.ballbox.specs.declared.Event.the-variants.{Motion, Buttons, Host, Slot, Period}
-use Rattle.ballbox.proofs.Tests.{cases}
 use Rattle.history.specs.Runs.{RunPromise, wordsGiven}
 use Rattle.history.specs.History.{toldBy}
 use Rattle.history.specs.Asked.{onlyAsks}

@@ -1,23 +1,23 @@
 -- A box that is set to one format and asked only for reports sends sound passages of that format.
 use Prim.Native.Nat.{ℕ, _+_, _<_}
-use mathlib.Core.Path.{_≡_, refl, sym, _∙_, ap}
-use mathlib.Core.Bool.{Bool, true, false, cond, not, _&&_, _||_}
+use mathlib.Core.Path.{_≡_, refl, _∙_, ap}
+use mathlib.Core.Bool.{Bool, true, false, not, _&&_, _||_}
 use mathlib.Core.List.{List, [], _∷_, _++_}
 use native.Mathlib.Omega.{arith}
 use lib.Dec.{eqb}
 use borrow.Author.Tests.{eqb-true, eqb-false}
-use Rattle.numbers.proofs.Tested.{holds, left, right}
+use Rattle.numbers.proofs.Choices.{cases, or-else}
+use Rattle.numbers.proofs.Tested.{left, right}
 use Rattle.wire.specs.Line.{letterOf, namedBy, ofNamed, sizeOf}
 use Rattle.wire.specs.Holds.{accepted}
-use Rattle.wire.specs.Passages.{Passage, Going, nothing, report, answer, SoundOf, Sound, SoundGoing, Told, told, sentOne, brokenOff, passagesOver, goingOver}
+use Rattle.wire.specs.Passages.{Passage, Going, nothing, report, answer, Sound, SoundGoing, told, sentOne, brokenOff, passagesOver, goingOver}
 use Rattle.wire.specs.declared.Report.{Report}
 use Rattle.wire.specs.declared.Format.{Format}
 use Rattle.wire.specs.declared.Format.the-variants.{FiveByte}
-use Rattle.wire.proofs.Answers.{letter-named}
-use Rattle.ballbox.specs.Box as box
+use Rattle.wire.proofs.Letters.{letter-named}
 use Rattle.ballbox.specs.Latching.{taken, latched, latchedReport, secondLatched}
-use Rattle.ballbox.specs.Commands.{isStream, isFormat, commandOf, obeyed}
-use Rattle.ballbox.specs.Events.{bytesLeft, wanted, latching, secondNow, withByteReady, nextByte, sending, onSlot, dropped, onHost, onButtons, onPeriod, awake}
+use Rattle.ballbox.specs.Commands.{isStream, commandOf, obeyed}
+use Rattle.ballbox.specs.Events.{bytesLeft, wanted, latching, secondNow, withByteReady, nextByte, sending, dropped, onHost, onPeriod, awake}
 use Rattle.ballbox.specs.Good.{good}
 use Rattle.ballbox.specs.Promises.{aboveSeven, stepOf}
 use Rattle.ballbox.specs.declared.BallBox.{BallBox}
@@ -94,20 +94,16 @@ pub record Alike (b c : BallBox) : Type 0 where
 alike-then : {a b c : BallBox} → Alike a b → Alike b c → Alike a c
 alike-then p q = record { format = q .format ∙ p .format; dormant = q .dormant ∙ p .dormant }
 
-either-alike : (b c d : BallBox) (t : Bool) → Alike b c → Alike b d → Alike b (cond t c d)
-either-alike b c d true p q = p
-either-alike b c d false p q = q
-
 alike : (b : BallBox) → Alike b b
 alike b = record { format = refl; dormant = refl }
 
 latching-alike : (b : BallBox) → Alike b (latching b)
 unfolding latching latched
-latching-alike b = either-alike b (latched b) b (not (bytesLeft b) && wanted b) (record { format = refl; dormant = refl }) (alike b)
+latching-alike b = cases (Alike b) (not (bytesLeft b) && wanted b) (λ _. (record { format = refl; dormant = refl })) (λ _. alike b)
 
 ready-alike : (b : BallBox) → Alike b (withByteReady b)
 unfolding withByteReady secondLatched
-ready-alike b = either-alike b (secondLatched b) b (secondNow b) (record { format = refl; dormant = refl }) (alike b)
+ready-alike b = cases (Alike b) (secondNow b) (λ _. (record { format = refl; dormant = refl })) (λ _. alike b)
 
 sending-alike : (b : BallBox) → Alike b (sending b .next)
 unfolding sending nextByte
@@ -119,7 +115,7 @@ sending-alike b = go (bytesLeft b) refl
 
 pub dropped-alike : (b : BallBox) → Alike b (dropped b)
 unfolding dropped
-dropped-alike b = either-alike b (box.withGoing box.nothing b) b (bytesLeft b) (record { format = refl; dormant = refl }) (alike b)
+dropped-alike b = cases (Alike b) (bytesLeft b) (λ _. (record { format = refl; dormant = refl })) (λ _. alike b)
 
 -- the commands by which a box is asked for reports
 abbrev Asking : Command → Type 0
@@ -133,10 +129,6 @@ Asking AskLetters = ⊥
 Asking AskButtons = ⊥
 Asking Sleep = ⊥
 Asking Ignored = ⊥
-
-or-else : {P : Type 0} (a b : Bool) → (a ≡ true → P) → (b ≡ true → P) → a || b ≡ true → P
-or-else true b p q e = p refl
-or-else false b p q e = q e
 
 byte-asks : (n : ℕ) → Asking (commandOf n) → (byte : ℕ) → eqb byte n ≡ true → Asking (commandOf byte)
 byte-asks n h byte e = rw (eqb-true byte n e) h

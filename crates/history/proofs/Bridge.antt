@@ -3,16 +3,15 @@ use Prim.Native.Nat.{ℕ}
 use mathlib.Core.Path.{_≡_, refl, sym, _∙_, ap, ap₂}
 use mathlib.Core.Bool.{Bool, true, false, cond}
 use mathlib.Core.List.{List, [], _∷_, _++_, append-nil}
-use lib.Dec.{T, eqb, lit<, lit≤}
-use lib.IntN.{ℤ}
+use lib.Dec.{eqb, lit<, lit≤}
 use Rattle.numbers.proofs.Tested.{holds}
-use Rattle.wire.specs.Passages.{Going, nothing, report, answer, goingWords, passageWords, Told, told, givenOver}
+use Rattle.wire.specs.Passages.{Going, nothing, report, answer, goingWords, passageWords, told, givenOver}
 use Rattle.wire.proofs.Sender.{bridge}
 use Rattle.ballbox.specs.Box as box
 use Rattle.ballbox.specs.Box.{goingFrom}
 use Rattle.ballbox.specs.Events.{bytesLeft, onButtons, onPeriod, awake, asleep, woken}
 use Rattle.ballbox.specs.Good.{good}
-use Rattle.ballbox.specs.Promises.{wordsOf, answerOf, aboveSeven, stepOf, StepPromise}
+use Rattle.ballbox.specs.Promises.{aboveSeven, stepOf}
 use Rattle.ballbox.specs.declared.BallBox.{BallBox}
 use Rattle.ballbox.specs.declared.Stepped.{Stepped}
 use Rattle.ballbox.specs.declared.Event.{Event}

@@ -1,11 +1,10 @@
 -- A byte of the host's: what is going is broken off, and the command may leave a reply to be sent.
 use Prim.Native.Nat.{ℕ}
-use mathlib.Core.Path.{_≡_, refl, sym, _∙_, ap}
-use mathlib.Core.Bool.{Bool, true, false, cond}
-use mathlib.Core.List.{List, [], _∷_, _++_, append-nil}
+use mathlib.Core.Path.{_≡_, refl}
+use mathlib.Core.Bool.{true, false}
+use mathlib.Core.List.{[], append-nil}
 use lib.Dec.{lit<, lit≤}
-use Rattle.wire.specs.Line.{break}
-use Rattle.wire.specs.Passages.{Going, nothing, report, answer, goingWords, passageWords, Told, told, brokenOff}
+use Rattle.wire.specs.Passages.{Going, nothing, goingWords, told, brokenOff}
 use Rattle.wire.proofs.Sender.{breaks}
 use Rattle.ballbox.specs.Box as box
 use Rattle.ballbox.specs.Box.{goingFrom, withGoing}

@@ -1,8 +1,7 @@
 -- A good box that is awake is set to a format by its letter, whatever was going.
-use Prim.Native.Nat.{ℕ}
-use mathlib.Core.Path.{_≡_, refl, sym, _∙_, ap}
+use mathlib.Core.Path.{_≡_, refl, _∙_, ap}
 use mathlib.Core.Bool.{Bool, true, false, cond}
-use mathlib.Core.List.{List, [], _∷_}
+use mathlib.Core.List.{[], _∷_}
 use Rattle.wire.specs.Line.{letterOf, break}
 use Rattle.wire.specs.Passages.{nothing}
 use Rattle.wire.specs.declared.Format.{Format}

@@ -1,30 +1,29 @@
 -- A slot: latching, U's second pair, and one word more.
 use Prim.Native.Nat.{ℕ, _+_, _≤_, _<_}
 use mathlib.Core.Path.{_≡_, refl, sym, _∙_, ap}
-use mathlib.Core.Bool.{Bool, true, false, cond, _&&_, _||_}
+use mathlib.Core.Bool.{Bool, true, false, _&&_, _||_}
 use mathlib.Core.List.{List, [], _∷_, _++_}
 use native.Mathlib.Omega.{arith}
-use lib.ListN.{length, getD, take, set}
-use lib.Dec.{eqb, leb, ltb, lit<}
+use lib.ListN.{length, take, set}
+use lib.Dec.{eqb, leb, lit<}
 use lib.IntN.{ℤ}
 use borrow.Author.Tests.{lt-ltb, le-ltb, eqb-true, eqb-false, ne-eqb}
-use Rattle.wire.specs.Line.{letterOf, namedBy, ofNamed, sizeOf, silence}
-use Rattle.wire.specs.Table.{bytesOf, five, bytesU}
+use Rattle.wire.specs.Line.{letterOf, namedBy, ofNamed, sizeOf}
+use Rattle.wire.specs.Table.{bytesOf, five, bytesU, bytesBy}
 use Rattle.numbers.proofs.Tested.{holds, left, right}
 use Rattle.wire.specs.Reading.{at}
-use Rattle.wire.specs.Holds.{within, secondRange, accepted}
-use Rattle.wire.specs.Passages.{Going, nothing, report, answer, goingWords, passageWords, Told, sentOne, nextWord, Left}
+use Rattle.wire.specs.Holds.{within, secondRange, accepted, acceptedBy}
+use Rattle.wire.specs.Passages.{Going, nothing, report, answer, goingWords, sentOne, nextWord, Left}
 use Rattle.wire.specs.declared.Report.{Report}
 use Rattle.wire.specs.declared.Format.{Format}
 use Rattle.wire.specs.declared.Format.the-variants.{Mm, Microsoft, Absolute, Relative, FiveByte, ThreeByte, Hexadecimal}
+use Rattle.wire.proofs.Letters.{letter-named}
 use Rattle.wire.proofs.Codec.{bytes-length}
 use Rattle.wire.proofs.Codec.Accepted.{parts, whole}
-use Rattle.wire.proofs.Answers.{letter-named}
 use Rattle.wire.proofs.Sender.{sends}
-use Rattle.ballbox.specs.Box as box
-use Rattle.ballbox.specs.Box.{goingFrom, gives, modeD}
-use Rattle.ballbox.specs.Latching.{limits, limited, movement, taken, secondOnly, withSecond, secondLatched, latched, latchedReport, bytesBy, acceptedBy}
-use Rattle.ballbox.specs.Events.{bytesLeft, wanted, latching, secondNow, withByteReady, after, nextByte, sending, onSlot}
+use Rattle.ballbox.specs.Box.{goingFrom, modeD}
+use Rattle.ballbox.specs.Latching.{limits, limited, movement, taken, secondOnly, withSecond, secondLatched, latched, latchedReport}
+use Rattle.ballbox.specs.Events.{bytesLeft, wanted, secondNow, withByteReady, after, nextByte, onSlot}
 use Rattle.ballbox.specs.declared.BallBox.{BallBox}
 use Rattle.ballbox.specs.declared.Going.{Going as Bytes}
 use Rattle.ballbox.specs.declared.Track.{Track}
@@ -77,11 +76,6 @@ after-next (answer n bytes) h = go (eqb (n + 1) (length bytes)) refl
     go : (t : Bool) → eqb (n + 1) (length bytes) ≡ t → after (onLine (answer n bytes)) ≡ onLine (sentOne (answer n bytes) .going)
     go true e = rw (e, le-ltb (n + 1) (length bytes) (omega (arith, eqb-true (n + 1) (length bytes) e)))
     go false e = rw (e, lt-ltb (n + 1) (length bytes) (let d = eqb-false (n + 1) (length bytes) e in omega arith))
-
-rightly-busy : (g : Going) (b : BallBox) → (g ≡ nothing → ⊥) → Rightly b g → Busy g
-rightly-busy nothing b n h = absurd (n refl)
-rightly-busy (report n f r) b k h = h .left
-rightly-busy (answer n bytes) b k h = (h .left, h .short)
 
 -- what is left is carried on
 still-rightly : (g : Going) (b c : BallBox) → Busy g → Rightly b g → c .settings .format ≡ b .settings .format → c .dormant ≡ b .dormant → Rightly c (sentOne g .going)

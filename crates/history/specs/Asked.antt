@@ -1,9 +1,7 @@
 -- A box that is set to one format and then asked only for reports.
-use Prim.Native.Nat.{ℕ}
-use mathlib.Core.Bool.{Bool, true, _||_, _&&_}
+use mathlib.Core.Bool.{Bool, true, _&&_}
 use mathlib.Core.List.{List, [], _∷_}
-use lib.Dec.{eqb}
-use Rattle.ballbox.specs.Commands.{isStream}
+use Rattle.ballbox.specs.Commands.{asksForReports}
 use Rattle.ballbox.specs.declared.Event.{Event}
 use Rattle.ballbox.specs.declared.Event.the-variants.{Motion, Buttons, Host, Slot, Period}
 
@@ -11,7 +9,7 @@ use Rattle.ballbox.specs.declared.Event.the-variants.{Motion, Buttons, Host, Sl
 abbrev pub asks : Event → Bool
 asks (Motion dx dy) = true
 asks (Buttons n) = true
-asks (Host byte) = isStream byte || eqb byte 0x44 || eqb byte 0x50
+asks (Host byte) = asksForReports byte
 asks Slot = true
 asks Period = true
 

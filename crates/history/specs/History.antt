@@ -1,7 +1,6 @@
 -- The history of a run: its passages and what is going at its end, told from the events and the box's own states, never from the words.
-use Prim.Native.Nat.{ℕ}
 use mathlib.Core.Bool.{Bool, cond, _&&_}
-use mathlib.Core.List.{List, [], _∷_, _++_}
+use mathlib.Core.List.{List, [], _∷_}
 use lib.Dec.{eqb}
 use Rattle.wire.specs.Line.{letterOf, namedBy, ofNamed}
 use Rattle.wire.specs.Passages.{Passage, Going, nothing, report, answer, Told, told, sentOne, brokenOff, passagesOver, goingOver}

@@ -13,11 +13,7 @@ RunPromise b [] (a ∷ answers) = ⊥
 RunPromise b (e ∷ events) [] = ⊥
 RunPromise b (e ∷ events) (a ∷ answers) = StepPromise b e a × RunPromise (a .next) events answers
 
--- the words that they give, and the box that comes back from the last
+-- the words that they give
 abbrev pub wordsGiven : List Stepped → List ℕ
 wordsGiven [] = []
 wordsGiven (a ∷ answers) = wordsOf (a .sent) ++ wordsGiven answers
-
-abbrev pub boxAfter : BallBox → List Stepped → BallBox
-boxAfter b [] = b
-boxAfter b (a ∷ answers) = boxAfter (a .next) answers

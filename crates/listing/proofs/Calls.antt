@@ -17,7 +17,7 @@ use Rattle.listing.specs.declared.Listed.{Listed}
 use Rattle.listing.proofs.Whole.{allOf, all-at-once}
 use Rattle.listing.proofs.Pieces as pieces
 use Rattle.listing.proofs.Ended.{Within, piece-on, never-passed, stays-ended, quiet, end-ends}
-use Rattle.listing.proofs.Keeps.{kept, five, fresh-is-good, feed-stays-good, finish-stays-good}
+use Rattle.listing.proofs.Keeps.{kept, five, fresh-is-good, feed-stays-good}
 
 -- what a call of a good lister wrote
 module _ (f : Feed) (before after : List ℕ) (a : Listed) (p : whole a after ≡ written 0 f before) where

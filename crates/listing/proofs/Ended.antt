@@ -1,14 +1,14 @@
 -- A lister ends: a sixth byte that is no newline makes its line bad at once, each byte brings it nearer to its end, and behind that it is quiet.
-use Prim.Native.Nat.{ℕ, _+_, _-_, _*_, _≤_, _<_}
+use Prim.Native.Nat.{ℕ, _+_, _-_, _≤_, _<_}
 use mathlib.Core.Path.{_≡_, refl, _∙_, ap}
-use mathlib.Core.Bool.{Bool, true, false}
+use mathlib.Core.Bool.{true}
 use mathlib.Core.Logic.{_⊎_, inl, inr, ⊎-elim}
 use mathlib.Core.List.{List, [], _∷_, _++_}
 use native.Mathlib.Omega.{arith}
 use lib.Dec.{leb, ltb, eqb}
 use lib.ListN.{length}
 use borrow.Author.Tests.{ne-eqb, ltb-true, le-ltb, leb-false}
-use Rattle.reader.proofs.Choices.{either}
+use Rattle.numbers.proofs.Choices.{cases}
 use Rattle.listing.specs.Lines.{width, mostLines, newline, saidBy}
 use Rattle.listing.specs.Bytes.{allBytes}
 use Rattle.listing.specs.Machine.{Saying, Turning, Feed, atFirst, formatted, worded, obeyed, takenOf, endOf, atLine, unfinished, lineEnds, byteOf, closedOf, lastOf, feedIn, passed, mostBytes}
@@ -31,14 +31,14 @@ ended-stays : (m : Lister) (c : ℕ) → m .place .ended ≡ true → byteOf m c
 unfolding byteOf
 ended-stays m c h =
     let P : Turning → Type 0 = λ t. t .next .place .ended ≡ true in
-    either P (eqb c newline) _ _ (λ _. ap (λ (s : Saying). s .next .ended) (done (m .place) (saidBy (unfinished m)) h) ∙ h)
-    (λ _. either P (ltb (m .count) 5) _ _ (λ _. h) (λ _. bad-ends (m .place)))
+    cases P (eqb c newline) (λ _. ap (λ (s : Saying). s .next .ended) (done (m .place) (saidBy (unfinished m)) h) ∙ h)
+    (λ _. cases P (ltb (m .count) 5) (λ _. h) (λ _. bad-ends (m .place)))
 
 pub stays-ended : (input : List ℕ) (m : Lister) (room : ℕ) → m .place .ended ≡ true → feedIn m input room .next .place .ended ≡ true
 unfolding feedIn
 stays-ended [] m room h = h
 stays-ended (c ∷ cs) m room h =
-    either (λ (f : Feed). f .next .place .ended ≡ true) (ltb room (length (byteOf m c .text))) _ _ (λ _. h)
+    cases (λ (f : Feed). f .next .place .ended ≡ true) (ltb room (length (byteOf m c .text))) (λ _. h)
     (λ _. stays-ended cs (byteOf m c .next) (room - length (byteOf m c .text)) (ended-stays m c h))
 
 -- a byte ends the listing or brings the lister on, and it stays within the lines
@@ -52,20 +52,20 @@ line-on : (m : Lister) (l : Line) → Within m → On m (atLine (takenOf (m .pla
 unfolding takenOf formatted worded
 line-on m l h =
     let P : Saying → Type 0 = λ s. On m (atLine (s .next)) in
-    either P (m .place .ended) _ _ (λ e. inl e)
-    (λ _. either P (leb mostLines (m .place .line)) _ _ (λ _. inl refl) (λ e. go l (leb-false _ _ e)))
+    cases P (m .place .ended) (λ e. inl e)
+    (λ _. cases P (leb mostLines (m .place .line)) (λ _. inl refl) (λ e. go l (leb-false _ _ e)))
   where
     go : (l : Line) → m .place .line < mostLines → On m (atLine (obeyed (m .place) (m .place .line + 1) l .next))
     go line.Bad k = inl refl
-    go (line.Format f) k = either (λ (s : Saying). On m (atLine (s .next))) (atFirst (m .place)) _ _ (λ _. inr (omega arith, (omega arith, omega arith))) (λ _. inl refl)
-    go (line.Word w) k = either (λ (s : Saying). On m (atLine (s .next))) (atFirst (m .place)) _ _ (λ _. inl refl) (λ _. inr (omega arith, (omega arith, omega arith)))
+    go (line.Format f) k = cases (λ (s : Saying). On m (atLine (s .next))) (atFirst (m .place)) (λ _. inr (omega arith, (omega arith, omega arith))) (λ _. inl refl)
+    go (line.Word w) k = cases (λ (s : Saying). On m (atLine (s .next))) (atFirst (m .place)) (λ _. inl refl) (λ _. inr (omega arith, (omega arith, omega arith)))
 
 byte-on : (m : Lister) (c : ℕ) → Within m → On m (byteOf m c .next)
 unfolding byteOf
 byte-on m c h =
     let P : Turning → Type 0 = λ t. On m (t .next) in
-    either P (eqb c newline) _ _ (λ _. line-on m (saidBy (unfinished m)) h)
-    (λ _. either P (ltb (m .count) 5) _ _ (λ e. let k = ltb-true (m .count) 5 e in inr (omega arith, (h .0, omega arith))) (λ _. line-on m line.Bad h))
+    cases P (eqb c newline) (λ _. line-on m (saidBy (unfinished m)) h)
+    (λ _. cases P (ltb (m .count) 5) (λ e. let k = ltb-true (m .count) 5 e in inr (omega arith, (h .0, omega arith))) (λ _. line-on m line.Bad h))
 
 -- a piece ends the listing, or brings the lister on by the bytes that were taken
 pub piece-on : (input : List ℕ) (m : Lister) (room : ℕ) → Within m → let f = feedIn m input room in
@@ -73,7 +73,7 @@ pub piece-on : (input : List ℕ) (m : Lister) (room : ℕ) → Within m → let
 unfolding feedIn
 piece-on [] m room h = inr (omega arith, h)
 piece-on (c ∷ cs) m room h =
-    either (λ (f : Feed). (f .next .place .ended ≡ true) ⊎ ((passed m + f .taken ≤ passed (f .next)) × Within (f .next))) (ltb room (length (byteOf m c .text))) _ _
+    cases (λ (f : Feed). (f .next .place .ended ≡ true) ⊎ ((passed m + f .taken ≤ passed (f .next)) × Within (f .next))) (ltb room (length (byteOf m c .text)))
     (λ _. inr (omega arith, h)) (λ _. go (piece-on cs (byteOf m c .next) (room - length (byteOf m c .text))) (byte-on m c h))
   where
     go : (let f = feedIn (byteOf m c .next) cs (room - length (byteOf m c .text)) in
@@ -90,14 +90,14 @@ never-passed m h = omega arith
 -- QUIET: a lister that has ended writes nothing more
 pub quiet : (input : List ℕ) (m : Lister) → m .place .ended ≡ true → allOf m input ≡ []
 unfolding allOf byteOf lastOf closedOf
-quiet [] m h = rw (ended-opened m h) (either (λ (s : Saying). allBytes width (s .items ++ endOf (s .next) .items) ≡ []) (eqb (m .count) 0) _ _ (λ _. rw (end-done (m .place) h)) (λ _. rw (done (m .place) (saidBy (unfinished m)) h, end-done (m .place) h)))
+quiet [] m h = rw (ended-opened m h) (cases (λ (s : Saying). allBytes width (s .items ++ endOf (s .next) .items) ≡ []) (eqb (m .count) 0) (λ _. rw (end-done (m .place) h)) (λ _. rw (done (m .place) (saidBy (unfinished m)) h, end-done (m .place) h)))
 quiet (c ∷ cs) m h = rw (none, quiet cs (byteOf m c .next) (ended-stays m c h))
   where
     none : byteOf m c .text ≡ []
     none =
         let P : Turning → Type 0 = λ t. t .text ≡ [] in
-        either P (eqb c newline) _ _ (λ _. rw (ended-opened m h, done (m .place) (saidBy (unfinished m)) h))
-        (λ _. either P (ltb (m .count) 5) _ _ (λ _. ended-opened m h) (λ _. rw (ended-opened m h, done (m .place) line.Bad h)))
+        cases P (eqb c newline) (λ _. rw (ended-opened m h, done (m .place) (saidBy (unfinished m)) h))
+        (λ _. cases P (ltb (m .count) 5) (λ _. ended-opened m h) (λ _. rw (ended-opened m h, done (m .place) line.Bad h)))
 
 -- the end ends the listing
 pub end-ends : (m : Lister) → lastOf m .next .place .ended ≡ true
@@ -105,4 +105,4 @@ unfolding lastOf endOf
 end-ends m =
     let p = closedOf m .next in
     let P : Saying → Type 0 = λ s. s .next .ended ≡ true in
-    either P (p .ended) _ _ (λ e. e) (λ _. either P (atFirst p) _ _ (λ _. refl) (λ _. refl))
+    cases P (p .ended) (λ e. e) (λ _. cases P (atFirst p) (λ _. refl) (λ _. refl))

@@ -1,6 +1,5 @@
 -- No text of the lister is longer than forty bytes.
 use Prim.Native.Nat.{ℕ, _+_, _≤_}
-use mathlib.Core.Bool.{Bool, true, false, cond}
 use mathlib.Core.List.{List, [], _∷_, _++_}
 use native.Mathlib.Omega.{arith}
 use lib.Dec.{ltb, leb, eqb}
@@ -11,7 +10,7 @@ use Rattle.reader.specs.Promises.{stepOf}
 use Rattle.reader.specs.declared.Answer.{Answer}
 use Rattle.reader.specs.declared.Answer.the-variants as answer
 use Rattle.text.specs.Decimals.{digitsOf, numberOf}
-use Rattle.text.proofs.Laws.{digits-long, number-long, signed-long}
+use Rattle.text.proofs.Laws.{on-cond, digits-long, number-long, signed-long}
 use Rattle.listing.specs.Lines.{width, newline, tab, saidBy}
 use Rattle.listing.specs.Items.{E, answerItems}
 use Rattle.listing.specs.Bytes.{buttonsOf, sumOf, lineD, lineR, lineH, lineE, lineOver, allBytes}
@@ -21,10 +20,6 @@ use Rattle.listing.specs.declared.Line.the-variants as line
 use Rattle.listing.specs.declared.Place.{Place}
 use Rattle.listing.specs.declared.Lister.{Lister}
 use Rattle.listing.proofs.Grown.{all-apart}
-
-on-cond : {A : Type 0} (P : A → Type 0) (t : Bool) (x y : A) → P x → P y → P (cond t x y)
-on-cond P true x y f g = f
-on-cond P false x y f g = g
 
 -- two lists, one behind the other
 both-few : (a b : List ℕ) (m n : ℕ) → length a ≤ m → length b ≤ n → length (a ++ b) ≤ m + n

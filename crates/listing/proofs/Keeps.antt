@@ -8,11 +8,11 @@ use lib.Dec.{leb, ltb, eqb}
 use lib.ListN.{length}
 use borrow.Author.Tests.{leb-true, leb-false, ltb-true, le-leb}
 use Rattle.numbers.proofs.Tested.{left, right}
-use Rattle.wire.specs.Line.{namedBy}
+use Rattle.wire.specs.Line.{namedBy, known}
 use Rattle.reader.specs.Good as reader
 use Rattle.reader.specs.Promises.{freshOf, stepOf}
 use Rattle.reader.specs.declared.Reader.{Reader}
-use Rattle.reader.proofs.Choices.{either}
+use Rattle.numbers.proofs.Choices.{cases}
 use Rattle.reader.proofs.Goodness as read
 use Rattle.listing.specs.Lines.{mostLines, newline, saidBy}
 use Rattle.listing.specs.Machine.{Saying, Turning, Feed, endedAt, atFirst, formatted, worded, obeyed, takenOf, endOf, atLine, fresh, unfinished, byteOf, closedOf, lastOf, feedIn, finishIn, good}
@@ -49,49 +49,49 @@ step-good : (r : Reader) (w : ℕ) → reader.good r ≡ true → reader.good (s
 step-good r w g = read.step-stays-good r w (stepOf r w) g refl .0
 
 pub fresh-is-good : good fresh ≡ true
-unfolding freshOf reader.known namedBy
+unfolding freshOf known namedBy
 fresh-is-good = made fresh (record { few = omega arith; reads = fresh-good 0x55 }) (omega arith)
 
 obeyed-kept : (p : Place) (l : Line) → Kept p → p .line < mostLines → Kept (obeyed p (p .line + 1) l .next)
 unfolding formatted worded
 obeyed-kept p line.Bad k h = record { few = k .few; reads = k .reads }
 obeyed-kept p (line.Format f) k h =
-    either (λ (s : Saying). Kept (s .next)) (atFirst p) _ _ (λ _. record { few = omega arith; reads = fresh-good f }) (λ _. record { few = k .few; reads = k .reads })
+    cases (λ (s : Saying). Kept (s .next)) (atFirst p) (λ _. record { few = omega arith; reads = fresh-good f }) (λ _. record { few = k .few; reads = k .reads })
 obeyed-kept p (line.Word w) k h =
-    either (λ (s : Saying). Kept (s .next)) (atFirst p) _ _ (λ _. record { few = k .few; reads = k .reads })
+    cases (λ (s : Saying). Kept (s .next)) (atFirst p) (λ _. record { few = k .few; reads = k .reads })
     (λ _. record { few = omega arith; reads = step-good (p .reader) w (k .reads) })
 
 taken-kept : (p : Place) (l : Line) → Kept p → Kept (takenOf p l .next)
 unfolding takenOf
 taken-kept p l k =
     let P : Saying → Type 0 = λ s. Kept (s .next) in
-    either P (p .ended) _ _ (λ _. k)
-    (λ _. either P (leb mostLines (p .line)) _ _ (λ _. record { few = k .few; reads = k .reads }) (λ e. obeyed-kept p l k (leb-false _ _ e)))
+    cases P (p .ended) (λ _. k)
+    (λ _. cases P (leb mostLines (p .line)) (λ _. record { few = k .few; reads = k .reads }) (λ e. obeyed-kept p l k (leb-false _ _ e)))
 
 end-kept : (p : Place) → Kept p → Kept (endOf p .next)
 unfolding endOf
 end-kept p k =
     let P : Saying → Type 0 = λ s. Kept (s .next) in
     let e : Kept (endedAt p) = record { few = k .few; reads = k .reads } in
-    either P (p .ended) _ _ (λ _. k) (λ _. either P (atFirst p) _ _ (λ _. e) (λ _. e))
+    cases P (p .ended) (λ _. k) (λ _. cases P (atFirst p) (λ _. e) (λ _. e))
 
 pub byte-stays-good : (m : Lister) (c : ℕ) → good m ≡ true → good (byteOf m c .next) ≡ true
 unfolding byteOf
 byte-stays-good m c g =
     let P : Turning → Type 0 = λ t. good (t .next) ≡ true in
     let at : (l : Line) → good (atLine (takenOf (m .place) l .next)) ≡ true = λ l. made (atLine (takenOf (m .place) l .next)) (taken-kept (m .place) l (kept m g)) (omega arith) in
-    either P (eqb c newline) _ _ (λ _. at (saidBy (unfinished m)))
-    (λ _. either P (ltb (m .count) 5) _ _ (λ e. made _ (kept m g) (omega (arith, ltb-true (m .count) 5 e))) (λ _. at line.Bad))
+    cases P (eqb c newline) (λ _. at (saidBy (unfinished m)))
+    (λ _. cases P (ltb (m .count) 5) (λ e. made _ (kept m g) (omega (arith, ltb-true (m .count) 5 e))) (λ _. at line.Bad))
 
 pub feed-stays-good : (input : List ℕ) (m : Lister) (room : ℕ) → good m ≡ true → good (feedIn m input room .next) ≡ true
 unfolding feedIn
 feed-stays-good [] m room g = g
 feed-stays-good (c ∷ cs) m room g =
-    either (λ (f : Feed). good (f .next) ≡ true) (ltb room (length (byteOf m c .text))) _ _ (λ _. g)
+    cases (λ (f : Feed). good (f .next) ≡ true) (ltb room (length (byteOf m c .text))) (λ _. g)
     (λ _. feed-stays-good cs (byteOf m c .next) (room - length (byteOf m c .text)) (byte-stays-good m c g))
 
 pub finish-stays-good : (m : Lister) (room : ℕ) → good m ≡ true → good (finishIn m room .next) ≡ true
 unfolding finishIn lastOf closedOf
 finish-stays-good m room g =
-    either (λ (f : Feed). good (f .next) ≡ true) (ltb room (length (lastOf m .text))) _ _ (λ _. g)
-    (λ _. made _ (end-kept _ (either (λ (s : Saying). Kept (s .next)) (eqb (m .count) 0) _ _ (λ _. kept m g) (λ _. taken-kept (m .place) (saidBy (unfinished m)) (kept m g)))) (omega arith))
+    cases (λ (f : Feed). good (f .next) ≡ true) (ltb room (length (lastOf m .text))) (λ _. g)
+    (λ _. made _ (end-kept _ (cases (λ (s : Saying). Kept (s .next)) (eqb (m .count) 0) (λ _. kept m g) (λ _. taken-kept (m .place) (saidBy (unfinished m)) (kept m g)))) (omega arith))

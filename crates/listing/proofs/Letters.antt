@@ -7,11 +7,11 @@ use lib.Dec.{eqb}
 use lib.IntN.{ℤ, natAbs}
 use borrow.Author.Tests.{eqb-false}
 use Rattle.wire.specs.Numbers.{success, badLetter, badState}
-use Rattle.wire.specs.Line.{letterOf}
+use Rattle.wire.specs.Line.{letterOf, known}
 use Rattle.wire.specs.declared.Report.{Report}
 use Rattle.wire.specs.declared.Format.the-variants.{FiveByte}
 use Rattle.reader.specs.State.{fresh, numbersOf}
-use Rattle.reader.specs.Good.{known, good}
+use Rattle.reader.specs.Good.{good}
 use Rattle.reader.specs.Rules.{refusing, silenceOf, wordOf}
 use Rattle.reader.specs.Promises.{newReader, freshOf, stepOf, Step, StepPromise}
 use Rattle.reader.specs.declared.Reader.{Reader}

@@ -9,7 +9,7 @@ use lib.Dec.{leb, ltb, eqb}
 use lib.ListN.{length, take, set, length-set}
 use lib.Seq.{take-suc-set, take-all}
 use borrow.Author.Tests.{eqb-true, eqb-false, ltb-true, ltb-false, ne-eqb}
-use Rattle.reader.proofs.Choices.{either}
+use Rattle.numbers.proofs.Choices.{cases}
 use Rattle.listing.specs.Lines.{width, mostLines, newline, front, linesIn, saidBy}
 use Rattle.listing.specs.Items.{Item}
 use Rattle.listing.specs.Bytes.{allBytes, opening}
@@ -50,7 +50,7 @@ pub bad-ends : (p : Place) → takenOf p line.Bad .next .ended ≡ true
 unfolding takenOf
 bad-ends p =
     let P : Saying → Type 0 = λ s. s .next .ended ≡ true in
-    either P (p .ended) _ _ (λ e. e) (λ _. either P (leb mostLines (p .line)) _ _ (λ _. refl) (λ _. refl))
+    cases P (p .ended) (λ e. e) (λ _. cases P (leb mostLines (p .line)) (λ _. refl) (λ _. refl))
 
 -- after a byte the opening has been written
 abbrev Opened : Lister → Type 0
@@ -81,15 +81,15 @@ taken-opened : (p : Place) (l : Line) → Opened (atLine (takenOf p l .next))
 unfolding takenOf formatted worded
 taken-opened p l =
     let P : Saying → Type 0 = λ s. Opened (atLine (s .next)) in
-    either P (p .ended) _ _ (λ e. ended-opened (atLine p) e)
-    (λ _. either P (leb mostLines (p .line)) _ _ (λ _. ended-opened (atLine (endedAt p)) refl) (λ _. go l))
+    cases P (p .ended) (λ e. ended-opened (atLine p) e)
+    (λ _. cases P (leb mostLines (p .line)) (λ _. ended-opened (atLine (endedAt p)) refl) (λ _. go l))
   where
     go : (l : Line) → Opened (atLine (obeyed p (p .line + 1) l .next))
     go line.Bad = ended-opened (atLine (endedAt p)) refl
     go (line.Format f) =
-        either (λ (s : Saying). Opened (atLine (s .next))) (atFirst p) _ _ (λ _. line-opened _ (λ e. omega arith)) (λ _. ended-opened (atLine (endedAt p)) refl)
+        cases (λ (s : Saying). Opened (atLine (s .next))) (atFirst p) (λ _. line-opened _ (λ e. omega arith)) (λ _. ended-opened (atLine (endedAt p)) refl)
     go (line.Word w) =
-        either (λ (s : Saying). Opened (atLine (s .next))) (atFirst p) _ _ (λ _. ended-opened (atLine (endedAt p)) refl) (λ _. line-opened _ (λ e. omega arith))
+        cases (λ (s : Saying). Opened (atLine (s .next))) (atFirst p) (λ _. ended-opened (atLine (endedAt p)) refl) (λ _. line-opened _ (λ e. omega arith))
 
 -- a line whose first five bytes are followed by more
 long : (p : Place) (l : List ℕ) (c : ℕ) (ls : List (List ℕ)) → length l ≡ 5 → linesFrom p (ahead l (front c ls)) ≡ takenOf p line.Bad .items

@@ -4,11 +4,11 @@ use mathlib.Core.List.{List, [], _∷_, map}
 use Prim.Native.Nat.{ℕ}
 use Rattle.numbers.specs.Bits.{number, bit, bits}
 use Rattle.numbers.specs.Signed.{untwos, signed}
-use Rattle.wire.specs.Line.{namedBy, sizeBy, markedBy}
+use Rattle.wire.specs.Line.{namedBy, sizeBy, markedBy, known}
 use Rattle.wire.specs.Fits.{like, fitsFirst, fitsLater, fitsAt, fitsBy}
 use Rattle.wire.specs.Reading.{reportBy, readV, readU}
 use Rattle.text.specs.Decimals.{digitsOf, numberOf, signedOf}
-use Rattle.reader.specs.Good.{known, placed, good}
+use Rattle.reader.specs.Good.{placed, good}
 use Rattle.reader.specs.Rules.{entered, dropping, keep, start, stray, lose, byteOf, breakOf, silenceOf, wordOf}
 use Rattle.reader.specs.Promises.{freshOf, stepOf}
 use Rattle.listing.specs.Lines.{linesIn, byteIn, markIn, formatIn, saidBy, wordsAfter, recordingOf}

@@ -1,7 +1,7 @@
 // The listing of a recording: a lister that is fed the input in pieces of any size.
 ghost use mathlib.Core.Path.{_≡_};
 ghost use lib.ListN.{length};
-ghost use Rattle.listing.specs.Machine.{atLine, feedIn, good};
+ghost use Rattle.listing.specs.Machine.{feedIn, good};
 ghost use Rattle.listing.specs.Promises.{FreshPromise, FeedPromise, FinishPromise, whole, written};
 use reader::Reader;
 use text::Text;

@@ -15,7 +15,7 @@ use Rattle.listing.specs.declared.Lister.{Lister}
 use Rattle.listing.specs.declared.Listed.{Listed}
 use Rattle.listing.proofs.Calls.{good-within, next-good, takes-all, tells-ended, goes-on}
 use Rattle.listing.proofs.Ended.{never-passed}
-use Rattle.mlist.specs.Blocks.{Fed, Leaves}
+use Rattle.mlist.specs.Blocks.{Leaves}
 
 module _ (m : Lister) (n : ℕ) (input before after : List ℕ) (a : Listed) (g : good m ≡ true) (p : FeedPromise m (take n input) before a after) where
   pub taken : 1 ≤ n → n ≤ length input → enough * length input ≤ length before → (shown : Bool) → Leaves m input before after (a .next) (shown && not (a .ended))

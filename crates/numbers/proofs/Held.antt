@@ -9,7 +9,7 @@ use lib.Signed.{mag, ltZ, leZ}
 use mir.Syntax.{Width, w16, w32}
 use mir.Val.{SFits, hbits}
 use borrow.Author.Tests.{ltb-false, le-leb}
-use Rattle.numbers.specs.Signed.{held, least, most, heldSum}
+use Rattle.numbers.specs.Signed.{held}
 
 -- what lies between two numbers of a width is a number of the width
 near-between : (m : ℕ) (lo hi x : ℤ) → mag lo < m → mag hi < m → ltZ x lo ≡ false → ltZ hi x ≡ false → mag x < m
@@ -70,7 +70,3 @@ mag-sum (negsuc a) (negsuc b) = omega arith
 
 pub sum-fits : {a b : ℤ} → SFits w16 a → SFits w16 b → SFits w32 (a +ℤ b)
 sum-fits {a} {b} h k = record { sfits = omega (arith, mag-sum a b, h .sfits, k .sfits) }
-
-pub heldSum-fits : (a b : ℤ) → SFits w16 (heldSum a b)
-unfolding heldSum
-heldSum-fits a b = held-fits least most (a +ℤ b) (record { sfits = omega arith }) (record { sfits = omega arith })

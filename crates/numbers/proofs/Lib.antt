@@ -1,5 +1,6 @@
 -- The laws that everything else cites, each once.
 pub mod Tested
+pub mod Choices
 pub mod Rows
 pub mod Twos
 pub mod Held

@@ -1,6 +1,6 @@
 -- Signed numbers in the machine: a signed local or field shows as what is read back from its bits, which is the number itself.
-use Prim.Native.Nat.{ℕ, zero, suc, _<_, _≤_, _^_}
-use mathlib.Core.Path.{_≡_, refl, _∙_, ap₂}
+use Prim.Native.Nat.{zero, suc, _<_, _≤_, _^_}
+use mathlib.Core.Path.{_≡_, _∙_, ap₂}
 use native.Mathlib.Omega.{arith}
 use lib.IntN.{ℤ, pos, negsuc, negℤ, negℤ-negℤ, _-ℤ_, +ℤ-idl}
 use lib.Signed.{mag}

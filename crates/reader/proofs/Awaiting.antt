@@ -9,10 +9,10 @@ use lib.Dec.{eqb}
 use lib.ListN.{length}
 use lib.IntN.{ℤ}
 use borrow.Author.Tests.{eqb-false}
-use Rattle.wire.specs.Line.{silence, letterOf, namedBy, markedBy}
+use Rattle.wire.specs.Line.{silence, letterOf, namedBy, markedBy, known}
 use Rattle.wire.specs.declared.Format.the-variants.{FiveByte}
 use Rattle.reader.specs.State.{fresh}
-use Rattle.reader.specs.Good.{known, good}
+use Rattle.reader.specs.Good.{good}
 use Rattle.reader.specs.Rules.{dropping, byteOf, breakOf, wordOf}
 use Rattle.reader.specs.Line.{Long, lineOf}
 use Rattle.reader.specs.Counts.{reportsIn, reportsAmong}
@@ -23,8 +23,7 @@ use Rattle.reader.specs.declared.NewReader.{NewReader}
 use Rattle.reader.specs.declared.Read.{Read}
 use Rattle.reader.specs.declared.Reading.{Reading}
 use Rattle.reader.specs.declared.Answer.{Answer}
-use Rattle.reader.specs.declared.Answer.the-variants.{Nothing, Dropped}
-use Rattle.reader.proofs.Choices.{either, or-left, or-right}
+use Rattle.numbers.proofs.Choices.{cases, neither}
 use Rattle.reader.proofs.Word.{by-kind, word-format}
 use Rattle.reader.proofs.Keeps.{word-good}
 use Rattle.reader.proofs.View.{Stops, Takes, view}
@@ -44,7 +43,7 @@ record Waited (s : Read) : Type 0 where
 
 dropping-reports : (k : ℕ) → reportsIn (dropping k) ≡ 0
 unfolding dropping
-dropping-reports k = either (λ (a : Answer). reportsIn a ≡ 0) (eqb k 0) Nothing (Dropped k) (λ _. refl) (λ _. refl)
+dropping-reports k = cases (λ (a : Answer). reportsIn a ≡ 0) (eqb k 0) (λ _. refl) (λ _. refl)
 
 word-waits : (r : Reader) (w : ℕ) → Waits r → eqb w silence ≡ false → Waited (wordOf r w)
 unfolding byteOf breakOf
@@ -64,8 +63,8 @@ steps-wait : (words : List ℕ) (r : Reader) → Waits r → hasSilence words �
 unfolding stepsOf reportsAmong hasSilence
 steps-wait [] r h n = refl
 steps-wait (w ∷ words) r h n =
-    let quiet = or-left (eqb w silence) (hasSilence words) n in
-    let rest = steps-wait words (wordOf r w .next) (next-waits r w h quiet) (or-right (eqb w silence) (hasSilence words) n) in
+    let quiet = neither (eqb w silence) (hasSilence words) n .0 in
+    let rest = steps-wait words (wordOf r w .next) (next-waits r w h quiet) (neither (eqb w silence) (hasSilence words) n .1) in
     rw (step-word r w (h .is-good)) (omega (arith, word-waits r w h quiet .none, rest))
 
 -- and over a line
@@ -84,10 +83,10 @@ line-waits (w ∷ words) r out h n = go (line-waits words) (view r w out)
     go : ((r : Reader) (out : List ℤ) → Waits r → hasSilence words ≡ false → Nothing-out out (lineOf r words out)) → Stops r w out ⊎ Takes r w out → Nothing-out out (lineOf r (w ∷ words) out)
     go ih (inl s) = rw (s .is words) (refl, refl)
     go ih (inr t) =
-        let quiet = or-left (eqb w silence) (hasSilence words) n in
+        let quiet = neither (eqb w silence) (hasSilence words) n .0 in
         let none : t .n ≡ 0 = t .reports ∙ word-waits r w h quiet .none in
         let front : t .front ≡ [] = empty (t .front) (omega (arith, t .sized)) in
-        let rest = ih (wordOf r w .next) out (next-waits r w h quiet) (or-right (eqb w silence) (hasSilence words) n) in
+        let rest = ih (wordOf r w .next) out (next-waits r w h quiet) (neither (eqb w silence) (hasSilence words) n .1) in
         rw (t .is words, front, none) (omega (arith, rest .0), rest .1)
 
 -- a fresh reader of an unmarked format waits; so does that of U, which comes for a letter that is not in the table

@@ -10,9 +10,9 @@ use lib.Seq.{take-suc-set, getD-take, getD-set-same, getD-set-other, length-take
 use lib.Dec.{eqb, eqb·suc-zero}
 use borrow.Author.Tests.{lt-ltb, eqb-true, eqb-false, eq-eqb}
 use Rattle.numbers.proofs.Tested.{holds}
-use Rattle.wire.specs.Line.{namedBy, sizeOf, sizeBy}
+use Rattle.wire.specs.Line.{namedBy, sizeOf, sizeBy, known}
 use Rattle.wire.specs.Fits.{fitsAt, fitsLater, fitsBy, allLater, valid}
-use Rattle.wire.specs.Reading.{reportOf, reportBy}
+use Rattle.wire.specs.Reading.{reportOf, reportBy, settledBy}
 use Rattle.wire.specs.Numbers.{success}
 use Rattle.wire.specs.Encoder.{Encoding, refusalOf, lengthOf, encodeIn}
 use Rattle.wire.specs.Promises.{EncodePromise}
@@ -21,24 +21,23 @@ use Rattle.wire.specs.declared.Format.{Format}
 use Rattle.wire.specs.declared.Named.{Named}
 use Rattle.wire.specs.declared.Named.the-variants.{Known, Unknown}
 use Rattle.wire.specs.declared.Encoded.{Encoded}
+use Rattle.wire.proofs.Accepts.{accepts}
+use Rattle.wire.proofs.Letters.{at-most-five}
+use Rattle.wire.proofs.Front.{same-front}
 use Rattle.wire.proofs.Codec as codec
 use Rattle.reader.specs.State.{keptIn}
-use Rattle.reader.specs.Good.{known, placed, good}
+use Rattle.reader.specs.Good.{placed, good}
 use Rattle.reader.specs.Rules.{entered, dropping, more, finishes, keep, start, lose, breakOf, silenceOf, wordOf}
 use Rattle.reader.specs.Promises.{StepPromise}
-use Rattle.reader.specs.Runs.{settledBy}
 use Rattle.reader.specs.declared.Reader.{Reader}
 use Rattle.reader.specs.declared.Read.{Read}
 use Rattle.reader.specs.declared.Answer.{Answer}
 use Rattle.reader.specs.declared.Answer.the-variants as answer
-use Rattle.reader.proofs.Choices.{either}
-use Rattle.reader.proofs.Letters.{at-most-five}
+use Rattle.numbers.proofs.Choices.{cases}
 use Rattle.reader.proofs.Good.{Parts, parts}
 use Rattle.reader.proofs.Word.{by-rules, by-kind}
 use Rattle.reader.proofs.Permitted.{step-is}
 use Rattle.reader.proofs.Goodness.{step-word}
-use Rattle.reader.proofs.Front.{same-front}
-use Rattle.reader.proofs.Encoded.{accepts}
 
 -- a word that is answered by a report is a byte that fits the last place
 record Finished (r : Reader) (w : ℕ) (p : Report) : Type 0 where
@@ -49,7 +48,7 @@ record Finished (r : Reader) (w : ℕ) (p : Report) : Type 0 where
 dropped-no-report : (k : ℕ) (p : Report) → dropping k ≡ answer.Report p → ⊥
 unfolding dropping
 dropped-no-report k p =
-    either (λ (a : Answer). a ≡ answer.Report p → ⊥) (eqb k 0) answer.Nothing (answer.Dropped k)
+    cases (λ (a : Answer). a ≡ answer.Report p → ⊥) (eqb k 0)
     (λ _ e. let z : _≡_ {A = ℕ} 0 1 = cc in omega arith)
     (λ _ e. let z : _≡_ {A = ℕ} 0 1 = cc in omega arith)
 
@@ -62,7 +61,7 @@ finished r w p =
     by-kind (Finishing r w p) r w
     (λ _. by-rules (Finishing r w p) r w
     (λ _ e. let z : _≡_ {A = ℕ} 0 1 = cc in absurd (omega arith))
-    (λ _ fit. either (Finishing r w p) (finishes r) _ _
+    (λ _ fit. cases (Finishing r w p) (finishes r)
     (λ last e. record { fit = fit; last = eqb-true (r .count + 1) (sizeBy (r .format)) last; is = cc })
     (λ _ e. let z : _≡_ {A = ℕ} 0 1 = cc in absurd (omega arith)))
     (λ _ _ _ e. absurd (dropped-no-report (r .count) p e))

@@ -13,8 +13,8 @@ use borrow.Author.Tests.{eqb-false}
 use Rattle.wire.specs.Line.{break, silence, sizeBy}
 use Rattle.wire.specs.Numbers.{badState}
 use Rattle.reader.specs.Good.{good}
-use Rattle.reader.specs.Rules.{entered, refusing, dropping, finishes, keep, start, lose, breakOf, silenceOf, wordOf}
-use Rattle.reader.specs.Line.{Long, stopped, lineOf}
+use Rattle.reader.specs.Rules.{entered, dropping, finishes, keep, start, lose, breakOf, silenceOf, wordOf}
+use Rattle.reader.specs.Line.{Long, lineOf}
 use Rattle.reader.specs.Counts.{byteIn, bytesIn, reportsIn, droppedIn}
 use Rattle.reader.specs.Promises.{StepPromise, ReadPromise, stepOf, readOf}
 use Rattle.reader.specs.declared.Reader.{Reader}
@@ -22,7 +22,7 @@ use Rattle.reader.specs.declared.Read.{Read}
 use Rattle.reader.specs.declared.Reading.{Reading}
 use Rattle.reader.specs.declared.Answer.{Answer}
 use Rattle.reader.specs.declared.Answer.the-variants.{Nothing, Report, Dropped}
-use Rattle.reader.proofs.Choices.{either}
+use Rattle.numbers.proofs.Choices.{cases}
 use Rattle.reader.proofs.Word.{by-rules, by-kind, Kept, dropping-is, word-kept, word-format}
 use Rattle.reader.proofs.View.{Stops, Takes, view}
 use Rattle.reader.proofs.Permitted.{step-is}
@@ -34,7 +34,7 @@ pub step-counts : (r : Reader) (w : ℕ) (s : Read) → StepPromise r w s → s 
 unfolding stepOf
 step-counts r w s e =
     rw (step-is r w s e)
-    (either (Kept r (byteIn w)) (good r) (wordOf r w) (refusing badState r) (λ _. word-kept r w) (λ _ z. absurd (eqb-false badState 0 refl z)))
+    (cases (Kept r (byteIn w)) (good r) (λ _. word-kept r w) (λ _ z. absurd (eqb-false badState 0 refl z)))
 
 -- a line, over the words taken
 abbrev Counted : ℕ → Reader → List ℕ → Reading → Type 0
@@ -59,7 +59,7 @@ pub read-counts : (r : Reader) (words : List ℕ) (out : List ℤ) (a : Reading)
 unfolding readOf bytesIn
 read-counts r words out a after e =
     rw (ap (λ (l : Long). l .reading) e)
-    (either (λ (l : Long). Counted (sizeBy (r .format)) r words (l .reading)) (good r) (lineOf r words out) (stopped badState r out)
+    (cases (λ (l : Long). Counted (sizeBy (r .format)) r words (l .reading)) (good r)
     (λ _. line-counts (sizeBy (r .format)) words r out refl) (λ _. omega arith))
 
 -- "where none is dropped the answer is nothing": never "dropped 0"
@@ -73,19 +73,19 @@ Fine s = SomeDropped (s .answer)
 
 dropping-some : (k : ℕ) → SomeDropped (dropping k)
 unfolding dropping
-dropping-some k = either SomeDropped (eqb k 0) Nothing (Dropped k) (λ _. tt) (λ e. let n = eqb-false k 0 e in omega arith)
+dropping-some k = cases SomeDropped (eqb k 0) (λ _. tt) (λ e. let n = eqb-false k 0 e in omega arith)
 
 word-drops-some : (r : Reader) (w : ℕ) → Fine (wordOf r w)
 unfolding keep start lose breakOf silenceOf
 word-drops-some r w =
     by-kind Fine r w
-    (λ _. by-rules Fine r (entered (r .format) w) (λ _. omega arith) (λ _ _. either Fine (finishes r) _ _ (λ _. tt) (λ _. tt)) (λ _ _ _. dropping-some (r .count)) (λ _ _ _. omega arith))
+    (λ _. by-rules Fine r (entered (r .format) w) (λ _. omega arith) (λ _ _. cases Fine (finishes r) (λ _. tt) (λ _. tt)) (λ _ _ _. dropping-some (r .count)) (λ _ _ _. omega arith))
     (λ _ _. dropping-some (r .count)) (λ _ _. dropping-some (r .count)) (λ _. tt)
 
 pub never-dropped-none : (r : Reader) (w : ℕ) (s : Read) → StepPromise r w s → s .answer ≡ Dropped 0 → ⊥
 unfolding stepOf
 never-dropped-none r w s e z =
-    let some = either Fine (good r) (wordOf r w) (refusing badState r) (λ _. word-drops-some r w) (λ _. tt) in
+    let some = cases Fine (good r) (λ _. word-drops-some r w) (λ _. tt) in
     omega (arith, subst SomeDropped (sym (ap (λ (t : Read). t .answer) (step-is r w s e)) ∙ z) some)
 
 -- "256 and 257 are never counted as bytes": they drop the kept bytes and no more

@@ -5,10 +5,9 @@ use mathlib.Core.Bool.{true}
 use mathlib.Core.List.{List, _∷_, _++_}
 use Rattle.wire.specs.Line.{markedOf}
 use Rattle.wire.specs.Holds.{carried}
-use Rattle.wire.specs.Passages.{Passage, silent, finished, Going}
+use Rattle.wire.specs.Passages.{Passage, silent, finished, Going, Sound, SoundGoing, Unbroken, finishedReports}
 use Rattle.wire.specs.declared.Report.{Report}
 use Rattle.wire.specs.declared.Format.{Format}
-use Rattle.wire.specs.Passages.{Sound, SoundGoing, Unbroken, finishedReports}
 use Rattle.reader.specs.Lines.{Given, HandsOut, HandsOutAt, Replaced, Within, EndsAt, Lost, of-finished, of-broken, of-going}
 use Rattle.reader.proofs.Stretch.{by-mark, by-silence, lost-finished, lost-broken, lost-going}
 

@@ -8,23 +8,23 @@ use lib.ListN.{getD}
 use lib.IntN.{ℤ, pos}
 use Rattle.numbers.specs.Bits.{bit, bits, number}
 use Rattle.numbers.specs.Signed.{minus, twos, untwos, signed}
-use Rattle.wire.specs.Line.{letterOf, namedBy, sizeBy, markedBy}
+use Rattle.wire.specs.Line.{letterOf, namedBy, sizeBy, markedBy, known, lineWords}
 use Rattle.wire.specs.Table.{bytesOf, bytesS, bytesT, bytesU}
 use Rattle.wire.specs.Holds.{holds, accepted}
 use Rattle.wire.specs.Fits.{like, fitsFirst, fitsLater, fitsAt, fitsBy}
 use Rattle.wire.specs.Reading.{readS, readT, readU, reportBy}
 use Rattle.wire.specs.Reading as reading
 use Rattle.wire.specs.Numbers.{success}
-use Rattle.wire.specs.Passages.{silent, finished, broken, nothing, report}
+use Rattle.wire.specs.Passages.{silent, finished, broken, nothing, report, Sound, Unbroken}
 use Rattle.wire.specs.declared.Report.{Report}
 use Rattle.wire.specs.declared.Format.{Format}
 use Rattle.wire.specs.declared.Format.the-variants.{Mm, FiveByte, ThreeByte}
 use Rattle.frames.specs.Line.{Sub, none, gone, stays}
 use Rattle.reader.specs.State.{fresh}
-use Rattle.reader.specs.Good.{known, placed, good}
+use Rattle.reader.specs.Good.{placed, good}
 use Rattle.reader.specs.Rules.{entered, dropping, keep, start, stray, lose, byteOf, breakOf, silenceOf, wordOf}
 use Rattle.reader.specs.Promises.{FreshPromise, ReadPromise, freshOf, stepOf}
-use Rattle.reader.specs.Runs.{stepsOf, StepsPromise, answers, lineWords}
+use Rattle.reader.specs.Runs.{stepsOf, StepsPromise, answers}
 use Rattle.reader.specs.declared.NewReader.{NewReader}
 use Rattle.reader.specs.declared.Read.{Read}
 use Rattle.reader.specs.declared.Reading.{Reading}
@@ -33,8 +33,7 @@ use Rattle.reader.specs.declared.Answer.the-variants.{Nothing, Dropped}
 use Rattle.reader.specs.declared.Answer.the-variants as answer
 use Rattle.reader.proofs.Permitted.{steps-are}
 use Rattle.reader.proofs.Framed.{fresh-named}
-use Rattle.wire.specs.Passages.{Sound, Unbroken}
-use Rattle.reader.specs.Lines.{no-word, a-break, handedOut, HandsOut, HandsOutAt, Replaced, Within, EndsAt, of-finished, of-broken, of-going}
+use Rattle.reader.specs.Lines.{no-word, a-break, HandsOut, HandsOutAt, Replaced, Within, EndsAt, of-finished, of-broken, of-going, handedOut}
 use Rattle.reader.proofs.Handed.{permitted}
 use Rattle.reader.proofs.Damaged.{marked, unmarked, exactly}
 

@@ -6,15 +6,14 @@ use lib.ListN.{replicate}
 use lib.IntN.{ℤ, pos}
 use Rattle.numbers.specs.Bits.{bit, bits, number}
 use Rattle.numbers.specs.Signed.{signed, untwos, minus}
-use Rattle.wire.specs.Line.{break, silence, namedBy, sizeBy, markedBy}
+use Rattle.wire.specs.Line.{break, silence, namedBy, sizeBy, markedBy, known}
 use Rattle.wire.specs.Fits.{like, fitsFirst, fitsLater, fitsAt, fitsBy}
-use Rattle.wire.specs.Reading.{readS, readU, reportBy, plusZero}
+use Rattle.wire.specs.Reading.{readS, readU, reportBy, plusZero, settledBy}
 use Rattle.reader.specs.State.{reader, fresh, ready}
-use Rattle.reader.specs.Good.{known, placed, good}
+use Rattle.reader.specs.Good.{placed, good}
 use Rattle.reader.specs.Rules.{entered, dropping, keep, start, lose, byteOf, breakOf, silenceOf, wordOf}
 use Rattle.reader.specs.Line.{whole, lineOf}
 use Rattle.reader.specs.Promises.{readOf}
-use Rattle.reader.specs.Runs.{settledBy}
 
 -- numbers that a lent slice held before
 abbrev old : ℤ

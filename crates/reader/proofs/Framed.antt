@@ -10,7 +10,7 @@ use lib.Seq.{length-take-le, take-suc-set, getD-take}
 use lib.Dec.{leb, eqb}
 use borrow.Author.Tests.{leb-true, leb-false, eqb-true, eqb-false, ne-eqb, not-true}
 use Rattle.numbers.proofs.Tested.{left, right}
-use Rattle.wire.specs.Line.{isByte, letterOf, namedBy, sizeOf, markedOf, sizeBy, markedBy}
+use Rattle.wire.specs.Line.{isByte, letterOf, namedBy, sizeOf, markedOf, sizeBy, markedBy, known, lineWords}
 use Rattle.wire.specs.Fits.{fitsAt, fitsBy}
 use Rattle.wire.specs.Reading.{reportOf, reportBy}
 use Rattle.wire.specs.Numbers.{success}
@@ -18,30 +18,29 @@ use Rattle.wire.specs.declared.Report.{Report}
 use Rattle.wire.specs.declared.Format.{Format}
 use Rattle.wire.specs.declared.Format.the-variants.{Mm, Microsoft, Absolute, Relative, FiveByte, ThreeByte, Hexadecimal}
 use Rattle.wire.specs.declared.Named.the-variants.{Known}
-use Rattle.wire.proofs.Answers.{letter-named}
+use Rattle.wire.proofs.Letters.{at-most-five, letter-named}
+use Rattle.wire.proofs.Front.{same-front}
 use Rattle.wire.proofs.Codec.{fits-byte, mark}
 use Rattle.frames.specs.Frame.{Frame, State, has, waits, moveOf, fresh, whole, keep, step}
 use Rattle.frames.specs.Frame as frame
 use Rattle.frames.specs.Line.{Laws, Marked}
 use Rattle.reader.specs.State.{keptIn, unmarked}
 use Rattle.reader.specs.State as reader
-use Rattle.reader.specs.Good.{known, good}
+use Rattle.reader.specs.Good.{good}
 use Rattle.reader.specs.Rules.{entered, dropping, fitting, more, starting, byteOf, breakOf, silenceOf, wordOf}
 use Rattle.reader.specs.Rules as rules
 use Rattle.reader.specs.Promises.{FreshPromise, stepOf, freshOf}
-use Rattle.reader.specs.Runs.{stepsOf, StepsPromise, answers, lineWords}
+use Rattle.reader.specs.Runs.{stepsOf, StepsPromise, answers}
 use Rattle.reader.specs.declared.Reader.{Reader}
 use Rattle.reader.specs.declared.NewReader.{NewReader}
 use Rattle.reader.specs.declared.Read.{Read}
 use Rattle.reader.specs.declared.Answer.{Answer}
 use Rattle.reader.specs.declared.Answer.the-variants as answer
-use Rattle.reader.proofs.Letters.{at-most-five}
 use Rattle.reader.proofs.Good.{Parts, parts}
 use Rattle.reader.proofs.Word.{by-rules, word-format}
 use Rattle.reader.proofs.Keeps.{word-good}
 use Rattle.reader.proofs.Goodness.{step-word, fresh-is-good}
 use Rattle.reader.proofs.Permitted.{steps-are}
-use Rattle.reader.proofs.Front.{same-front}
 
 -- the frame of a format: its bytes, size and mark by the table
 abbrev pub frameOf : Format → Frame Report

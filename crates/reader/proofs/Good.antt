@@ -1,28 +1,15 @@
 -- What a good reader has, part by part.
-use Prim.Native.Nat.{ℕ, zero, suc, _<_}
-use mathlib.Core.Path.{_≡_, refl}
-use mathlib.Core.Bool.{Bool, true, false, _&&_}
-use native.Mathlib.Omega.{arith}
+use Prim.Native.Nat.{ℕ, _<_}
+use mathlib.Core.Path.{_≡_}
+use mathlib.Core.Bool.{Bool, true, _&&_}
 use lib.ListN.{length, getD}
 use lib.Dec.{eqb}
-use borrow.Author.Tests.{ltb-true, lt-ltb, eqb-true, eq-eqb, eqb-false}
-use Rattle.numbers.proofs.Tested.{left, right}
-use Rattle.wire.specs.Line.{sizeBy}
-use Rattle.reader.specs.Good.{known, belowSize, placed, each, allPlaced, awaitsRightly, good}
+use borrow.Author.Tests.{ltb-true, lt-ltb, eqb-true, eq-eqb}
+use Rattle.numbers.proofs.Tested.{left, right, each-at, each-of}
+use Rattle.wire.specs.Line.{sizeBy, known}
+use Rattle.numbers.specs.Tests.{each}
+use Rattle.reader.specs.Good.{belowSize, placed, allPlaced, awaitsRightly, good}
 use Rattle.reader.specs.declared.Reader.{Reader}
-
--- a test that holds at each place
-pub each-at : (test : ℕ → Bool) (n : ℕ) → each test n ≡ true → (i : ℕ) → i < n → test i ≡ true
-each-at test zero e i h = absurd (omega arith)
-each-at test (suc n) e i h = go (each-at test n (left (each test n) (test n) e) i) (eqb i n) refl
-  where
-    go : (i < n → test i ≡ true) → (t : Bool) → eqb i n ≡ t → test i ≡ true
-    go ih true q = rw (eqb-true i n q) (right (each test n) (test n) e)
-    go ih false q = let d = eqb-false i n q in ih (omega arith)
-
-pub each-of : (test : ℕ → Bool) (n : ℕ) → ((i : ℕ) → i < n → test i ≡ true) → each test n ≡ true
-each-of test zero h = refl
-each-of test (suc n) h = rw (each-of test n (λ i l. h i (omega arith)), h n (omega arith))
 
 pub record Parts (r : Reader) : Type 0 where
   pub of-known : known (r .format) ≡ true

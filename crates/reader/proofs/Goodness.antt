@@ -6,18 +6,17 @@ use mathlib.Core.Logic.{_⊎_, inl, inr}
 use mathlib.Core.List.{List, [], _∷_}
 use lib.ListN.{drop}
 use lib.IntN.{ℤ}
-use Rattle.wire.specs.Line.{letterOf, namedBy}
+use Rattle.wire.specs.Line.{letterOf, namedBy, known}
 use Rattle.wire.specs.declared.Format.the-variants.{FiveByte}
-use Rattle.reader.specs.State.{fresh}
-use Rattle.reader.specs.Good.{known, good}
+use Rattle.reader.specs.Good.{good}
 use Rattle.reader.specs.Rules.{wordOf}
 use Rattle.reader.specs.Line.{Long, lineOf}
-use Rattle.reader.specs.Promises.{FreshPromise, StepPromise, ReadPromise, newReader, freshOf, stepOf, readOf}
+use Rattle.reader.specs.Promises.{FreshPromise, StepPromise, ReadPromise, freshOf, stepOf, readOf}
 use Rattle.reader.specs.declared.Reader.{Reader}
 use Rattle.reader.specs.declared.NewReader.{NewReader}
 use Rattle.reader.specs.declared.Read.{Read}
 use Rattle.reader.specs.declared.Reading.{Reading}
-use Rattle.reader.proofs.Choices.{either}
+use Rattle.numbers.proofs.Choices.{cases}
 use Rattle.reader.proofs.Word.{word-format}
 use Rattle.reader.proofs.Keeps.{fresh-good, word-good}
 use Rattle.reader.proofs.View.{Stops, Takes, view}
@@ -37,7 +36,7 @@ pub fresh-is-good : (letter : ℕ) (a : NewReader) → FreshPromise letter a →
 unfolding freshOf known namedBy
 fresh-is-good letter a e =
     rw e
-    (either (λ (n : NewReader). good (n .reader) ≡ true) (known letter) (newReader 0 (fresh letter)) (newReader 1 (fresh (letterOf FiveByte)))
+    (cases (λ (n : NewReader). good (n .reader) ≡ true) (known letter)
     (fresh-good letter) (λ _. fresh-good (letterOf FiveByte) refl))
 
 pub step-stays-good : (r : Reader) (w : ℕ) (s : Read) → good r ≡ true → StepPromise r w s → (good (s .next) ≡ true) × (s .next .format ≡ r .format)

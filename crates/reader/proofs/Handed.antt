@@ -9,7 +9,7 @@ use native.Mathlib.Omega.{arith}
 use lib.ListN.{length, getD, take, drop, List·getD-map}
 use lib.Seq.{drop-at}
 use lib.IntN.{ℤ}
-use Rattle.wire.specs.Line.{break, letterOf, markedOf}
+use Rattle.wire.specs.Line.{break, letterOf, markedOf, lineWords}
 use Rattle.wire.specs.declared.Report.{Report}
 use Rattle.wire.specs.declared.Format.{Format}
 use Rattle.frames.specs.Frame.{State, has, waits, moveOf, fresh, step}
@@ -18,13 +18,13 @@ use Rattle.frames.proofs.Reading.{on}
 use Rattle.frames.proofs.Replaced as replaced
 use Rattle.reader.specs.State.{fiveOf}
 use Rattle.reader.specs.Promises.{FreshPromise}
-use Rattle.reader.specs.Runs.{stepsOf, StepsPromise, answers, lineWords}
+use Rattle.reader.specs.Runs.{stepsOf, StepsPromise, answers}
 use Rattle.reader.specs.declared.Reader.{Reader}
 use Rattle.reader.specs.declared.NewReader.{NewReader}
 use Rattle.reader.specs.declared.Read.{Read}
 use Rattle.reader.specs.declared.Answer.{Answer}
 use Rattle.reader.specs.declared.Answer.the-variants as answer
-use Rattle.reader.specs.Lines.{Given, no-word, a-break, handedOut, numbers, HandsOut, HandsOutAt}
+use Rattle.reader.specs.Lines.{Given, no-word, a-break, HandsOut, HandsOutAt, handedOut, numbers}
 use Rattle.reader.proofs.Framed.{frameOf, told, framed}
 use Rattle.reader.proofs.Took.{took}
 

@@ -9,15 +9,15 @@ use lib.Seq.{getD-set-same, getD-set-other}
 use lib.Dec.{ltb, eqb}
 use borrow.Author.Tests.{lt-ltb, le-ltb, ltb-true, ltb-false, eqb-true, eqb-false}
 use Rattle.numbers.proofs.Tested.{right}
-use Rattle.wire.specs.Line.{sizeBy, markedBy}
+use Rattle.wire.specs.Line.{sizeBy, markedBy, known}
 use Rattle.wire.specs.Fits.{fitsBy}
 use Rattle.reader.specs.State.{reader, unmarked, noBytes, fresh, ready}
-use Rattle.reader.specs.Good.{known, placed, good}
+use Rattle.reader.specs.Good.{placed, good}
 use Rattle.reader.specs.Rules.{entered, fitting, more, finishes, keep, start, lose, byteOf, breakOf, silenceOf, wordOf}
 use Rattle.reader.specs.declared.Reader.{Reader}
 use Rattle.reader.specs.declared.Read.{Read}
-use Rattle.reader.proofs.Choices.{either}
-use Rattle.reader.proofs.Letters.{at-most-five, at-least-three, size-positive}
+use Rattle.numbers.proofs.Choices.{cases}
+use Rattle.wire.proofs.Letters.{at-most-five, at-least-three, size-positive}
 use Rattle.reader.proofs.Good.{Parts, parts, made}
 use Rattle.reader.proofs.Word.{by-rules, by-kind}
 
@@ -87,7 +87,7 @@ module _ (r : Reader) (g : good r ≡ true) where
   unfolding keep start lose
   byte-good b =
       by-rules Fine r b (λ _. g)
-      (λ _ fit. either Fine (finishes r) _ _ (λ _. ready-good (r .format) (p .of-known)) (λ e. kept-good b fit (eqb-false (r .count + 1) (sizeBy (r .format)) e)))
+      (λ _ fit. cases Fine (finishes r) (λ _. ready-good (r .format) (p .of-known)) (λ e. kept-good b fit (eqb-false (r .count + 1) (sizeBy (r .format)) e)))
       (λ _ _ s. started-good (r .format) b (p .of-known) (omega (arith, at-least-three (r .format) (r .count) (p .below))) (right (markedBy (r .format)) (fitsBy (r .format) 0 b) s))
       (λ _ _ _. fresh-good (r .format) (p .of-known))
 

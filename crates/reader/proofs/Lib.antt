@@ -1,8 +1,6 @@
 -- The laws of the reader: Permitted (one answer), Refusals, Room, Steps (word by word), Goodness, Counting, Joining, There, Back, Awaiting,
 -- Useless, Sentences and Nowhere (sentences of the paper), Figures, Examples, Wrong (wrong answers); and what their proofs and those of the
 -- functions share.
-pub mod Choices
-pub mod Letters
 pub mod Good
 pub mod Word
 pub mod Keeps
@@ -18,8 +16,6 @@ pub mod Joining
 pub mod Room
 pub mod Steps
 pub mod Awaiting
-pub mod Front
-pub mod Encoded
 pub mod There
 pub mod Back
 pub mod Useless

@@ -18,7 +18,7 @@ use Rattle.reader.specs.declared.Reader.{Reader}
 use Rattle.reader.specs.declared.Reading.{Reading}
 use Rattle.reader.proofs.View.{Stops, Takes, view}
 use Rattle.reader.proofs.Word.{word-format, word-below}
-use Rattle.reader.proofs.Choices.{either}
+use Rattle.numbers.proofs.Choices.{cases}
 use Rattle.reader.proofs.Joined.{joined-joined}
 
 -- where the loop stands: what is done, and what is left
@@ -26,7 +26,7 @@ abbrev pub standing : List ℕ → List ℤ → Reader → ℕ → ℕ → ℕ �
 standing words out r at used reports dropped = joined at reports dropped (take used out) (lineOf r (drop at words) (drop used out))
 
 one-byte : (w : ℕ) → byteIn w ≤ 1
-one-byte w = either (λ n. n ≤ 1) (isByte w) 1 0 (λ _. omega arith) (λ _. omega arith)
+one-byte w = cases (λ n. n ≤ 1) (isByte w) (λ _. omega arith) (λ _. omega arith)
 
 -- what a turn that took its word did
 pub record Turned (r : Reader) (w : ℕ) (o : List ℤ) (t : Reading) (last : List ℤ) : Type 0 where

@@ -2,7 +2,7 @@
 -- with the k kept, k+1; U, T, W then await silence".
 use Prim.Native.Nat.{ℕ, _+_, _<_, _≤_}
 use mathlib.Core.Path.{_≡_, refl}
-use mathlib.Core.Bool.{Bool, true, false, not, cond, _&&_}
+use mathlib.Core.Bool.{Bool, true, false, not, cond, and-false}
 use native.Mathlib.Omega.{arith}
 use lib.Dec.{ltb, eqb}
 use borrow.Author.Tests.{le-ltb, lt-leb}
@@ -31,10 +31,6 @@ no-place f place b first later = go (eqb place 0)
     go : (t : Bool) → cond t (fitsFirst f b) (fitsLater f b) ≡ false
     go true = first
     go false = later
-
-and-false : (a : Bool) → a && false ≡ false
-and-false true = refl
-and-false false = refl
 
 -- S: wrong fixed bits in a byte that has the mark
 above-9F : (place b : ℕ) → 0xA0 ≤ b → b ≤ 255 → fitsAt Mm place b ≡ false

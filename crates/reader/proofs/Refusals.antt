@@ -9,12 +9,12 @@ use native.Mathlib.Omega.{arith}
 use lib.ListN.{length, getD, drop}
 use lib.IntN.{ℤ}
 use borrow.Author.Tests.{lt-leb, ne-eqb}
-use Rattle.wire.specs.Line.{break, silence}
+use Rattle.wire.specs.Line.{break, silence, known}
 use Rattle.wire.specs.Numbers.{success, badState, badLetter, badWord}
 use Rattle.reader.specs.State.{fresh}
-use Rattle.reader.specs.Good.{known, good}
+use Rattle.reader.specs.Good.{good}
 use Rattle.reader.specs.Rules.{refusing, wordOf}
-use Rattle.reader.specs.Line.{Long, whole, stopped, joined, lineOf}
+use Rattle.reader.specs.Line.{Long, whole, stopped, joined, lineOf, withRefusal}
 use Rattle.reader.specs.Promises.{FreshPromise, StepPromise, ReadPromise, newReader, freshOf, stepOf, readOf}
 use Rattle.reader.specs.declared.Reader.{Reader}
 use Rattle.reader.specs.declared.NewReader.{NewReader}
@@ -59,19 +59,6 @@ word-taken r w h = go (word-number r w)
 
 pub takes-line-words : (r : Reader) (w : ℕ) (s : Read) → good r ≡ true → w ≤ silence → StepPromise r w s → s .refusal ≡ success
 takes-line-words r w s g h e = rw (step-is r w s e ∙ step-word r w g) (word-taken r w h)
-
--- "4 in a long read, which returns the reader, reports and counts as they stand before the bad word"
-abbrev pub withRefusal : ℕ → Long → Long
-withRefusal n l =
-    whole
-    (record {
-      refusal = n;
-      next = l .reading .next;
-      taken = l .reading .taken;
-      reports = l .reading .reports;
-      dropped = l .reading .dropped;
-    })
-    (l .out)
 
 line-bad-word : (p q : List ℕ) (w : ℕ) (r : Reader) (out : List ℤ) → silence < w → lineOf r p out .reading .taken ≡ length p → lineOf r (p ++ w ∷ q) out ≡ withRefusal badWord (lineOf r p out)
 unfolding lineOf

@@ -11,18 +11,16 @@ use lib.Seq.{getD-take}
 use lib.Dec.{leb}
 use borrow.Author.Tests.{le-leb}
 use Rattle.numbers.proofs.Tested.{left, right}
-use Rattle.wire.specs.Line.{sizeOf}
+use Rattle.wire.specs.Line.{sizeOf, lineWords}
 use Rattle.wire.specs.Table.{bytesOf}
 use Rattle.wire.specs.Holds.{accepted}
 use Rattle.wire.specs.Fits.{fitsAt}
-use Rattle.wire.specs.Passages.{Passage, silent, finished, broken, reply, brokenReply, wordsOf, passageWords, Going, nothing, report, answer, goingWords}
+use Rattle.wire.specs.Passages.{Passage, silent, finished, broken, reply, brokenReply, wordsOf, passageWords, Going, nothing, report, answer, goingWords, SoundOf, Sound, SoundGoing, Unbroken, finishedIn, finishedReports}
 use Rattle.wire.specs.declared.Report.{Report}
 use Rattle.wire.specs.declared.Format.{Format}
 use Rattle.wire.proofs.Codec.{bytes-length, bytes-fit, there}
 use Rattle.frames.specs.Line.{Segment, silence, sent, cut, words, Calm, Fits, Full, Short, Part}
 use Rattle.frames.specs.Line as line
-use Rattle.reader.specs.Runs.{lineWords}
-use Rattle.wire.specs.Passages.{SoundOf, Sound, SoundGoing, Unbroken, finishedIn, finishedReports}
 use Rattle.reader.proofs.Framed.{frameOf, two, laws}
 
 -- legal words, joined and taken apart
@@ -70,10 +68,6 @@ words-of (brokenReply n bytes) = refl
 pub same-words : (passages : List Passage) → words (segments passages) ≡ passageWords passages
 same-words [] = refl
 same-words (p ∷ passages) = rw (words-of p, same-words passages)
-
-pub words-append : (l m : List Passage) → passageWords (l ++ m) ≡ passageWords l ++ passageWords m
-words-append [] m = refl
-words-append (p ∷ l) m = rw (words-append l m, append-assoc)
 
 -- and none is broken off where no passage is
 pub calm : (passages : List Passage) → Unbroken passages → Calm (segments passages)

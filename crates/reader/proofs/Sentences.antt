@@ -13,6 +13,7 @@ use Rattle.wire.specs.Line.{namedBy, ofNamed, sizeBy, markedOf, markedBy}
 use Rattle.wire.specs.Fits.{fitsAt, fitsBy}
 use Rattle.wire.specs.declared.Named.{Named}
 use Rattle.wire.specs.declared.Named.the-variants.{Known, Unknown}
+use Rattle.wire.proofs.Letters.{at-most-five, at-least-three}
 use Rattle.wire.proofs.Codec.{mark}
 use Rattle.reader.specs.State.{reader, keptIn, fresh}
 use Rattle.reader.specs.Good.{placed, good}
@@ -21,7 +22,6 @@ use Rattle.reader.specs.Promises.{StepPromise}
 use Rattle.reader.specs.declared.Reader.{Reader}
 use Rattle.reader.specs.declared.Read.{Read}
 use Rattle.reader.specs.declared.Answer.the-variants.{Dropped}
-use Rattle.reader.proofs.Letters.{at-most-five, at-least-three}
 use Rattle.reader.proofs.Good.{parts}
 use Rattle.reader.proofs.Word.{lost-is}
 use Rattle.reader.proofs.Permitted.{step-is}

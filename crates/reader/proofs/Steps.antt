@@ -11,14 +11,14 @@ use lib.Dec.{leb}
 use lib.IntN.{ℤ}
 use borrow.Author.Tests.{leb-true, eq-eqb}
 use Rattle.numbers.proofs.Tested.{left, right}
-use Rattle.wire.specs.Line.{silence}
+use Rattle.wire.specs.Line.{silence, lineWords}
 use Rattle.wire.specs.Numbers.{success}
 use Rattle.reader.specs.Good.{good}
 use Rattle.reader.specs.Rules.{wordOf}
 use Rattle.reader.specs.Line.{Long, whole, joined, lineOf}
 use Rattle.reader.specs.Counts.{reportsIn, droppedIn, writtenIn, reportsAmong, droppedAmong, writtenAmong}
 use Rattle.reader.specs.Promises.{ReadPromise}
-use Rattle.reader.specs.Runs.{stepsOf, StepsPromise, answers, readerAfter, lineWords}
+use Rattle.reader.specs.Runs.{stepsOf, StepsPromise, answers, readerAfter}
 use Rattle.reader.specs.declared.Reader.{Reader}
 use Rattle.reader.specs.declared.Read.{Read}
 use Rattle.reader.specs.declared.Reading.{Reading}

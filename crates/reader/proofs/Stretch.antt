@@ -7,22 +7,21 @@ use native.Mathlib.Omega.{arith}
 use lib.ListN.{length, take, length-append}
 use lib.Dec.{leb}
 use Rattle.numbers.proofs.Tested.{left, right}
-use Rattle.wire.specs.Line.{break, sizeOf, markedOf}
+use Rattle.wire.specs.Line.{break, sizeOf, markedOf, lineWords}
 use Rattle.wire.specs.Table.{bytesOf}
 use Rattle.wire.specs.Holds.{accepted, carried}
 use Rattle.wire.specs.Reading.{reportOf}
-use Rattle.wire.specs.Passages.{Passage, silent, finished, broken, passageWords, Going, report, goingWords}
+use Rattle.wire.specs.Passages.{Passage, silent, finished, broken, passageWords, Going, report, goingWords, Sound, SoundGoing, Unbroken, finishedReports}
 use Rattle.wire.specs.declared.Report.{Report}
 use Rattle.wire.specs.declared.Format.{Format}
+use Rattle.wire.proofs.Sender.{passages-append}
 use Rattle.wire.proofs.Codec.{bytes-length, there}
 use Rattle.frames.specs.Line.{Sub, none, gone, stays, words}
 use Rattle.frames.specs.Frame as frame
 use Rattle.frames.proofs.Replaced as replaced
-use Rattle.reader.specs.Runs.{lineWords}
-use Rattle.wire.specs.Passages.{Sound, SoundGoing, Unbroken, finishedReports}
 use Rattle.reader.specs.Lines.{Given, HandsOut, HandsOutAt, Replaced, Within, EndsAt}
 use Rattle.reader.proofs.Framed.{frameOf, two, laws, is-marked}
-use Rattle.reader.proofs.Segments.{legal-append, legal-replaced, segments, segments-append, same-words, words-append, calm, whole-report, part-report, sound, sound-going, same-finished, sound-left, sound-right, finished-append, fits-legal, passages-legal, line-legal}
+use Rattle.reader.proofs.Segments.{legal-append, legal-replaced, segments, segments-append, same-words, calm, whole-report, part-report, sound, sound-going, same-finished, sound-left, sound-right, finished-append, fits-legal, passages-legal, line-legal}
 use Rattle.reader.proofs.Handed.{hands-out, hands-out-at, behind-given, read-given, given-legal}
 
 -- the finished report r stands on the line between `before` and `after`, and i is the place of its last byte when `old` is replaced by `new`
@@ -33,7 +32,7 @@ module _ (f : Format) (passages : List Passage) (going : Going) (given pre old n
   rest = passageWords after ++ goingWords going
 
   as-sent : words (segments before) ++ (bytesOf f r ++ rest) ≡ pre ++ (old ++ post)
-  as-sent = rw (same-words before) (simp (is, words-append, append-assoc) at (l .as-sent))
+  as-sent = rw (same-words before) (simp (is, passages-append, append-assoc) at (l .as-sent))
 
   all-sound : Sound f (before ++ (finished f r ∷ after))
   all-sound = rw is at (l .sound)
@@ -69,7 +68,7 @@ module _ (f : Format) (passages : List Passage) (going : Going) (given pre old n
       → HandsOutAt f (given ++ (pre ++ (new ++ post))) i (carried f r)
   by-silence front quiet e u h =
       let before-sound : Sound f (front ++ (silent ∷ quiet)) = rw e at (sound-left f before (finished f r ∷ after) all-sound) in
-      let longer : length (passageWords front) ≤ length (passageWords before) = rw (e, words-append, length-append) (omega arith) in
+      let longer : length (passageWords front) ≤ length (passageWords before) = rw (e, passages-append, length-append) (omega arith) in
       handed (omega arith)
       (λ j at.
       replaced.unmarked (frameOf f) (segments before) (bytesOf f r) (whole-report f r is-accepted) rest pre old post new as-sent j at (laws f)

@@ -13,9 +13,9 @@ use lib.IntN.{ℤ}
 use lib.Dec.{eqb}
 use borrow.Author.Tests.{le-leb, le-ltb, eq-eqb, ne-eqb, eqb-true}
 use Rattle.numbers.proofs.Tested.{left, holds}
-use Rattle.wire.specs.Line.{namedBy, sizeOf, sizeBy}
+use Rattle.wire.specs.Line.{namedBy, sizeOf, sizeBy, known}
 use Rattle.wire.specs.Table.{bytesOf}
-use Rattle.wire.specs.Holds.{accepted}
+use Rattle.wire.specs.Holds.{accepted, carriedBy}
 use Rattle.wire.specs.Fits.{fitsAt, fitsFirst, fitsBy, allLater, valid}
 use Rattle.wire.specs.Reading.{reportOf, reportBy}
 use Rattle.wire.specs.Numbers.{success}
@@ -26,25 +26,24 @@ use Rattle.wire.specs.declared.Format.{Format}
 use Rattle.wire.specs.declared.Named.{Named}
 use Rattle.wire.specs.declared.Named.the-variants.{Known, Unknown}
 use Rattle.wire.specs.declared.Encoded.{Encoded}
+use Rattle.wire.proofs.Accepts.{done}
 use Rattle.wire.proofs.Codec as codec
 use Rattle.wire.proofs.Codec.Shapes.{valid-fits}
-use Rattle.wire.proofs.Front.{size-small}
+use Rattle.wire.proofs.Front.{size-small, same-front}
 use Rattle.reader.specs.State.{reader, ready, fiveOf}
-use Rattle.reader.specs.Good.{known, good}
+use Rattle.reader.specs.Good.{good}
 use Rattle.reader.specs.Rules.{entered, answered, keep, byteOf, wordOf}
 use Rattle.reader.specs.Line.{whole, lineOf}
 use Rattle.reader.specs.Promises.{ReadPromise}
-use Rattle.reader.specs.Runs.{stepsOf, StepsPromise, answers, readerAfter, carriedBy}
+use Rattle.reader.specs.Runs.{stepsOf, StepsPromise, answers, readerAfter}
 use Rattle.reader.specs.declared.Reader.{Reader}
 use Rattle.reader.specs.declared.Read.{Read}
 use Rattle.reader.specs.declared.Reading.{Reading}
 use Rattle.reader.specs.declared.Answer.{Answer}
 use Rattle.reader.specs.declared.Answer.the-variants as answer
-use Rattle.reader.proofs.Front.{same-front}
 use Rattle.reader.proofs.Keeps.{ready-good, word-good}
 use Rattle.reader.proofs.Permitted.{steps-are}
 use Rattle.reader.proofs.Goodness.{step-word, read-line}
-use Rattle.reader.proofs.Encoded.{done}
 
 -- a byte that fits its place
 fitted : (r : Reader) (b : ℕ) → b < 256 → r .awaiting ≡ false → fitsBy (r .format) (r .count) b ≡ true → wordOf r b ≡ keep r b
@@ -166,9 +165,6 @@ sent letter p before after e h z = go (namedBy letter) refl
           sized = size;
           are = rw (size, buffer) (take-at (bytesOf f p) (drop (sizeOf f) before) (sizeOf f) (codec.bytes-length f p));
         }
-
-pub sent-length : (letter : ℕ) (p : Report) (before after : List ℕ) (e : Encoded) → EncodePromise letter p before e after → refusalOf e ≡ success → length (take (lengthOf e) after) ≡ lengthOf e
-sent-length letter p before after e h z = let t = sent letter p before after e h z in ap length (t .are) ∙ codec.bytes-length (t .f) p ∙ sym (t .sized)
 
 carried-is : (letter : ℕ) (f : Format) (p : Report) → namedBy letter ≡ Known f → accepted f p ≡ true → reportOf f (bytesOf f p) ≡ carriedBy letter p
 unfolding carriedBy

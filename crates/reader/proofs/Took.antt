@@ -7,14 +7,14 @@ use native.Mathlib.Nat.{zero-add}
 use native.Mathlib.Numerals.{one-add}
 use lib.ListN.{length}
 use lib.IntN.{ℤ}
-use Rattle.wire.specs.Line.{letterOf}
+use Rattle.wire.specs.Line.{letterOf, lineWords}
 use Rattle.wire.specs.declared.Report.{Report}
 use Rattle.wire.specs.declared.Format.{Format}
 use Rattle.reader.specs.State.{fiveOf}
 use Rattle.reader.specs.Line.{Long}
 use Rattle.reader.specs.Counts.{reportsAmong, writtenAmong}
 use Rattle.reader.specs.Promises.{FreshPromise, ReadPromise}
-use Rattle.reader.specs.Runs.{stepsOf, StepsPromise, answers, lineWords}
+use Rattle.reader.specs.Runs.{stepsOf, StepsPromise, answers}
 use Rattle.reader.specs.declared.Reader.{Reader}
 use Rattle.reader.specs.declared.NewReader.{NewReader}
 use Rattle.reader.specs.declared.Read.{Read}
@@ -24,7 +24,7 @@ use Rattle.reader.specs.declared.Answer.the-variants as answer
 use Rattle.reader.proofs.Goodness.{fresh-is-good}
 use Rattle.reader.proofs.Permitted.{steps-are}
 use Rattle.reader.proofs.Steps.{word-by-word}
-use Rattle.reader.specs.Lines.{handedOut, numbers, Took}
+use Rattle.reader.specs.Lines.{Took, handedOut, numbers}
 
 -- the reports among answers are as many as are counted, and their numbers are those written
 counted : (l : List Answer) → reportsAmong l ≡ length (handedOut l)

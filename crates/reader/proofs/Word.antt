@@ -14,9 +14,8 @@ use Rattle.reader.specs.Rules.{entered, refusing, dropping, alone, fitti
 use Rattle.reader.specs.Counts.{byteIn, reportsIn, droppedIn}
 use Rattle.reader.specs.declared.Reader.{Reader}
 use Rattle.reader.specs.declared.Read.{Read}
-use Rattle.reader.specs.declared.Answer.the-variants.{Nothing, Dropped}
-use Rattle.reader.proofs.Choices.{either}
-use Rattle.reader.proofs.Letters.{at-least-three}
+use Rattle.numbers.proofs.Choices.{cases}
+use Rattle.wire.proofs.Letters.{at-least-three}
 
 -- a byte that strays is lost alone
 stray-lost : (r : Reader) (b : ℕ) → straying r b ≡ true → stray r ≡ lose r
@@ -26,7 +25,7 @@ stray-lost r b e =
     rw (left (markedBy (r .format)) (eqb (r .count) 0) both, eqb-true (r .count) 0 (right (markedBy (r .format)) (eqb (r .count) 0) both))
 
 pub strays-as-lost : (r : Reader) (b : ℕ) → cond (straying r b) (stray r) (lose r) ≡ lose r
-strays-as-lost r b = either (λ (s : Read). s ≡ lose r) (straying r b) (stray r) (lose r) (stray-lost r b) (λ _. refl)
+strays-as-lost r b = cases (λ (s : Read). s ≡ lose r) (straying r b) (stray-lost r b) (λ _. refl)
 
 -- a byte is dropped alone while awaiting, kept, the start of a report, or lost
 pub by-rules : (P : Read → Type 0) (r : Reader) (b : ℕ)
@@ -37,9 +36,9 @@ pub by-rules : (P : Read → Type 0) (r : Reader) (b : ℕ)
     → P (byteOf r b)
 unfolding byteOf
 by-rules P r b waits keeps starts loses =
-    either P (r .awaiting) _ _ waits
-    (λ w. either P (fitting r b) _ _ (keeps w)
-    (λ f. either P (starting r b) _ _ (starts w f) (λ s. rw (strays-as-lost r b) (loses w f s))))
+    cases P (r .awaiting) waits
+    (λ w. cases P (fitting r b) (keeps w)
+    (λ f. cases P (starting r b) (starts w f) (λ s. rw (strays-as-lost r b) (loses w f s))))
 
 pub lost-is : (r : Reader) (b : ℕ) → r .awaiting ≡ false → fitting r b ≡ false → starting r b ≡ false → byteOf r b ≡ lose r
 lost-is r b w f s =
@@ -55,9 +54,9 @@ pub by-kind : (P : Read → Type 0) (r : Reader) (w : ℕ)
     → P (wordOf r w)
 unfolding wordOf
 by-kind P r w byte broken quiet bad =
-    either P (isByte w) _ _ byte
-    (λ n. either P (eqb w break) _ _ (λ e. broken n (eqb-true w break e))
-    (λ b. either P (eqb w silence) _ _ (λ e. quiet n (eqb-true w silence e))
+    cases P (isByte w) byte
+    (λ n. cases P (eqb w break) (λ e. broken n (eqb-true w break e))
+    (λ b. cases P (eqb w silence) (λ e. quiet n (eqb-true w silence e))
     (λ s. bad (omega (arith, leb-false w 255 n, eqb-false w break b, eqb-false w silence s)))))
 
 -- the format stays
@@ -68,7 +67,7 @@ pub word-format : (r : Reader) (w : ℕ) → wordOf r w .next .format ≡ r .for
 unfolding keep start lose breakOf silenceOf
 word-format r w =
     by-kind (Same r) r w
-    (λ _. by-rules (Same r) r (entered (r .format) w) (λ _. refl) (λ _ _. either (Same r) (finishes r) _ _ (λ _. refl) (λ _. refl)) (λ _ _ _. refl) (λ _ _ _. refl))
+    (λ _. by-rules (Same r) r (entered (r .format) w) (λ _. refl) (λ _ _. cases (Same r) (finishes r) (λ _. refl) (λ _. refl)) (λ _ _ _. refl) (λ _ _ _. refl))
     (λ _ _. refl) (λ _ _. refl) (λ _. refl)
 
 -- the bytes kept stay below a size that is above them
@@ -80,7 +79,7 @@ unfolding keep start lose breakOf silenceOf
 word-below r w h =
     by-kind (Below (sizeBy (r .format))) r w
     (λ _. by-rules (Below (sizeBy (r .format))) r (entered (r .format) w) (λ _. h)
-    (λ _ _. either (Below (sizeBy (r .format))) (finishes r) _ _ (λ _. omega arith) (λ e. omega (arith, eqb-false (r .count + 1) (sizeBy (r .format)) e)))
+    (λ _ _. cases (Below (sizeBy (r .format))) (finishes r) (λ _. omega arith) (λ e. omega (arith, eqb-false (r .count + 1) (sizeBy (r .format)) e)))
     (λ _ _ _. omega (arith, at-least-three (r .format) (r .count) h))
     (λ _ _ _. omega arith))
     (λ _ _. omega arith) (λ _ _. omega arith) (λ _. h)
@@ -92,13 +91,13 @@ Kept r n s = s .refusal ≡ 0 → n + r .count ≡ sizeBy (r .format) * reportsI
 pub dropping-is : (size k : ℕ) → size * reportsIn (dropping k) + droppedIn (dropping k) ≡ k
 unfolding dropping
 dropping-is size k =
-    either (λ a. size * reportsIn a + droppedIn a ≡ k) (eqb k 0) Nothing (Dropped k) (λ e. omega (arith, eqb-true k 0 e)) (λ e. omega arith)
+    cases (λ a. size * reportsIn a + droppedIn a ≡ k) (eqb k 0) (λ e. omega (arith, eqb-true k 0 e)) (λ e. omega arith)
 
 byte-kept : (r : Reader) (b : ℕ) → Kept r 1 (byteOf r b)
 unfolding keep start lose
 byte-kept r b =
     by-rules (Kept r 1) r b (λ _ _. omega arith)
-    (λ _ _. either (Kept r 1) (finishes r) _ _ (λ e _. omega (arith, eqb-true (r .count + 1) (sizeBy (r .format)) e)) (λ _ _. omega arith))
+    (λ _ _. cases (Kept r 1) (finishes r) (λ e _. omega (arith, eqb-true (r .count + 1) (sizeBy (r .format)) e)) (λ _ _. omega arith))
     (λ _ _ _ _. omega (arith, dropping-is (sizeBy (r .format)) (r .count)))
     (λ _ _ _ _. omega arith)
 
@@ -119,5 +118,5 @@ pub word-number : (r : Reader) (w : ℕ) → Numbered w (wordOf r w)
 unfolding keep start lose breakOf silenceOf
 word-number r w =
     by-kind (Numbered w) r w
-    (λ _. by-rules (Numbered w) r (entered (r .format) w) (λ _. inl refl) (λ _ _. either (Numbered w) (finishes r) _ _ (λ _. inl refl) (λ _. inl refl)) (λ _ _ _. inl refl) (λ _ _ _. inl refl))
+    (λ _. by-rules (Numbered w) r (entered (r .format) w) (λ _. inl refl) (λ _ _. cases (Numbered w) (finishes r) (λ _. inl refl) (λ _. inl refl)) (λ _ _ _. inl refl) (λ _ _ _. inl refl))
     (λ _ _. inl refl) (λ _ _. inl refl) (λ h. inr (refl, h))

@@ -7,11 +7,11 @@ use lib.ListN.{length, getD, replicate}
 use lib.IntN.{ℤ, pos, natAbs}
 use Rattle.numbers.specs.Bits.{bit, bits, number}
 use Rattle.numbers.specs.Signed.{signed}
-use Rattle.wire.specs.Line.{break, namedBy, sizeBy, markedBy}
+use Rattle.wire.specs.Line.{break, namedBy, sizeBy, markedBy, known}
 use Rattle.wire.specs.Fits.{like, fitsFirst, fitsLater, fitsAt, fitsBy}
 use Rattle.wire.specs.Reading.{readS, reportBy}
 use Rattle.reader.specs.State.{reader, fresh, ready}
-use Rattle.reader.specs.Good.{known, placed, good}
+use Rattle.reader.specs.Good.{placed, good}
 use Rattle.reader.specs.Rules.{entered, answered, dropping, keep, byteOf, breakOf, wordOf}
 use Rattle.reader.specs.Line.{Long, lineOf}
 use Rattle.reader.specs.Promises.{Step, FreshPromise, StepPromise, ReadPromise, newReader, freshOf, stepOf, readOf}

@@ -1,16 +1,13 @@
 -- "Good reader: a known format; kept bytes below the size, each valid in place, the rest 0; awaiting only in U, T, W with none kept."
-use Prim.Native.Nat.{ℕ, zero, suc}
-use mathlib.Core.Bool.{Bool, true, false, not, cond, _&&_, _||_}
+use Prim.Native.Nat.{ℕ}
+use mathlib.Core.Bool.{Bool, not, cond, _&&_, _||_}
 use lib.ListN.{length, getD}
 use lib.Dec.{ltb, eqb}
-use Rattle.wire.specs.Line.{namedBy, ofNamed, sizeBy}
+use Rattle.numbers.specs.Tests.{each}
+use Rattle.wire.specs.Line.{sizeBy, known}
 use Rattle.wire.specs.Fits.{fitsBy}
 use Rattle.reader.specs.State.{unmarked}
 use Rattle.reader.specs.declared.Reader.{Reader}
-
--- "a known format"
-unfoldable pub known : ℕ → Bool
-known letter = ofNamed false (λ f. true) (namedBy letter)
 
 -- "kept bytes below the size"
 abbrev pub belowSize : Reader → Bool
@@ -19,11 +16,6 @@ belowSize r = ltb (r .count) (sizeBy (r .format))
 -- "each valid in place, the rest 0"
 unfoldable pub placed : Reader → ℕ → ℕ → Bool
 placed r place byte = cond (ltb place (r .count)) (fitsBy (r .format) place byte) (eqb byte 0)
-
--- a test that holds at each place below n
-abbrev pub each : (ℕ → Bool) → ℕ → Bool
-each test zero = true
-each test (suc n) = each test n && test n
 
 -- the five places of a reader
 abbrev pub allPlaced : Reader → Bool

@@ -26,6 +26,19 @@ whole reading out = record { reading = reading; out = out }
 abbrev pub stopped : ℕ → Reader → List ℤ → Long
 stopped n r out = whole (record { refusal = n; next = r; taken = 0; reports = 0; dropped = 0 }) out
 
+-- "4 in a long read, which returns the reader, reports and counts as they stand before the bad word"
+abbrev pub withRefusal : ℕ → Long → Long
+withRefusal n l =
+    whole
+    (record {
+      refusal = n;
+      next = l .reading .next;
+      taken = l .reading .taken;
+      reports = l .reading .reports;
+      dropped = l .reading .dropped;
+    })
+    (l .out)
+
 -- words taken, reports, bytes dropped and numbers written, and then what a later part of the line gives
 abbrev pub joined : ℕ → ℕ → ℕ → List ℤ → Long → Long
 joined taken reports dropped front later =

@@ -5,7 +5,7 @@ use mathlib.Core.Bool.{true}
 use mathlib.Core.List.{List, [], _∷_, _++_}
 use lib.ListN.{length, take, drop, getD}
 use lib.IntN.{ℤ}
-use Rattle.wire.specs.Line.{break, letterOf, sizeOf}
+use Rattle.wire.specs.Line.{break, letterOf, sizeOf, lineWords}
 use Rattle.wire.specs.Table.{bytesOf}
 use Rattle.wire.specs.Passages.{Passage, finished, broken, passageWords, Sound, SoundGoing, Going, report, goingWords}
 use Rattle.wire.specs.Numbers.{success}
@@ -14,7 +14,7 @@ use Rattle.wire.specs.declared.Format.{Format}
 use Rattle.frames.specs.Line.{Sub}
 use Rattle.reader.specs.State.{fiveOf}
 use Rattle.reader.specs.Promises.{FreshPromise, ReadPromise}
-use Rattle.reader.specs.Runs.{StepsPromise, answers, lineWords}
+use Rattle.reader.specs.Runs.{StepsPromise, answers}
 use Rattle.reader.specs.declared.NewReader.{NewReader}
 use Rattle.reader.specs.declared.Read.{Read}
 use Rattle.reader.specs.declared.Reading.{Reading}

@@ -1,12 +1,9 @@
 -- Steps, one after the other: the answers over a list of words.
 use Prim.Native.Nat.{ℕ}
-use mathlib.Core.Bool.{Bool, true, false, _&&_, _||_}
+use mathlib.Core.Bool.{Bool, false, _||_}
 use mathlib.Core.List.{List, [], _∷_, map}
-use lib.Dec.{eqb, leb}
-use Rattle.wire.specs.Line.{namedBy, ofNamed, silence}
-use Rattle.wire.specs.Holds.{carried}
-use Rattle.wire.specs.Reading.{settled}
-use Rattle.wire.specs.declared.Report.{Report}
+use lib.Dec.{eqb}
+use Rattle.wire.specs.Line.{silence}
 use Rattle.reader.specs.Promises.{StepPromise, stepOf}
 use Rattle.reader.specs.declared.Reader.{Reader}
 use Rattle.reader.specs.declared.Read.{Read}
@@ -32,20 +29,7 @@ abbrev pub readerAfter : Reader → List Read → Reader
 readerAfter r [] = r
 readerAfter r (s ∷ steps) = readerAfter (s .next) steps
 
--- words of which none is above 257
-unfoldable pub lineWords : List ℕ → Bool
-lineWords [] = true
-lineWords (w ∷ words) = leb w silence && lineWords words
-
 -- whether a silence is among words
 unfoldable pub hasSilence : List ℕ → Bool
 hasSilence [] = false
 hasSilence (w ∷ words) = eqb w silence || hasSilence words
-
--- a report as its format carries it, by letter
-unfoldable pub carriedBy : ℕ → Report → Report
-carriedBy letter p = ofNamed p (λ f. carried f p) (namedBy letter)
-
--- bytes with a minus zero's sign bit set to 1, by letter
-unfoldable pub settledBy : ℕ → List ℕ → List ℕ
-settledBy letter bytes = ofNamed bytes (λ f. settled f bytes) (namedBy letter)

@@ -1,5 +1,5 @@
 -- Texts that grow.
-use mathlib.Core.Path.{_≡_, refl, sym, _∙_, ap}
+use mathlib.Core.Path.{_≡_, refl, sym, _∙_, ap, subst}
 use mathlib.Core.List.{List, [], _∷_, _++_, append-nil}
 use mathlib.Core.Bool.{Bool, true, false, cond}
 use Prim.Native.Nat.{ℕ, zero, suc, _+_, _-_, _/_, _<_, _≤_}
@@ -11,7 +11,6 @@ use lib.IntN.{ℤ, pos, negsuc, _-ℤ_, natAbs}
 use lib.Signed.{ltZ}
 use lib.ListN.{length, length-append, length-set, set}
 use lib.Seq.{take-suc-set, append-snoc, paste}
-use mathlib.Core.Path.{subst}
 use borrow.Author.Tests.{ltb-true, lt-ltb, le-ltb, le-leb, lt-leb}
 use mir.Syntax.{w32}
 use mir.Val.{SFits}
@@ -88,7 +87,7 @@ number-more t r s (suc places) n d h k e f g =
     let z : suc places - 1 ≡ places = omega arith in
     g ∙ rw (e, z, f, le-ltb n 10 k) (both t (numberOf places (n / 10)) (digitOf n ∷ []))
 
-on-cond : {A : Type 0} (P : A → Type 0) (t : Bool) (x y : A) → P x → P y → P (cond t x y)
+pub on-cond : {A : Type 0} (P : A → Type 0) (t : Bool) (x y : A) → P x → P y → P (cond t x y)
 on-cond P true x y f g = f
 on-cond P false x y f g = g
 

@@ -1,12 +1,17 @@
 -- What follows from the promises: one answer for every argument, what a refusal leaves, and what a success writes.
+use native.Mathlib.Omega.{arith}
 use Prim.Native.Nat.{ℕ, _<_, _≤_}
-use mathlib.Core.Path.{_≡_, refl, sym, _∙_, ap, ap₂}
+use mathlib.Core.Path.{_≡_, refl, sym, _∙_, ap, ap₂, subst}
 use mathlib.Core.Bool.{Bool, true, false, not, cond}
 use mathlib.Core.List.{List, _++_}
-use borrow.Author.Tests.{le-leb, lt-leb, lt-ltb, le-ltb}
+use borrow.Author.Tests.{le-leb, lt-leb, lt-ltb}
 use lib.ListN.{length, drop}
 use lib.Dec.{eqb, ltb}
 use lib.IntN.{pos}
+use Rattle.wire.proofs.Front.{size-small}
+use Rattle.numbers.proofs.Choices.{cases}
+use Rattle.wire.proofs.Accepts.{accepts}
+use Rattle.wire.proofs.Letters.{letter-named}
 use Rattle.numbers.proofs.Tested.{left, right}
 use Rattle.wire.specs.Line.{letterOf, namedBy, sizeOf}
 use Rattle.wire.specs.Table.{bytesOf}
@@ -16,7 +21,7 @@ use Rattle.wire.specs.Numbers.{success, badButtons, badMovement, shortBu
 use Rattle.wire.specs.Promises.{SizePromise, MarkedPromise, FitsPromise, ReportPromise, EncodePromise, RefusalPromise, LengthPromise}
 use Rattle.wire.specs.declared.Report.{Report}
 use Rattle.wire.specs.declared.Format.{Format}
-use Rattle.wire.specs.declared.Format.the-variants.{Mm, Microsoft, Absolute, Relative, FiveByte, ThreeByte, Hexadecimal}
+use Rattle.wire.specs.declared.Format.the-variants.{FiveByte}
 use Rattle.wire.specs.declared.Named.{Named}
 use Rattle.wire.specs.declared.Named.the-variants.{Known, Unknown}
 use Rattle.wire.specs.declared.Encoded.{Encoded}
@@ -86,26 +91,13 @@ no-length BufferTooShort h = refl
 pub refusal-leaves : (letter : ℕ) (r : Report) (before after : List ℕ) (a : Encoded) → EncodePromise letter r before a after → (refusalOf a ≡ success → ⊥) → (lengthOf a ≡ 0) × (after ≡ before)
 refusal-leaves letter r before after a p n = (no-length a n, unchanged (namedBy letter) r before p n)
 
--- the letters of the table
-pub letter-named : (f : Format) → namedBy (letterOf f) ≡ Known f
-unfolding namedBy
-letter-named Mm = refl
-letter-named Microsoft = refl
-letter-named Absolute = refl
-letter-named Relative = refl
-letter-named FiveByte = refl
-letter-named ThreeByte = refl
-letter-named Hexadecimal = refl
-
 -- an answer is what the definition says of a format
 told : (f : Format) (r : Report) (before : List ℕ) {a b : Encoded} {after behind : List ℕ} → EncodePromise (letterOf f) r before a after → outcome b behind ≡ encodeIn (Known f) r before → (a ≡ b) × (after ≡ behind)
 told f r before p q = one-encoding (letterOf f) r before p (rw (letter-named f) q)
 
 -- an accepted report is written at the front of a buffer that is long enough, and nothing after it
 pub accepted-written : (f : Format) (r : Report) (before after : List ℕ) (a : Encoded) → accepted f r ≡ true → sizeOf f ≤ length before → EncodePromise (letterOf f) r before a after → (a ≡ Written (sizeOf f)) × (after ≡ bytesOf f r ++ drop (sizeOf f) before)
-unfolding accepted encodeIn
-accepted-written f r before after a e h p =
-    told f r before p (simp (left (pressable r) (holds f r) e, right (pressable r) (holds f r) e, le-ltb (length before) (sizeOf f) h))
+accepted-written f r before after a e h p = told f r before p (sym (accepts f r before e h))
 
 -- what is not accepted, and what finds no room, is refused in the order of the numbers
 pub letter-refused : (letter : ℕ) (r : Report) (before after : List ℕ) (a : Encoded) → namedBy letter ≡ Unknown → EncodePromise letter r before a after → (a ≡ NoSuchLetter) × (after ≡ before)
@@ -131,3 +123,16 @@ second-refused f r before after a u h n = movement-refused f r before after a h 
 
 pub second-refused-y : (f : Format) (r : Report) (before after : List ℕ) (a : Encoded) → (f ≡ FiveByte → ⊥) → r .buttons ≤ 7 → (r .y2 ≡ pos 0 → ⊥) → EncodePromise (letterOf f) r before a after → (a ≡ MovementNotHeld) × (after ≡ before)
 second-refused-y f r before after a u h n = movement-refused f r before after a h (second-unheld-y f r u n)
+
+-- no report has more than five bytes
+told-small : (named : Named) (r : Report) (before : List ℕ) → encodeIn named r before .told ≤ 5
+unfolding encodeIn
+told-small Unknown r before = omega arith
+told-small (Known f) r before =
+    let P : Encoding → Type 0 = λ e. e .told ≤ 5 in
+    cases P (not (pressable r)) (λ _. omega arith)
+    (λ _. cases P (not (holds f r)) (λ _. omega arith)
+    (λ _. cases P (ltb (length before) (sizeOf f)) (λ _. omega arith) (λ _. size-small f)))
+
+pub length-small : (letter : ℕ) (r : Report) (before after : List ℕ) (a : Encoded) → EncodePromise letter r before a after → lengthOf a ≤ 5
+length-small letter r before after a p = subst (λ (e : Encoding). e .told ≤ 5) (sym p) (told-small (namedBy letter) r before)

@@ -20,8 +20,9 @@ use lib.Dec.{T, ltb, eqb}
 use lib.Count.{ones, onesIn}
 use lib.IntN.{pos}
 use borrow.Author.Tests.{ltb-true, ltb-false}
+use Rattle.numbers.specs.Tests.{each}
 use Rattle.numbers.specs.Bits.{bit}
-use Rattle.numbers.proofs.Tested.{same, upto, agree-if, refused, holds as so}
+use Rattle.numbers.proofs.Tested.{same, agree-if, refused, holds as so}
 use Rattle.wire.specs.Line.{sizeOf, markedOf}
 use Rattle.wire.specs.Table.{bytesOf, bytesS, bytesV, bytesA, bytesB, bytesU, bytesT, bytesW, rowsV, rowsA, rowsW}
 use Rattle.wire.specs.Holds.{holds, accepted, carried}
@@ -136,7 +137,7 @@ settled-same =
     (λ b1 b2 b3 h1 h2 h3. settled-S b1 b2 b3 h1)
 
 -- in the marked formats no first byte is a later byte
-told-apart : (f : Format) → T (upto (λ b. not (fitsFirst f b) || same (fitsLater f b) false) 256) → (b : ℕ) → fitsFirst f b ≡ true → fitsLater f b ≡ false
+told-apart : (f : Format) → T (each (λ b. not (fitsFirst f b) || same (fitsLater f b) false) 256) → (b : ℕ) → fitsFirst f b ≡ true → fitsLater f b ≡ false
 told-apart f t b l = agree-if (fitsFirst f) (fitsLater f) (λ b. false) 256 t b (first-byte f b l) l
 
 pub mark : (f : Format) (b : ℕ) → markedOf f ≡ true → fitsFirst f b ≡ true → fitsLater f b ≡ false

@@ -1,8 +1,11 @@
--- The laws of the seven formats (Codec), and what the functions' proofs share.
+-- The laws of the seven formats (Codec), their letters (Letters), the encoder (Accepts), what follows from the promises (Answers), a sender of passages (Sender), and what
+-- the functions' proofs share.
 pub mod Answers
 pub mod Codec
+pub mod Accepts
 pub mod Fields
 pub mod FixedBits
 pub mod Front
+pub mod Letters
 pub mod Sums
 pub mod Sender

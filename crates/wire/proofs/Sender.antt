@@ -1,9 +1,8 @@
 -- An abstract sender: whatever sends what is going word by word, breaks it off, or is silent, puts the words of its passages on the line.
 use Prim.Native.Nat.{ℕ, _+_, _<_}
 use mathlib.Core.Path.{_≡_, refl, sym, _∙_, ap}
-use mathlib.Core.Bool.{Bool, true, false, cond}
+use mathlib.Core.Bool.{Bool, true, false}
 use mathlib.Core.List.{List, [], _∷_, _++_, append-assoc, append-nil}
-use native.Mathlib.Omega.{arith}
 use native.Mathlib.Numerals.{add-one}
 use lib.ListN.{length, getD, take}
 use lib.Seq.{take-suc, take-length}
@@ -11,7 +10,7 @@ use lib.Dec.{eqb}
 use borrow.Author.Tests.{eqb-true}
 use Rattle.wire.specs.Line.{break, sizeOf}
 use Rattle.wire.specs.Table.{bytesOf}
-use Rattle.wire.specs.Passages.{Passage, silent, finished, broken, reply, brokenReply, Going, nothing, report, answer, goingWords, passageWords, Told, sentOne, brokenOff, nextWord, Left, givenOver, passagesOver, goingOver}
+use Rattle.wire.specs.Passages.{Passage, Going, nothing, report, answer, goingWords, passageWords, Told, sentOne, brokenOff, nextWord, Left, givenOver, passagesOver, goingOver}
 use Rattle.wire.proofs.Codec.{bytes-length}
 
 pub passages-append : (a b : List Passage) → passageWords (a ++ b) ≡ passageWords a ++ passageWords b

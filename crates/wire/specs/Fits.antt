@@ -3,7 +3,7 @@ use Prim.Native.Nat.{ℕ}
 use mathlib.Core.Bool.{Bool, true, false, not, cond, _&&_, _||_}
 use mathlib.Core.List.{List, [], _∷_}
 use lib.ListN.{length}
-use lib.Dec.{leb, ltb, eqb}
+use lib.Dec.{leb, eqb}
 use Rattle.numbers.specs.Bits.{bit}
 use Rattle.numbers.specs.Parity.{even}
 use Rattle.wire.specs.Line.{isByte, namedBy, ofNamed, sizeOf}

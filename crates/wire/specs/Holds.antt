@@ -1,10 +1,11 @@
 -- What the encoder accepts: "exactly what the wire holds".
 use Prim.Native.Nat.{ℕ}
-use mathlib.Core.Bool.{Bool, _&&_}
-use mathlib.Core.List.{List, [], _∷_}
+use mathlib.Core.Bool.{Bool, true, _&&_}
+use mathlib.Core.List.{[], _∷_}
 use lib.Dec.{leb}
 use lib.IntN.{ℤ, pos}
 use lib.Signed.{leZ}
+use Rattle.wire.specs.Line.{namedBy, ofNamed}
 use Rattle.numbers.specs.Bits.{O, number}
 use Rattle.numbers.specs.Signed.{minus}
 use Rattle.wire.specs.Table.{L, R}
@@ -74,3 +75,11 @@ carried Relative r = r
 carried FiveByte r = r
 carried ThreeByte r = r
 carried Hexadecimal r = r
+
+-- the same by letter
+unfoldable pub acceptedBy : ℕ → Report → Bool
+acceptedBy letter r = ofNamed true (λ f. accepted f r) (namedBy letter)
+
+-- a report as its format carries it, by letter
+unfoldable pub carriedBy : ℕ → Report → Report
+carriedBy letter p = ofNamed p (λ f. carried f p) (namedBy letter)

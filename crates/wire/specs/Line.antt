@@ -1,6 +1,7 @@
 -- Words on the line, and the seven formats by letter, size and mark.
 use Prim.Native.Nat.{ℕ}
-use mathlib.Core.Bool.{Bool, true, false, cond}
+use mathlib.Core.Bool.{Bool, true, false, cond, _&&_}
+use mathlib.Core.List.{List, [], _∷_}
 use lib.Dec.{eqb, leb}
 use Rattle.wire.specs.declared.Format.{Format}
 use Rattle.wire.specs.declared.Format.the-variants.{Mm, Microsoft, Absolute, Relative, FiveByte, ThreeByte, Hexadecimal}
@@ -16,6 +17,11 @@ break = 256
 
 abbrev pub silence : ℕ
 silence = 257
+
+-- words of which none is above 257
+unfoldable pub lineWords : List ℕ → Bool
+lineWords [] = true
+lineWords (w ∷ words) = leb w silence && lineWords words
 
 -- "Letter | Format", in ASCII
 abbrev pub letterOf : Format → ℕ
@@ -43,6 +49,10 @@ namedBy letter =
 abbrev pub ofNamed : {A : Type 0} → A → (Format → A) → Named → A
 ofNamed none f (Known format) = f format
 ofNamed none f Unknown = none
+
+-- a letter of the table
+unfoldable pub known : ℕ → Bool
+known letter = ofNamed false (λ f. true) (namedBy letter)
 
 -- how many bytes a report has
 abbrev pub sizeOf : Format → ℕ

@@ -1,8 +1,8 @@
 -- The report that the bytes of a format stand for: the table, read the other way.
 use Prim.Native.Nat.{ℕ, _-_}
-use mathlib.Core.Bool.{Bool, not, cond, _&&_, _||_}
+use mathlib.Core.Bool.{Bool, not, cond, _||_}
 use mathlib.Core.List.{List, [], _∷_, _++_}
-use lib.ListN.{length, getD, drop}
+use lib.ListN.{getD}
 use lib.Dec.{eqb}
 use lib.IntN.{ℤ, pos, negℤ}
 use Rattle.numbers.specs.Bits.{O, number, bit, bits}
@@ -99,3 +99,7 @@ settled Relative bs = bs
 settled FiveByte bs = bs
 settled ThreeByte bs = bs
 settled Hexadecimal bs = bs
+
+-- bytes with a minus zero's sign bit set to 1, by letter
+unfoldable pub settledBy : ℕ → List ℕ → List ℕ
+settledBy letter bytes = ofNamed bytes (λ f. settled f bytes) (namedBy letter)

@@ -4,8 +4,9 @@ use mathlib.Core.Bool.{Bool, not, cond}
 use mathlib.Core.List.{List, [], _∷_, _++_}
 use lib.ListN.{take, replicate}
 use lib.Dec.{ltb}
-use lib.IntN.{ℤ, negℤ, natAbs}
+use lib.IntN.{negℤ, natAbs}
 use lib.Signed.{nonNeg}
+use Rattle.wire.specs.Line.{namedBy, ofNamed}
 use Rattle.numbers.specs.Bits.{I, O, number, bit, bits}
 use Rattle.numbers.specs.Signed.{twos}
 use Rattle.numbers.specs.Parity.{withParity}
@@ -109,3 +110,7 @@ bytesOf Hexadecimal r = bytesW r
 -- bytes with zeros behind them, to make five
 abbrev pub five : List ℕ → List ℕ
 five bytes = take 5 (bytes ++ replicate 5 0)
+
+-- the same by letter
+unfoldable pub bytesBy : ℕ → Report → List ℕ
+bytesBy letter r = ofNamed [] (λ f. bytesOf f r) (namedBy letter)

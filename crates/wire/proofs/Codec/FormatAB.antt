@@ -5,10 +5,11 @@ use mathlib.Core.Bool.{Bool, true, not}
 use mathlib.Core.List.{List, [], _∷_, _++_}
 use native.Mathlib.Omega.{arith}
 use lib.IntN.{ℤ, pos, natAbs}
+use Rattle.wire.proofs.Fields.{twelve-below}
 use Rattle.numbers.specs.Bits.{I, O, number, bits}
 use Rattle.numbers.specs.Signed.{twos, untwos}
 use Rattle.numbers.specs.Parity.{even, withParity}
-use Rattle.numbers.proofs.Rows.{number-below, number-whole, bits-below, bits-in, whole-in}
+use Rattle.numbers.proofs.Rows.{number-whole, bits-below, bits-in, whole-in}
 use Rattle.numbers.proofs.Twos.{twos-untwos}
 use Rattle.wire.specs.Table.{L, M, R, rowsA, bytesA, bytesB}
 use Rattle.wire.specs.Holds.{within, xRange}
@@ -79,11 +80,6 @@ there-B r p =
     same-pair Relative refl p (buttons-there r (p .pressed))
     (relative-there (r .x1) (p .moved .x))
     (relative-there (r .y1) (p .moved .y))
-
--- twelve bits are below 4096
-twelve-below : (b c : ℕ) → twelve b c < 4096
-unfolding bits
-twelve-below b c = number-below (bits 6 0 c ++ bits 6 0 b)
 
 pub read-A : OfFive Absolute (ReadParts Absolute)
 unfolding readA

@@ -1,12 +1,13 @@
 -- W: a report and its bytes.
 use Prim.Native.Nat.{ℕ, _<_, _≤_}
 use mathlib.Core.Path.{_≡_, refl, ap, ap₂, _∙_}
-use mathlib.Core.Bool.{Bool, true, false, _||_}
+use mathlib.Core.Bool.{Bool, true}
 use mathlib.Core.List.{List, [], _∷_, _++_}
 use native.Mathlib.Omega.{arith}
 use lib.Dec.{leb, ltb}
 use lib.IntN.{ℤ}
 use borrow.Author.Tests.{leb-true, ltb-true}
+use Rattle.numbers.proofs.Choices.{or-else}
 use Rattle.numbers.specs.Bits.{number, bits}
 use Rattle.numbers.specs.Signed.{twos, untwos}
 use Rattle.numbers.proofs.Tested.{right, truth, tested, agree-if, equal, equal-if}
@@ -27,14 +28,10 @@ use Rattle.wire.proofs.Codec.Ranges.{twos-within, twos-back, untwos-wit
 below-high : (low high b : ℕ) → between low high b ≡ true → b ≤ high
 below-high low high b e = leb-true b high (right (leb low b) (leb b high) e)
 
-either-byte : (b : ℕ) (s t : Bool) → (s ≡ true → b < 256) → (t ≡ true → b < 256) → s || t ≡ true → b < 256
-either-byte b true t p q e = p refl
-either-byte b false t p q e = q e
-
 pub later-byte : (b : ℕ) → fitsLater Hexadecimal b ≡ true → b < 256
 unfolding fitsLater
 later-byte b =
-    either-byte b (between 0x30 0x39 b) (between 0x41 0x46 b) (λ e. omega (arith, below-high 0x30 0x39 b e)) (λ e. omega (arith, below-high 0x41 0x46 b e))
+    or-else (between 0x30 0x39 b) (between 0x41 0x46 b) (λ e. omega (arith, below-high 0x30 0x39 b e)) (λ e. omega (arith, below-high 0x41 0x46 b e))
 
 pub first-byte : (b : ℕ) → fitsFirst Hexadecimal b ≡ true → b < 256
 unfolding fitsFirst

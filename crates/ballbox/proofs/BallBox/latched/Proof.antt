@@ -5,12 +5,14 @@ use mathlib.Core.Path.{_≡_, refl, ap, _∙_}
 use mir.Syntax.{w16}
 use mir.Val.{toZ, ofZ}
 use native.Mathlib.Omega.{arith}
-use Rattle.ballbox.proofs.Accepting.{size-by-small, latched-accepted, bytes-by-length}
+use Rattle.ballbox.proofs.Accepting.{latched-accepted, bytes-by-length}
 use Rattle.ballbox.specs.Box.{goingFrom}
-use Rattle.ballbox.specs.Latching.{acceptedBy, bytesBy, latched, latchedReport}
+use Rattle.ballbox.specs.Latching.{latched, latchedReport}
 use Rattle.ballbox.specs.declared.Pair.{Pair}
+use Rattle.wire.proofs.Letters.{at-most-five}
 use Rattle.wire.proofs.Codec.Accepted.{same-report}
-use Rattle.wire.specs.Table.{five}
+use Rattle.wire.specs.Holds.{acceptedBy}
+use Rattle.wire.specs.Table.{five, bytesBy}
 use Rattle.wire.specs.declared.Report.{Report}
 use Rattle.ballbox.proofs.BallBox.latched.Statement.{statement}
 use Rattle.ballbox.proofs.BallBox.latched.Tie as tie
@@ -34,7 +36,7 @@ size-requires : tie.Need-size-requires
 size-requires c κs = search needs
 
 cast-t8 : tie.Need-cast-t8
-cast-t8 c = record { fits = rw (c .size .ensures) (omega (arith, size-by-small (c .before .before .before .before .args .self .settings .format))) }
+cast-t8 c = record { fits = rw (c .size .ensures) (omega (arith, at-most-five (c .before .before .before .before .args .self .settings .format))) }
 
 encoded-requires : tie.Need-encoded-requires
 encoded-requires c κs =

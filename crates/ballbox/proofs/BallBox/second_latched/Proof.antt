@@ -5,11 +5,12 @@ use mathlib.Core.Path.{_≡_, refl, ap, _∙_}
 use mir.Syntax.{w16}
 use mir.Val.{toZ, ofZ}
 use Rattle.ballbox.proofs.Accepting.{second-accepted}
-use Rattle.ballbox.specs.Latching.{acceptedBy, taken, bytesBy, secondOnly, withSecond, secondLatched}
+use Rattle.ballbox.specs.Latching.{taken, secondOnly, withSecond, secondLatched}
 use Rattle.ballbox.specs.declared.Pair.{Pair}
 use Rattle.wire.proofs.Codec.Accepted.{same-report}
+use Rattle.wire.specs.Holds.{acceptedBy}
 use Rattle.wire.specs.Line.{letterOf, namedBy}
-use Rattle.wire.specs.Table.{five, bytesU}
+use Rattle.wire.specs.Table.{five, bytesU, bytesBy}
 use Rattle.wire.specs.declared.Format.the-variants.{FiveByte}
 use Rattle.wire.specs.declared.Report.{Report}
 use Rattle.ballbox.proofs.BallBox.second_latched.Statement.{statement}

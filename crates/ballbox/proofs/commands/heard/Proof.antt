@@ -1,7 +1,8 @@
 -- `heard`: by the letters, and by the ranges between them.
 use Prim.Native.Nat.{_≤_, _<_}
 use native.Mathlib.Omega.{arith}
-use Rattle.ballbox.proofs.Letters.{ranged, ignored, no-format, no-stream, stream}
+use Rattle.numbers.proofs.Tested.{ranged}
+use Rattle.ballbox.proofs.Letters.{ignored, no-format, no-stream, stream}
 use Rattle.ballbox.specs.Commands.{isFormat, commandOf}
 use Rattle.ballbox.proofs.commands.heard.Statement.{statement}
 use Rattle.ballbox.proofs.commands.heard.Tie as tie

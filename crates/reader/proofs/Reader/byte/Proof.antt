@@ -3,7 +3,7 @@ use borrow.Author.Needs.{needs}
 use native.Mathlib.Omega.{arith}
 use mathlib.Core.Path.{sym, _∙_}
 use Rattle.reader.specs.Rules.{byteOf}
-use Rattle.reader.proofs.Letters.{at-most-five}
+use Rattle.wire.proofs.Letters.{at-most-five}
 use Rattle.reader.proofs.Word.{strays-as-lost}
 use Rattle.reader.proofs.Reader.byte.Statement.{statement}
 use Rattle.reader.proofs.Reader.byte.Tie as tie

@@ -1,7 +1,7 @@
 -- `fits`: the first place, or a later one, all of which are alike.
 use borrow.Author.Needs.{needs}
 use mathlib.Core.Path.{_∙_}
-use Rattle.reader.proofs.Letters.{later-place}
+use Rattle.wire.proofs.Letters.{later-place}
 use Rattle.reader.proofs.Reader.fits.Statement.{statement}
 use Rattle.reader.proofs.Reader.fits.Tie as tie
 

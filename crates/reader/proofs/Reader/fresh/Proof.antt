@@ -3,7 +3,7 @@ use borrow.Author.Needs.{needs}
 use borrow.Author.Tests.{eq-eqb, ne-eqb}
 use Rattle.wire.specs.Line.{markedBy, namedBy}
 use Rattle.reader.specs.Promises.{freshOf}
-use Rattle.reader.proofs.Letters.{known-sized}
+use Rattle.wire.proofs.Letters.{known-sized}
 use mathlib.Core.Path.{sym, _∙_}
 use Rattle.reader.proofs.Reader.fresh.Statement.{statement}
 use Rattle.reader.proofs.Reader.fresh.Tie as tie

@@ -3,7 +3,7 @@ use mathlib.Core.Path.{_≡_, sym}
 use lib.ListN.{length}
 use borrow.Author.Tests.{eq-eqb}
 use Rattle.reader.specs.Good.{good}
-use Rattle.reader.proofs.Letters.{known-below}
+use Rattle.wire.proofs.Letters.{known-below}
 use borrow.Author.Needs.{needs}
 use Rattle.reader.proofs.Reader.good.Statement.{statement}
 use Rattle.reader.proofs.Reader.good.Tie as tie

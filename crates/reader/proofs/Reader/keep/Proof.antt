@@ -4,7 +4,7 @@ use native.Mathlib.Omega.{arith}
 use mathlib.Core.Path.{sym, _∙_}
 use borrow.Author.Tests.{eq-eqb, ne-eqb}
 use Rattle.reader.specs.Rules.{keep}
-use Rattle.reader.proofs.Letters.{at-most-five}
+use Rattle.wire.proofs.Letters.{at-most-five}
 use Rattle.reader.proofs.Reader.keep.Statement.{statement}
 use Rattle.reader.proofs.Reader.keep.Tie as tie
 

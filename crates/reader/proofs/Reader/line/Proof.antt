@@ -7,7 +7,7 @@ use lib.ListN.{length, drop, getD, length-drop}
 use borrow.Author.Needs.{needs}
 use Rattle.wire.specs.Line.{sizeBy, markedBy}
 use Rattle.reader.specs.Line.{whole, lineOf}
-use Rattle.reader.proofs.Letters.{at-most-five}
+use Rattle.wire.proofs.Letters.{at-most-five}
 use Rattle.reader.proofs.Joined.{joined-none}
 use Rattle.reader.proofs.Loop.{Turned, turned, standing, some, said, again, same, ends-before, ends-all, unchanged}
 use Rattle.reader.proofs.Reader.line.Statement.{statement}

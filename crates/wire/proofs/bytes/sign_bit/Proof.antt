@@ -1,5 +1,4 @@
 -- `sign_bit`: the sign decides.
-use mathlib.Core.Path.{sym}
 use mir.Facts.{toZ-ofZ}
 use Rattle.numbers.proofs.Twos.{below-nonNeg, above-nonNeg}
 use Rattle.wire.proofs.bytes.sign_bit.Statement.{statement}

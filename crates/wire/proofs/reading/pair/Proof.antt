@@ -1,7 +1,6 @@
 -- `pair`: four bits above four.
 use Prim.Native.Nat.{_<_}
 use borrow.Author.Needs.{needs}
-use mathlib.Core.Path.{_≡_}
 use native.Mathlib.Omega.{arith}
 use Rattle.wire.proofs.Fields.{undigit-below, pair-of}
 use Rattle.wire.specs.Reading.{undigit}

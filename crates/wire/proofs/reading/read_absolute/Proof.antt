@@ -1,5 +1,5 @@
 -- `read_absolute`: the fields of A.
-use Prim.Native.Nat.{ℕ, _<_}
+use Prim.Native.Nat.{ℕ}
 use borrow.Author.Needs.{needs}
 use lib.IntN.{pos}
 use mathlib.Core.Path.{_≡_, _∙_}

@@ -1,6 +1,6 @@
 -- `read_mm`: the fields of S.
 use borrow.Author.Needs.{needs}
-use mathlib.Core.Path.{sym, _∙_}
+use mathlib.Core.Path.{_∙_}
 use mir.Syntax.{w16}
 use Rattle.numbers.proofs.Machine.{kept}
 use Rattle.numbers.proofs.Rows.{number-low}

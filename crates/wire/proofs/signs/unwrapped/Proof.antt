@@ -1,6 +1,6 @@
 -- `unwrapped`: the magnitude and the sign that a number stands for.
 use borrow.Author.Needs.{needs}
-use mathlib.Core.Path.{_≡_, _∙_, sym}
+use mathlib.Core.Path.{_∙_, sym}
 use mir.Syntax.{w16}
 use Rattle.numbers.proofs.Machine.{kept}
 use Rattle.numbers.proofs.Twos.{untwos-low, untwos-high}

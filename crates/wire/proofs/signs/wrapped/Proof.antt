@@ -1,8 +1,8 @@
 -- `wrapped`: two's complement by a magnitude and a sign.
-use Prim.Native.Nat.{ℕ, _<_, _+_, _-_}
+use Prim.Native.Nat.{_-_}
 use borrow.Author.Needs.{needs}
 use lib.IntN.{natAbs}
-use mathlib.Core.Path.{_≡_, _∙_, sym, ap}
+use mathlib.Core.Path.{_≡_, _∙_, sym}
 use mir.Facts.{toZ-ofZ}
 use native.Mathlib.Omega.{arith}
 use Rattle.numbers.proofs.Twos.{twos-minus, twos-plus, magnitude-near}

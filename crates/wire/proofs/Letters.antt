@@ -1,19 +1,30 @@
--- Letters: the size of a known one is 3 to 5, and of any other 0.
+-- Letters: that of a format names it; the size of a known one is 3 to 5, and of any other 0.
 use Prim.Native.Nat.{ℕ, _<_, _≤_}
 use mathlib.Core.Path.{_≡_, refl, sym, _∙_}
 use mathlib.Core.Bool.{true, false, not, _&&_}
 use native.Mathlib.Omega.{arith}
 use lib.Dec.{eqb, ltb}
 use borrow.Author.Tests.{le-ltb, ne-eqb, eqb-false, not-true}
-use Rattle.wire.specs.Line.{namedBy, ofNamed, sizeOf, sizeBy}
+use Rattle.wire.specs.Line.{letterOf, namedBy, ofNamed, known, sizeOf, sizeBy}
 use Rattle.wire.specs.Fits.{fitsAt, fitsBy}
 use Rattle.wire.specs.declared.Format.{Format}
 use Rattle.wire.specs.declared.Format.the-variants.{Mm, Microsoft, Absolute, Relative, FiveByte, ThreeByte, Hexadecimal}
 use Rattle.wire.specs.declared.Named.{Named}
 use Rattle.wire.specs.declared.Named.the-variants.{Known, Unknown}
-use Rattle.wire.proofs.Front.{size-small}
-use Rattle.reader.specs.Good.{known}
+use Rattle.wire.proofs.Front.{size-between, size-small}
 
+-- the letters of the table
+pub letter-named : (f : Format) → namedBy (letterOf f) ≡ Known f
+unfolding namedBy
+letter-named Mm = refl
+letter-named Microsoft = refl
+letter-named Absolute = refl
+letter-named Relative = refl
+letter-named FiveByte = refl
+letter-named ThreeByte = refl
+letter-named Hexadecimal = refl
+
+-- their sizes
 pub at-most-five : (letter : ℕ) → sizeBy letter ≤ 5
 unfolding sizeBy
 at-most-five letter = go (namedBy letter)
@@ -27,30 +38,15 @@ unfolding sizeBy
 at-least-three letter n = go (namedBy letter)
   where
     go : (m : Named) → n < ofNamed 0 sizeOf m → 3 ≤ ofNamed 0 sizeOf m
-    go (Known Mm) h = omega arith
-    go (Known Microsoft) h = omega arith
-    go (Known Absolute) h = omega arith
-    go (Known Relative) h = omega arith
-    go (Known FiveByte) h = omega arith
-    go (Known ThreeByte) h = omega arith
-    go (Known Hexadecimal) h = omega arith
+    go (Known f) h = size-between f .0
     go Unknown h = absurd (omega arith)
-
-size-some : (f : Format) → eqb (sizeOf f) 0 ≡ false
-size-some Mm = refl
-size-some Microsoft = refl
-size-some Absolute = refl
-size-some Relative = refl
-size-some FiveByte = refl
-size-some ThreeByte = refl
-size-some Hexadecimal = refl
 
 pub known-sized : (letter : ℕ) → known letter ≡ not (eqb (sizeBy letter) 0)
 unfolding known sizeBy
 known-sized letter = go (namedBy letter)
   where
     go : (n : Named) → ofNamed false (λ f. true) n ≡ not (eqb (ofNamed 0 sizeOf n) 0)
-    go (Known f) = rw (size-some f)
+    go (Known f) = rw (ne-eqb (sizeOf f) 0 (λ e. omega (arith, size-between f .0)))
     go Unknown = refl
 
 pub size-positive : (letter : ℕ) → known letter ≡ true → 0 < sizeBy letter
