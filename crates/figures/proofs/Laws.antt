@@ -55,6 +55,11 @@ told (Known f) r buffer =
 pub at-most-five : (letter : ℕ) (r : Report) (before after : List ℕ) (e : Encoded) → EncodePromise letter r before e after → lengthOf e ≤ 5
 at-most-five letter r before after e p = rw (ap (λ (x : Encoding). x .told) p) (told (namedBy letter) r before)
 
+-- a fresh reader has kept nothing
+pub none-kept : (letter : ℕ) (a : NewReader) → FreshPromise letter a → a .reader .count ≡ 0
+unfolding freshOf
+none-kept letter a e = rw e (either (λ (x : NewReader). x .reader .count ≡ 0) (known letter) _ _ (λ _. refl) (λ _. refl))
+
 -- a part of a list, from a place on, ends within it
 pub within : {A : Type 0} (l : List A) (a n : ℕ) → a ≤ length l → a + length (take n (drop a l)) ≤ length l
 within l a n h = simp (length-take, length-drop) (omega arith)
@@ -64,11 +69,6 @@ pub record Fair (r : Reader) (words : List ℕ) (out : List ℤ) (a : Reading) :
   pub some : a .taken ≤ length words
   pub room : 5 * a .reports ≤ length out
   pub few : a .dropped + a .next .count ≤ a .taken + r .count
-
--- a fresh reader has kept nothing
-pub none-kept : (letter : ℕ) (a : NewReader) → FreshPromise letter a → a .reader .count ≡ 0
-unfolding freshOf
-none-kept letter a e = rw e (either (λ (x : NewReader). x .reader .count ≡ 0) (known letter) _ _ (λ _. refl) (λ _. refl))
 
 one-byte : (w : ℕ) → byteIn w ≤ 1
 one-byte w = either (λ n. n ≤ 1) (isByte w) 1 0 (λ _. omega arith) (λ _. omega arith)

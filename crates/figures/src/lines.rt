@@ -13,10 +13,12 @@ use crate::reports::put;
 use crate::reports::show;
 use wire::Report;
 
-// The reports of a line, and their numbers, five for each. A line has at most as many words, and a silence: 1281.
+// The reports of a line; their numbers, five for each; and the most words: five for each, and a silence.
 const REPORTS: usize = 256;
 
 const NUMBERS: usize = 1280;
+
+const WORDS: usize = 1281;
 
 // Room for a hundred reports, and three places.
 const SHORT: usize = 503;
@@ -68,8 +70,8 @@ fn lay(letter: u8, words: &mut [u16], sent: &mut [i16]) -> usize
     at
 }
 
-// The first place at which two lines of numbers differ.
-fn difference(sent: &[i16; 1280], read: &[i16; 1280]) -> usize {
+// The first place at which two lines of numbers differ, or the end of both.
+fn difference(sent: &[i16; NUMBERS], read: &[i16; NUMBERS]) -> usize {
     let mut i = 0;
     while i < NUMBERS {
         if sent[i] != read[i] {
@@ -103,8 +105,8 @@ fn counts(p: Pass) {
 }
 
 // The line read with at most so many words and so many places in a call.
-fn row(letter: u8, words: &[u16], sent: &[i16; 1280], cut: Cut) {
-    let mut read = [UNREAD; 1280];
+fn row(letter: u8, words: &[u16], sent: &[i16; NUMBERS], cut: Cut) {
+    let mut read = [UNREAD; NUMBERS];
     let p = passed(letter, cut, words, &mut read);
     print::say(b"  cut ");
     print::number(cut.words);
@@ -116,7 +118,7 @@ fn row(letter: u8, words: &[u16], sent: &[i16; 1280], cut: Cut) {
 }
 
 // The line in pieces of so many words.
-fn pieces(letter: u8, words: &[u16], sent: &[i16; 1280], size: usize) {
+fn pieces(letter: u8, words: &[u16], sent: &[i16; NUMBERS], size: usize) {
     let cut = Cut {
         words: size,
         places: NUMBERS,
@@ -125,7 +127,7 @@ fn pieces(letter: u8, words: &[u16], sent: &[i16; 1280], size: usize) {
 }
 
 // The whole line to a slice that is too short: a call stops for room, and the rest of the words goes on with fresh room.
-fn short(letter: u8, words: &[u16], sent: &[i16; 1280]) {
+fn short(letter: u8, words: &[u16], sent: &[i16; NUMBERS]) {
     let cut = Cut {
         words: words.len(),
         places: SHORT,
@@ -133,7 +135,7 @@ fn short(letter: u8, words: &[u16], sent: &[i16; 1280]) {
     row(letter, words, sent, cut);
 }
 
-fn rows(letter: u8, words: &[u16], sent: &[i16; 1280]) {
+fn rows(letter: u8, words: &[u16], sent: &[i16; NUMBERS]) {
     pieces(letter, words, sent, 1);
     pieces(letter, words, sent, 2);
     pieces(letter, words, sent, 3);
@@ -158,8 +160,8 @@ fn heading(letter: u8, count: usize) {
 }
 
 fn format(letter: u8) {
-    let mut words = [0u16; 1281];
-    let mut sent = [0i16; 1280];
+    let mut words = [0u16; WORDS];
+    let mut sent = [0i16; NUMBERS];
     let count = lay(letter, &mut words, &mut sent);
     heading(letter, count);
     rows(letter, &words[..count], &sent);

@@ -8,7 +8,7 @@ use ballbox::BallBox;
 use ballbox::Event;
 use wire::Report;
 
-// 000, 9: "will respond with an ASCII ACK (06H) whenever it receives an ASCII space (20H)".
+// 000 section 9: "will respond with an ASCII ACK (06H) whenever it receives an ASCII space (20H)".
 fn space() {
     print::say(b"000 section 9");
     let b = after(BallBox::fresh(), Event::Host(b' '));
@@ -16,7 +16,8 @@ fn space() {
     print::say(b"\n");
 }
 
-// 000 section 12.5, and 004 section 24: bytes 4 and 5 are "the movement of the mouse during transmission of the first report"; "the same register which is sent and cleared twice".
+// 000 section 12.5: bytes 4 and 5 are "the movement of the mouse during transmission of the first report".
+// 004 section 24: both pairs are "the same register which is sent and cleared twice in the five byte packet".
 fn second_pair() {
     print::say(b"000 section 12.5, 004 section 24");
     let b = after(BallBox::fresh(), Event::Motion(5, -3));
@@ -96,7 +97,8 @@ fn replies(letters: &[u8], question: u8, bytes: u8) {
     print::say(b"\n");
 }
 
-// 000 section 14.6: the format's code, in the table's order, under revision 3.0. 000 section 14.7: the format's and the mode's letter, in the tables' order.
+// 000 section 14.6: the format's code, under revision 3.0, in the table's order.
+// 000 section 14.7: the format's and the mode's letter, in the tables' order; M is 4DH, as document 01 decides.
 fn letters() {
     print::say(b"000 section 14.6");
     replies(b"UTWBSAV", b'f', 1);
@@ -164,7 +166,8 @@ fn invalid() {
     print::say(b"\n");
 }
 
-// 001 section C.6.6: 100 starts a report of the mouse; 101, 110 and 111 start none. The first four bytes are the self-test report of C.6.5 with its example, a left button error.
+// 001 section C.6.6: 100 starts a report of the mouse; 101, 110 and 111 start none that the reader knows.
+// The first four bytes are a self-test report as in C.6.5, with its example, a left button error.
 fn starts() {
     print::say(b"001 section C.6.6");
     let words = [0xA0u16, 0x02, 0x3D, 0x04, 0xC0, 0xE0, 0x94, 0x05, 0x03];

@@ -51,6 +51,7 @@ const TWELVE_BITS: Values = Values {
     count: 4096,
 };
 
+// What x, y and the second pair go through.
 fn moving(x: Values, y: Values, second: Values) -> Ranges
     requires { ⌜ Small x × Small y × Small second ⌝ }
     ensures { λ r. ⌜ Small (r .x) × Small (r .y) × Small (r .second) ⌝ }
@@ -72,7 +73,7 @@ fn ranges_of(letter: u8) -> Ranges
     }
 }
 
-// One of the values: 0 gives the lowest, and 0 to 255 are spread over them all.
+// One of the values: 0 gives the lowest, and 0 to 255 are spread over all of them, both ends included.
 fn spread(n: u8, values: Values) -> i16
     requires { ⌜ Small values ⌝ }
 {

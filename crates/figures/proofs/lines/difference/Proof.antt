@@ -1,6 +1,6 @@
 -- `difference`: the place rises to the end.
-use Prim.Native.Nat.{_-_}
 use borrow.Author.Needs.{needs}
+use Prim.Native.Nat.{_-_}
 use Rattle.figures.proofs.lines.difference.Statement.{statement}
 use Rattle.figures.proofs.lines.difference.Tie as tie
 

@@ -1,8 +1,8 @@
 -- `lay`: before each report the line has at most five words for each and a silence.
-use Prim.Native.Nat.{_+_, _-_, _*_, _≤_}
 use borrow.Author.Needs.{needs}
 use lib.ListN.{length}
 use mathlib.Core.Path.{_≡_}
+use Prim.Native.Nat.{_+_, _-_, _*_, _≤_}
 use Rattle.figures.proofs.lines.lay.Statement.{statement}
 use Rattle.figures.proofs.lines.lay.Tie as tie
 

@@ -1,8 +1,8 @@
 -- `send`: a report has at most five bytes, and those left fall.
-use Prim.Native.Nat.{_-_, _≤_}
 use borrow.Author.Needs.{needs}
 use lib.ListN.{length}
 use mathlib.Core.Path.{_≡_}
+use Prim.Native.Nat.{_-_, _≤_}
 use Rattle.figures.proofs.lines.send.Statement.{statement}
 use Rattle.figures.proofs.lines.send.Tie as tie
 

@@ -1,7 +1,7 @@
 -- `replies`: the letters left fall.
-use Prim.Native.Nat.{_-_, _≤_}
 use borrow.Author.Needs.{needs}
 use lib.ListN.{length}
+use Prim.Native.Nat.{_-_, _≤_}
 use Rattle.figures.proofs.manuals.replies.Statement.{statement}
 use Rattle.figures.proofs.manuals.replies.Tie as tie
 

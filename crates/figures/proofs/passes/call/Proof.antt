@@ -1,9 +1,9 @@
 -- `call`: a part of the line and of the places ends within them.
-use Prim.Native.Nat.{_+_, _-_}
-use lib.ListN.{take, drop}
-use Rattle.figures.proofs.Laws.{fair, within}
 use borrow.Author.Needs.{needs}
+use lib.ListN.{take, drop}
 use native.Mathlib.Omega.{arith}
+use Prim.Native.Nat.{_+_, _-_}
+use Rattle.figures.proofs.Laws.{fair, within}
 use Rattle.figures.proofs.passes.call.Statement.{statement}
 use Rattle.figures.proofs.passes.call.Tie as tie
 

@@ -1,9 +1,9 @@
 -- `passed`: the words left fall, what is taken and written has its place, and no more is dropped than was taken and kept.
-use Prim.Native.Nat.{_+_, _-_, _*_, _≤_}
-use native.Mathlib.Omega.{arith}
 use borrow.Author.Needs.{needs}
 use lib.ListN.{length}
 use mathlib.Core.Path.{_≡_, refl}
+use native.Mathlib.Omega.{arith}
+use Prim.Native.Nat.{_+_, _-_, _*_, _≤_}
 use Rattle.figures.proofs.Laws.{none-kept}
 use Rattle.figures.proofs.passes.passed.Statement.{statement}
 use Rattle.figures.proofs.passes.passed.Tie as tie
@@ -23,7 +23,9 @@ fresh-requires : tie.Need-fresh-requires Inv-loop μ-loop
 fresh-requires c κs = search needs
 
 loop-holds : tie.Need-loop-holds Inv-loop μ-loop
-loop-holds c = let z = none-kept (c .before .before .before .args .letter) (c .before .fresh .result) (c .before .fresh .ensures) in (omega arith, omega arith, refl, omega (arith, z), omega arith)
+loop-holds c =
+    let none = none-kept (c .before .before .before .args .letter) (c .before .fresh .result) (c .before .fresh .ensures) in
+    (omega arith, omega arith, refl, omega (arith, none), omega arith)
 
 mul-call : tie.Need-mul-call Inv-loop μ-loop
 mul-call c = search needs
@@ -35,15 +37,21 @@ add-calls : tie.Need-add-calls Inv-loop μ-loop
 add-calls c = search needs
 
 add-taken : tie.Need-add-taken Inv-loop μ-loop
-add-taken c = omega (arith, c .before .before .before .before .before .call .ensures .0, c .before .before .before .before .before .before .before .before .before .before .before .before .good .1 .1 .0 .1)
+add-taken c =
+    let h = c .before .before .before .before .before in
+    omega (arith, h .call .ensures .0, h .before .before .before .before .before .before .before .good .1 .1 .0 .1)
 
 add-reports : tie.Need-add-reports Inv-loop μ-loop
-add-reports c = omega (arith, c .before .before .before .before .before .before .call .ensures .1, c .before .before .before .before .before .before .before .before .before .loop .inv .2, c .before .before .before .before .before .before .before .before .before .before .before .before .before .good .1 .1 .1 .0 .1)
+add-reports c =
+    let h = c .before .before .before .before .before .before in
+    let l = h .before .before .before in
+    omega (arith, h .call .ensures .1, l .loop .inv .2, l .before .before .before .before .good .1 .1 .1 .0 .1)
 
 add-dropped : tie.Need-add-dropped Inv-loop μ-loop
 add-dropped c =
-    let k = c .before .before .before .before .before .before .before .call .ensures in
-    omega (arith, k .0, k .2, c .before .before .before .before .before .before .before .before .before .before .loop .inv .3, c .before .before .before .before .before .before .before .before .before .before .before .before .before .before .good .1 .1 .0 .1)
+    let h = c .before .before .before .before .before .before .before in
+    let l = h .before .before .before in
+    omega (arith, h .call .ensures .0, h .call .ensures .2, l .loop .inv .3, l .before .before .before .before .good .1 .1 .0 .1)
 
 loop-less : tie.Need-loop-less Inv-loop μ-loop
 loop-less c = search needs

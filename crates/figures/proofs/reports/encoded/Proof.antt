@@ -1,10 +1,6 @@
 -- `encoded`: the encoder tells at most five bytes.
-use Rattle.figures.proofs.Laws.{at-most-five}
 use borrow.Author.Needs.{needs}
 use Rattle.figures.proofs.Laws.{at-most-five}
-use borrow.Author.Needs.{needs}
-use Rattle.figures.proofs.Laws.{at-most-five}
-use borrow.Author.Needs.{needs}
 use Rattle.figures.proofs.reports.encoded.Statement.{statement}
 use Rattle.figures.proofs.reports.encoded.Tie as tie
 

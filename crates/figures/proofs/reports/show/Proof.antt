@@ -1,6 +1,6 @@
 -- `show`: a report has at most five bytes, and those left fall.
-use Prim.Native.Nat.{_-_, _≤_}
 use borrow.Author.Needs.{needs}
+use Prim.Native.Nat.{_-_, _≤_}
 use Rattle.figures.proofs.reports.show.Statement.{statement}
 use Rattle.figures.proofs.reports.show.Tie as tie
 

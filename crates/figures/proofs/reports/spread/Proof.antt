@@ -1,19 +1,11 @@
 -- `spread`: what is added is below 4096.
-use Prim.Native.Nat.{_*_, _%_, _<_}
-use Rattle.figures.proofs.Laws.{sum-fits}
 use borrow.Author.Needs.{needs}
 use mir.Facts.{toZ-ofZ, toZ-pos}
 use mir.Syntax.{w16}
 use native.Mathlib.Nat.{mod-lt}
 use native.Mathlib.Omega.{arith}
+use Prim.Native.Nat.{_*_, _%_, _<_}
 use Rattle.figures.proofs.Laws.{sum-fits}
-use borrow.Author.Needs.{needs}
-use native.Mathlib.Nat.{mod-lt}
-use native.Mathlib.Omega.{arith}
-use Rattle.figures.proofs.Laws.{sum-fits}
-use borrow.Author.Needs.{needs}
-use native.Mathlib.Nat.{mod-lt}
-use native.Mathlib.Omega.{arith}
 use Rattle.figures.proofs.reports.spread.Statement.{statement}
 use Rattle.figures.proofs.reports.spread.Tie as tie
 

@@ -1,7 +1,7 @@
 -- `answers`: the words left fall.
-use Prim.Native.Nat.{_-_, _≤_}
 use borrow.Author.Needs.{needs}
 use lib.ListN.{length}
+use Prim.Native.Nat.{_-_, _≤_}
 use Rattle.figures.proofs.steps.answers.Statement.{statement}
 use Rattle.figures.proofs.steps.answers.Tie as tie
 
