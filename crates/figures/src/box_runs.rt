@@ -1,0 +1,53 @@
+// The figures of document 01 that are run.
+use crate::print;
+use crate::steps::after;
+use crate::steps::answers;
+use crate::steps::slots;
+use ballbox::BallBox;
+use ballbox::Event;
+
+// "T, Motion(200, 0), Period, Slot: x 127, counter 0": the slots that follow send x and y, and then silence.
+fn held_movement() {
+    print::say(b"T");
+    let b = after(BallBox::fresh(), Event::Host(b'T'));
+    let b = after(b, Event::Motion(200, 0));
+    let b = after(b, Event::Period);
+    let b = after(b, Event::Slot);
+    let going = b.going;
+    let bytes = going.bytes;
+    print::say(b", x ");
+    print::small(bytes[1]);
+    let counter = b.track.counter;
+    print::say(b", counters ");
+    print::signed(counter.x);
+    print::say(b" ");
+    print::signed(counter.y);
+    slots(b, 3);
+    print::say(b"\n");
+}
+
+// "S, 94 05 98 00 00: two dropped, one zero report."
+fn second_mark() {
+    print::say(b"S");
+    let words = [0x94u16, 0x05, 0x98, 0x00, 0x00];
+    answers(b'S', &words);
+}
+
+// "S, 94 sent, Host R: 256": what is left of the report is lost, and the box has nothing more to send.
+fn broken_off() {
+    print::say(b"S");
+    let b = after(BallBox::fresh(), Event::Host(b'S'));
+    let b = after(b, Event::Buttons(4));
+    let b = after(b, Event::Motion(5, -3));
+    let b = after(b, Event::Slot);
+    let b = after(b, Event::Host(b'R'));
+    slots(b, 1);
+    print::say(b"\n");
+}
+
+pub(crate) fn figures() {
+    print::say(b"Figures of document 01\n");
+    held_movement();
+    second_mark();
+    broken_off();
+}
