@@ -4,17 +4,13 @@ use mathlib.Core.Path.{_≡_, refl, ap, _∙_}
 use mathlib.Core.Bool.{Bool, true, false, cond}
 use native.Mathlib.Omega.{arith}
 use lib.Dec.{eqb}
-use lib.IntN.{ℤ, pos, negsuc}
+use lib.IntN.{ℤ}
 use lib.ListN.{length, drop}
 use lib.Signed.{leZ}
 use mathlib.Core.List.{List, [], _++_}
-use borrow.Author.Tests.{leb-true, le-leb}
 use Rattle.wire.proofs.Accepts.{accepts}
 use Rattle.wire.proofs.Letters.{letter-named}
-use Rattle.numbers.proofs.Choices.{both}
-use Rattle.numbers.specs.Signed.{held}
 use Rattle.numbers.proofs.Held.{held-inside}
-use Rattle.numbers.proofs.Tested.{left, right, holds as so}
 use Rattle.wire.specs.Line.{letterOf, namedBy, sizeBy, sizeOf}
 use Rattle.wire.specs.Table.{five, bytesOf, bytesS, bytesV, bytesA, bytesB, bytesU, bytesT, bytesW, rowsV, rowsA, rowsW, bytesBy}
 use Rattle.wire.specs.Holds.{within, xRange, yRange, secondRange, accepted, acceptedBy}
@@ -27,26 +23,13 @@ use Rattle.wire.specs.declared.Report.{Report}
 use Rattle.wire.specs.declared.Format.{Format}
 use Rattle.wire.specs.declared.Format.the-variants.{Mm, Microsoft, Absolute, Relative, FiveByte, ThreeByte, Hexadecimal}
 use Rattle.wire.proofs.Codec.{bytes-length}
+use Rattle.wire.proofs.Codec.Ranges.{wider}
 use Rattle.wire.proofs.Codec.Accepted.{whole, one-pair}
 use Rattle.ballbox.specs.Motion.{isA}
 use Rattle.ballbox.specs.Latching.{limits, limited, taken, movement, latchedReport, secondOnly}
 use Rattle.ballbox.specs.declared.Track.{Track}
 use Rattle.ballbox.specs.declared.BallBox.{BallBox}
 use Rattle.ballbox.proofs.Letters.{Lettered, known, unknown, lettered}
-
--- a wider range holds what a narrower one holds
-below : (a b c : ℤ) → leZ a b ≡ true → leZ b c ≡ true → leZ a c ≡ true
-below (pos a) (pos b) (pos c) h k = le-leb a c (omega (arith, leb-true a b h, leb-true b c k))
-below (negsuc a) (negsuc b) (negsuc c) h k = le-leb c a (omega (arith, leb-true b a h, leb-true c b k))
-below (negsuc a) b (pos c) h k = refl
-below (pos a) (pos b) (negsuc c) h k = absurd (so k)
-below (pos a) (negsuc b) c h k = absurd (so h)
-below (negsuc a) (pos b) (negsuc c) h k = absurd (so k)
-
-pub wider : (r s : Range) (v : ℤ) → leZ (s .low) (r .low) ≡ true → leZ (r .high) (s .high) ≡ true → within r v ≡ true → within s v ≡ true
-wider r s v h k e =
-    both (leZ (s .low) v) (leZ v (s .high)) (below (s .low) (r .low) v h (left (leZ (r .low) v) (leZ v (r .high)) e))
-    (below v (r .high) (s .high) (right (leZ (r .low) v) (leZ v (r .high)) e) k)
 
 -- what is limited lies within the limits
 ordered : (a b : Bool) (r s t : Range) → leZ (r .low) (r .high) ≡ true → leZ (s .low) (s .high) ≡ true → leZ (t .low) (t .high) ≡ true → leZ (cond a r (cond b s t) .low) (cond a r (cond b s t) .high) ≡ true
@@ -82,14 +65,17 @@ unfolding latchedReport taken
 latched-accepted b p = by-letter (b .settings .format) (b .settings .buttons) _ _ (omega arith) (limited-within _ _) (limited-within _ _) (lettered (b .settings .format))
 
 -- and so is U's second pair
+pub second-within : (v : ℤ) → within (secondRange FiveByte) (limited (letterOf FiveByte) v) ≡ true
+unfolding limits
+second-within v =
+    wider (limits (letterOf FiveByte)) (secondRange FiveByte) (limited (letterOf FiveByte) v) refl refl (limited-within (letterOf FiveByte) v)
+
 pub second-accepted : (t : Track) → acceptedBy (letterOf FiveByte) (secondOnly (taken (letterOf FiveByte) t)) ≡ true
-unfolding acceptedBy namedBy taken limits
+unfolding acceptedBy namedBy taken
 second-accepted t =
-    let held : (v : ℤ) → within (secondRange FiveByte) (limited (letterOf FiveByte) v) ≡ true
-    = λ v. wider (limits (letterOf FiveByte)) (secondRange FiveByte) (limited (letterOf FiveByte) v) refl refl (limited-within (letterOf FiveByte) v) in
     let m = movement (letterOf FiveByte) t in
     whole FiveByte (secondOnly (taken (letterOf FiveByte) t))
-    (record { pressed = omega arith; moved = record { x = refl; y = refl; second-x = held (m .x); second-y = held (m .y) } })
+    (record { pressed = omega arith; moved = record { x = refl; y = refl; second-x = second-within (m .x); second-y = second-within (m .y) } })
 
 -- the bytes by a letter are as many as the size by it
 length-in : (letter : ℕ) (r : Report) → Lettered letter → length (bytesBy letter r) ≡ sizeBy letter

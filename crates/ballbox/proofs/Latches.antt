@@ -6,18 +6,16 @@ use mathlib.Core.List.{List, [], _∷_}
 use native.Mathlib.Omega.{arith}
 use lib.Dec.{eqb}
 use lib.ListN.{length}
-use borrow.Author.Tests.{lt-ltb, le-ltb, leb-true}
-use lib.IntN.{ℤ, pos, negsuc}
-use lib.Signed.{ltZ, leZ}
-use Rattle.numbers.specs.Signed.{minus, held}
-use Rattle.numbers.proofs.Tested.{left, right, holds}
+use borrow.Author.Tests.{lt-ltb}
+use lib.IntN.{pos}
+use Rattle.numbers.proofs.Held.{held-same}
+use Rattle.numbers.proofs.Tested.{left, right}
 use Rattle.wire.specs.Line.{letterOf, namedBy}
 use Rattle.wire.specs.Table.{five, bytesOf, bytesBy}
 use Rattle.wire.specs.Holds.{_to_, within}
 use Rattle.wire.specs.Reading.{at}
-use Rattle.wire.specs.declared.Range.{Range}
 use Rattle.wire.specs.declared.Format.{Format}
-use Rattle.wire.specs.declared.Format.the-variants.{Mm, Microsoft, Absolute, Relative, FiveByte, ThreeByte, Hexadecimal}
+use Rattle.wire.specs.declared.Format.the-variants.{Absolute, FiveByte}
 use Rattle.ballbox.specs.Box.{Answer, goingFrom, withGoing}
 use Rattle.ballbox.specs.Latching.{limits, limited, movement, taken, latchedReport, latched}
 use Rattle.ballbox.specs.Events.{bytesLeft, wanted, secondNow, nextByte, sending, onSlot, awake}
@@ -29,56 +27,21 @@ use Rattle.ballbox.specs.declared.Track.{Track}
 use Rattle.ballbox.specs.declared.BallBox.{BallBox}
 use Rattle.wire.proofs.Letters.{letter-named}
 use Rattle.ballbox.proofs.Accepting.{limited-within}
-use Rattle.ballbox.proofs.Steps.{parts}
-use Rattle.ballbox.proofs.Kept.{latched-left}
+use Rattle.ballbox.proofs.Good.{parts}
+use Rattle.ballbox.proofs.Goodness.{latched-left}
 use Rattle.ballbox.proofs.Slots.{latching-busy, latching-wanted, sending-byte, ready-plain}
 use Rattle.ballbox.proofs.Refusals.{awake-step}
 
--- -127 to 127 in the eight-bit formats, -2048 to 2047 in B, 0 to 4095 in A
-abbrev pub reportRange : Format → Range
-reportRange Mm = minus 127 to pos 127
-reportRange Microsoft = minus 127 to pos 127
-reportRange Absolute = pos 0 to pos 4095
-reportRange Relative = minus 2048 to pos 2047
-reportRange FiveByte = minus 127 to pos 127
-reportRange ThreeByte = minus 127 to pos 127
-reportRange Hexadecimal = minus 127 to pos 127
-
-limits-by : (f : Format) → limits (letterOf f) ≡ reportRange f
-unfolding limits
-limits-by Mm = refl
-limits-by Microsoft = refl
-limits-by Absolute = refl
-limits-by Relative = refl
-limits-by FiveByte = refl
-limits-by ThreeByte = refl
-limits-by Hexadecimal = refl
-
-in-range : (f : Format) (letter : ℕ) (v : ℤ) → letter ≡ letterOf f → within (reportRange f) (limited letter v) ≡ true
-in-range f letter v e = rw (ap limits e ∙ limits-by f) at (limited-within letter v)
-
 -- a movement that is taken, of a first or a second pair, lies in the range of its format
-pub taken-range : (f : Format) (letter : ℕ) (t : Track) → letter ≡ letterOf f →
-    (within (reportRange f) (taken letter t .x) ≡ true) × (within (reportRange f) (taken letter t .y) ≡ true)
+pub taken-range : (letter : ℕ) (t : Track) → (within (limits letter) (taken letter t .x) ≡ true) × (within (limits letter) (taken letter t .y) ≡ true)
 unfolding taken
-taken-range f letter t e = (in-range f letter (movement letter t .x) e, in-range f letter (movement letter t .y) e)
+taken-range letter t = (limited-within letter (movement letter t .x), limited-within letter (movement letter t .y))
 
-pub latched-range : (f : Format) (b : BallBox) → b .settings .format ≡ letterOf f →
-    (within (reportRange f) (latchedReport b .x1) ≡ true) × (within (reportRange f) (latchedReport b .y1) ≡ true)
+pub latched-range : (b : BallBox) → (within (limits (b .settings .format)) (latchedReport b .x1) ≡ true) × (within (limits (b .settings .format)) (latchedReport b .y1) ≡ true)
 unfolding latchedReport
-latched-range f b e = taken-range f (b .settings .format) (b .track) e
+latched-range b = taken-range (b .settings .format) (b .track)
 
 -- what lies within is taken as it is: in A the position of a good box
-not-above : (a b : ℤ) → leZ a b ≡ true → ltZ b a ≡ false
-not-above (pos a) (pos b) e = le-ltb b a (leb-true a b e)
-not-above (pos a) (negsuc b) e = absurd (holds e)
-not-above (negsuc a) (pos b) e = refl
-not-above (negsuc a) (negsuc b) e = le-ltb a b (leb-true b a e)
-
-pub held-same : (lo hi v : ℤ) → within (lo to hi) v ≡ true → held lo hi v ≡ v
-unfolding held
-held-same lo hi v e = rw (not-above lo v (left (leZ lo v) (leZ v hi) e), not-above v hi (right (leZ lo v) (leZ v hi) e))
-
 pub position-taken : (t : Track) → onPad (t .position) ≡ true → taken (letterOf Absolute) t ≡ t .position
 unfolding taken movement limited limits
 position-taken t h =

@@ -1,5 +1,5 @@
 -- Letters: the formats that they name, and the ranges in which the host's letters stand.
-use Prim.Native.Nat.{ℕ, _+_, _-_, _<_, _≤_}
+use Prim.Native.Nat.{ℕ, _+_, _<_, _≤_}
 use mathlib.Core.Path.{_≡_, refl}
 use mathlib.Core.Bool.{Bool, true, false, not, _||_}
 use lib.Dec.{T, eqb}
@@ -10,7 +10,8 @@ use Rattle.wire.specs.Line.{letterOf, namedBy}
 use Rattle.wire.specs.declared.Format.{Format}
 use Rattle.wire.specs.declared.Format.the-variants.{Mm, Microsoft, Absolute, Relative, FiveByte, ThreeByte, Hexadecimal}
 use Rattle.wire.specs.declared.Named.the-variants.{Unknown}
-use Rattle.ballbox.specs.Commands.{isFormat, isStream, commandOf}
+use Rattle.ballbox.specs.Box.{modeD}
+use Rattle.ballbox.specs.Commands.{letterP, space, letterf, lettert, byte05, letterd, isFormat, isStream, commandOf}
 use Rattle.ballbox.specs.declared.Command.the-variants.{Ignored}
 
 -- a letter is that of a format, or names none
@@ -39,12 +40,12 @@ no-format lo n t b h k = not-true (isFormat b) (ranged (λ m. not (isFormat m)) 
 pub no-stream : (lo n : ℕ) → T (each (λ k. not (isStream (lo + k))) n) → (b : ℕ) → lo ≤ b → b < lo + n → isStream b ≡ false
 no-stream lo n t b h k = not-true (isStream b) (ranged (λ m. not (isStream m)) lo n t b h k)
 
-pub stream : (b : ℕ) → 74 ≤ b → b < 83 → (b ≡ 80 → ⊥) → isStream b ≡ true
-stream b h k n = simp (ne-eqb b 80 n) at (ranged (λ m. eqb m 80 || isStream m) 74 9 tt b h k)
+pub stream : (b : ℕ) → 74 ≤ b → b < 83 → (b ≡ letterP → ⊥) → isStream b ≡ true
+stream b h k n = simp (ne-eqb b letterP n) at (ranged (λ m. eqb m letterP || isStream m) 74 9 tt b h k)
 
 -- none of the host's letters
-pub ignored : (b : ℕ) → (b ≡ 68 → ⊥) → (b ≡ 80 → ⊥) → (b ≡ 32 → ⊥) → (b ≡ 102 → ⊥) → (b ≡ 116 → ⊥) → (b ≡ 5 → ⊥) → (b ≡ 100 → ⊥) →
+pub ignored : (b : ℕ) → (b ≡ modeD → ⊥) → (b ≡ letterP → ⊥) → (b ≡ space → ⊥) → (b ≡ letterf → ⊥) → (b ≡ lettert → ⊥) → (b ≡ byte05 → ⊥) → (b ≡ letterd → ⊥) →
     isFormat b ≡ false → isStream b ≡ false → Ignored ≡ commandOf b
 unfolding commandOf
 ignored b h₁ h₂ h₃ h₄ h₅ h₆ h₇ f s =
-    rw (f, s, ne-eqb b 68 h₁, ne-eqb b 80 h₂, ne-eqb b 32 h₃, ne-eqb b 102 h₄, ne-eqb b 116 h₅, ne-eqb b 5 h₆, ne-eqb b 100 h₇)
+    rw (f, s, ne-eqb b modeD h₁, ne-eqb b letterP h₂, ne-eqb b space h₃, ne-eqb b letterf h₄, ne-eqb b lettert h₅, ne-eqb b byte05 h₆, ne-eqb b letterd h₇)

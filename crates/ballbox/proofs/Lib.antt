@@ -1,15 +1,17 @@
--- The laws of the ball box: one answer and the refusals (Refusals), good boxes (Kept), the words (Words), what moved means (Moving), what is
--- latched (Latches), the host's bytes (Obeying), the dormant box (Sleeping), the useless box (Useless) and the figures (Figures). The rest
--- is what these and the functions' proofs share.
+-- The laws of the ball box: its one answer (Answers), the refusals and else the rules (Refusals), good boxes (Goodness), the words (Words),
+-- what moved means (Moving), what is latched (Latches), the host's bytes (Obeying), the dormant box (Dormancy) and the useless box (Useless).
+-- What these and the functions' proofs share: the letters (Letters), that what is latched is accepted (Accepting), a good box part by part
+-- (Good), and a slot case by case (Slots).
 pub mod Letters
 pub mod Accepting
-pub mod Steps
+pub mod Good
 pub mod Slots
-pub mod Kept
+pub mod Goodness
+pub mod Answers
 pub mod Refusals
 pub mod Words
 pub mod Moving
 pub mod Latches
 pub mod Obeying
-pub mod Sleeping
+pub mod Dormancy
 pub mod Useless

@@ -9,7 +9,7 @@ use Rattle.numbers.proofs.Choices.{other, neither, cases}
 use Rattle.wire.specs.Line.{break, letterOf, namedBy}
 use Rattle.wire.specs.declared.Format.{Format}
 use Rattle.ballbox.specs.Box.{modeD, nothing, goingFrom, withGoing, Answer, gives, quietly}
-use Rattle.ballbox.specs.Commands.{isFormat, isStream, commandOf, ack, codeOf, codeByte, obeyed}
+use Rattle.ballbox.specs.Commands.{letterP, space, letterf, lettert, byte05, letterd, isFormat, isStream, commandOf, isCommand, ack, codeOf, codeByte, obeyed}
 use Rattle.ballbox.specs.Events.{bytesLeft, brokenOff, dropped, onHost, awake}
 use Rattle.ballbox.specs.Good.{good}
 use Rattle.ballbox.specs.Promises.{answerOf, StepPromise}
@@ -19,25 +19,27 @@ use Rattle.ballbox.specs.declared.Command.the-variants.{Ignored}
 use Rattle.ballbox.specs.declared.Event.the-variants.{Host}
 use Rattle.ballbox.specs.declared.Stepped.{Stepped}
 use Rattle.wire.proofs.Letters.{letter-named}
-use Rattle.ballbox.proofs.Steps.{parts}
-use Rattle.ballbox.proofs.Kept.{mode-known}
+use Rattle.ballbox.proofs.Good.{parts}
+use Rattle.ballbox.proofs.Goodness.{mode-known}
 use Rattle.ballbox.proofs.Refusals.{awake-step}
-
--- the letters, space and 05H
-abbrev pub isCommand : ℕ → Bool
-isCommand n =
-    isFormat n || isStream n || eqb n 0x44 || eqb n 0x50 || eqb n 0x20 || eqb n 0x66 || eqb n 0x74 || eqb n 0x05 || eqb n 0x64
 
 pub rest-ignored : (n : ℕ) → isCommand n ≡ false → commandOf n ≡ Ignored
 unfolding commandOf
 rest-ignored n h =
-    let e9 = neither (isFormat n || isStream n || eqb n 0x44 || eqb n 0x50 || eqb n 0x20 || eqb n 0x66 || eqb n 0x74 || eqb n 0x05) (eqb n 0x64) h in
-    let e8 = neither (isFormat n || isStream n || eqb n 0x44 || eqb n 0x50 || eqb n 0x20 || eqb n 0x66 || eqb n 0x74) (eqb n 0x05) (e9 .0) in
-    let e7 = neither (isFormat n || isStream n || eqb n 0x44 || eqb n 0x50 || eqb n 0x20 || eqb n 0x66) (eqb n 0x74) (e8 .0) in
-    let e6 = neither (isFormat n || isStream n || eqb n 0x44 || eqb n 0x50 || eqb n 0x20) (eqb n 0x66) (e7 .0) in
-    let e5 = neither (isFormat n || isStream n || eqb n 0x44 || eqb n 0x50) (eqb n 0x20) (e6 .0) in
-    let e4 = neither (isFormat n || isStream n || eqb n 0x44) (eqb n 0x50) (e5 .0) in
-    let e3 = neither (isFormat n || isStream n) (eqb n 0x44) (e4 .0) in
+    let a2 = isFormat n || isStream n in
+    let a3 = a2 || eqb n modeD in
+    let a4 = a3 || eqb n letterP in
+    let a5 = a4 || eqb n space in
+    let a6 = a5 || eqb n letterf in
+    let a7 = a6 || eqb n lettert in
+    let a8 = a7 || eqb n byte05 in
+    let e9 = neither a8 (eqb n letterd) h in
+    let e8 = neither a7 (eqb n byte05) (e9 .0) in
+    let e7 = neither a6 (eqb n lettert) (e8 .0) in
+    let e6 = neither a5 (eqb n letterf) (e7 .0) in
+    let e5 = neither a4 (eqb n space) (e6 .0) in
+    let e4 = neither a3 (eqb n letterP) (e5 .0) in
+    let e3 = neither a2 (eqb n modeD) (e4 .0) in
     let e2 = neither (isFormat n) (isStream n) (e3 .0) in
     rw (e2 .0, e2 .1, e3 .1, e4 .1, e5 .1, e6 .1, e7 .1, e8 .1, e9 .1)
 
@@ -75,40 +77,40 @@ prompt-letter b g s =
 
 module _ (b : BallBox) (r : Stepped) (g : good b ≡ true) (d : b .dormant ≡ false) where
   -- D and P set it
-  pub prompt-by-D : StepPromise b (Host 0x44) r → (r .next .settings .mode ≡ modeD) × (r .next .due ≡ false)
+  pub prompt-by-D : StepPromise b (Host modeD) r → (r .next .settings .mode ≡ modeD) × (r .next .due ≡ false)
   unfolding commandOf obeyed
-  prompt-by-D s = let e = next-is b 0x44 r s g d in (ap (λ (x : BallBox). x .settings .mode) e, ap (λ (x : BallBox). x .due) e)
+  prompt-by-D s = let e = next-is b modeD r s g d in (ap (λ (x : BallBox). x .settings .mode) e, ap (λ (x : BallBox). x .due) e)
 
-  pub prompt-by-P : StepPromise b (Host 0x50) r → (r .next .settings .mode ≡ modeD) × (r .next .due ≡ true)
+  pub prompt-by-P : StepPromise b (Host letterP) r → (r .next .settings .mode ≡ modeD) × (r .next .due ≡ true)
   unfolding commandOf obeyed
-  prompt-by-P s = let e = next-is b 0x50 r s g d in (ap (λ (x : BallBox). x .settings .mode) e, ap (λ (x : BallBox). x .due) e)
+  prompt-by-P s = let e = next-is b letterP r s g d in (ap (λ (x : BallBox). x .settings .mode) e, ap (λ (x : BallBox). x .due) e)
 
   -- "Space: ACK."
-  pub reply-to-space : StepPromise b (Host 0x20) r → r .next .going ≡ goingFrom ack
+  pub reply-to-space : StepPromise b (Host space) r → r .next .going ≡ goingFrom ack
   unfolding commandOf obeyed
-  reply-to-space s = ap (λ (x : BallBox). x .going) (next-is b 0x20 r s g d)
+  reply-to-space s = ap (λ (x : BallBox). x .going) (next-is b space r s g d)
 
   -- "`f`: one byte, 10H plus twice the code"
-  pub reply-to-f : (f : Format) → b .settings .format ≡ letterOf f → StepPromise b (Host 0x66) r → r .next .going ≡ goingFrom ((0x10 + 2 * codeOf f) ∷ [])
+  pub reply-to-f : (f : Format) → b .settings .format ≡ letterOf f → StepPromise b (Host letterf) r → r .next .going ≡ goingFrom ((0x10 + 2 * codeOf f) ∷ [])
   unfolding commandOf obeyed codeByte
   reply-to-f f e s =
-      ap (λ (x : BallBox). x .going) (next-is b 0x66 r s g d) ∙
+      ap (λ (x : BallBox). x .going) (next-is b letterf r s g d) ∙
       ap (λ (c : ℕ). goingFrom (c ∷ [])) (ap (λ (x : Settings). codeByte (x .format)) (dropped-settings b) ∙ rw (ap namedBy e ∙ letter-named f))
 
-  pub awake-after-f : StepPromise b (Host 0x66) r → r .next .dormant ≡ false
+  pub awake-after-f : StepPromise b (Host letterf) r → r .next .dormant ≡ false
   unfolding commandOf obeyed
-  awake-after-f s = ap (λ (x : BallBox). x .dormant) (next-is b 0x66 r s g d) ∙ (dropped-awake b ∙ d)
+  awake-after-f s = ap (λ (x : BallBox). x .dormant) (next-is b letterf r s g d) ∙ (dropped-awake b ∙ d)
 
   -- "`t`: format letter, mode letter."
-  pub reply-to-t : StepPromise b (Host 0x74) r → r .next .going ≡ goingFrom (b .settings .format ∷ b .settings .mode ∷ [])
+  pub reply-to-t : StepPromise b (Host lettert) r → r .next .going ≡ goingFrom (b .settings .format ∷ b .settings .mode ∷ [])
   unfolding commandOf obeyed
   reply-to-t s =
-      ap (λ (x : BallBox). x .going) (next-is b 0x74 r s g d) ∙
+      ap (λ (x : BallBox). x .going) (next-is b lettert r s g d) ∙
       ap (λ (x : Settings). goingFrom (x .format ∷ x .mode ∷ [])) (dropped-settings b)
 
   -- "05H: buttons, 0, 0."
-  pub reply-to-05 : StepPromise b (Host 0x05) r → r .next .going ≡ goingFrom (b .settings .buttons ∷ 0 ∷ 0 ∷ [])
+  pub reply-to-05 : StepPromise b (Host byte05) r → r .next .going ≡ goingFrom (b .settings .buttons ∷ 0 ∷ 0 ∷ [])
   unfolding commandOf obeyed
   reply-to-05 s =
-      ap (λ (x : BallBox). x .going) (next-is b 0x05 r s g d) ∙
+      ap (λ (x : BallBox). x .going) (next-is b byte05 r s g d) ∙
       ap (λ (x : Settings). goingFrom (x .buttons ∷ 0 ∷ 0 ∷ [])) (dropped-settings b)

@@ -7,10 +7,10 @@ use native.Mathlib.Omega.{arith}
 use lib.Dec.{eqb, ltb}
 use lib.ListN.{length, take, set, replicate, length-set, length-append}
 use lib.Seq.{length-take-le}
-use borrow.Author.Tests.{eqb-true, leb-true, ltb-true, ltb-false, ne-eqb, not-false}
-use Rattle.numbers.proofs.Choices.{cases}
+use borrow.Author.Tests.{eqb-true, leb-true, le-leb, ltb-true, ltb-false, ne-eqb, not-false}
+use Rattle.numbers.proofs.Choices.{both, cases}
 use Rattle.numbers.proofs.Tested.{left, holds}
-use Rattle.wire.specs.Line.{letterOf, namedBy}
+use Rattle.wire.specs.Line.{silence, lineWords, letterOf, namedBy}
 use Rattle.wire.specs.Table.{bytesOf, bytesBy}
 use Rattle.wire.specs.Holds.{accepted, acceptedBy}
 use Rattle.wire.specs.Reading.{at}
@@ -19,9 +19,9 @@ use Rattle.wire.specs.declared.Format.the-variants.{Mm, Microsoft, Absolute, Re
 use Rattle.wire.specs.declared.Report.{Report}
 use Rattle.wire.proofs.Letters.{letter-named}
 use Rattle.wire.proofs.Codec.{bytes-below}
-use Rattle.ballbox.specs.Box.{freshBox, modeD, Answer, nothing, goingFrom, withGoing}
+use Rattle.ballbox.specs.Box.{freshBox, modeO, modeD, Answer, nothing, goingFrom, Bytes, FiveBytes, withGoing}
 use Rattle.ballbox.specs.Latching.{taken, latchedReport, latched, secondOnly, withSecond, secondLatched}
-use Rattle.ballbox.specs.Commands.{isFormat, isStream, codeOf, codeByte, commandOf, obeyed}
+use Rattle.ballbox.specs.Commands.{letterP, space, letterf, lettert, byte05, letterd, isFormat, isStream, codeOf, codeByte, commandOf, obeyed}
 use Rattle.ballbox.specs.Events.{Speaks, onButtons, onPeriod, bytesLeft, wanted, latching, secondNow, withByteReady, after, nextByte, sending, onSlot, dropped, onHost, woken, awake, asleep}
 use Rattle.ballbox.specs.Good.{good, goodSettings}
 use Rattle.ballbox.specs.Promises.{wordsOf, aboveSeven, stepOf, FreshPromise, StepPromise}
@@ -33,8 +33,8 @@ use Rattle.ballbox.specs.declared.Event.the-variants.{Motion, Buttons, H
 use Rattle.ballbox.specs.declared.Stepped.{Stepped}
 use Rattle.ballbox.proofs.Letters.{Lettered, known, unknown, lettered}
 use Rattle.ballbox.proofs.Accepting.{latched-accepted, second-accepted}
-use Rattle.ballbox.proofs.Steps.{parts, good-buttons}
-use Rattle.ballbox.proofs.Kept.{letter-known, mode-known, few}
+use Rattle.ballbox.proofs.Good.{parts, good-buttons}
+use Rattle.ballbox.proofs.Goodness.{letter-known, mode-known, few}
 
 no-word : {X : Type 0} (w : ℕ) (ws : List ℕ) → [] ≡ w ∷ ws → X
 no-word w ws e = let z : _≡_ {A = ℕ} 0 1 = cc in absurd (omega arith)
@@ -74,11 +74,7 @@ speaks b Period w ws =
 pub only-slot-and-host : (b : BallBox) (e : Event) (r : Stepped) (w : ℕ) (ws : List ℕ) → StepPromise b e r → wordsOf (r .sent) ≡ w ∷ ws → Speaks b e
 only-slot-and-host b e r w ws s h = speaks b e w ws (sym (ap (λ (x : Answer). x .words) s) ∙ h)
 
--- bytes, each below 256
-abbrev pub Bytes : List ℕ → Type 0
-Bytes [] = Unit {0}
-Bytes (b ∷ bs) = (b < 256) × Bytes bs
-
+-- bytes, place by place and part by part
 bytes-at : (bs : List ℕ) (i : ℕ) → Bytes bs → at i bs < 256
 bytes-at [] i h = omega arith
 bytes-at (b ∷ bs) zero h = h .0
@@ -102,11 +98,7 @@ bytes-take zero bs h = tt
 bytes-take (suc n) [] h = tt
 bytes-take (suc n) (b ∷ bs) h = (h .0, bytes-take n bs (h .1))
 
--- what an array of five bytes holds
-pub record FiveBytes (g : Going) : Type 0 where
-  pub count : length (g .bytes) ≡ 5
-  pub each : Bytes (g .bytes)
-
+-- what is going has five
 going-five : (bytes : List ℕ) → Bytes bytes → FiveBytes (goingFrom bytes)
 unfolding goingFrom
 going-five bytes h =
@@ -171,8 +163,8 @@ mode-small m h = go (ltb m 256) refl
           ne-eqb m 0x4D (λ q. omega arith),
           ne-eqb m 0x51 (λ q. omega arith),
           ne-eqb m 0x4E (λ q. omega arith),
-          ne-eqb m 0x4F (λ q. omega arith),
-          ne-eqb m 0x44 (λ q. omega arith),
+          ne-eqb m modeO (λ q. omega arith),
+          ne-eqb m modeD (λ q. omega arith),
         ) at h))
 
 letter-small : (f : Format) → letterOf f < 256
@@ -217,33 +209,32 @@ obeyed-five n b s h =
     let l0 : 0 < 256 = omega arith in
     cases (Replies b) (isFormat n) (λ e. h)
     (λ _. cases (Replies b) (isStream n) (λ e. h)
-    (λ _. cases (Replies b) (eqb n 0x44) (λ e. h)
-    (λ _. cases (Replies b) (eqb n 0x50) (λ e. h)
-    (λ _. cases (Replies b) (eqb n 0x20) (λ e. going-five _ (l6, tt))
-    (λ _. cases (Replies b) (eqb n 0x66) (λ e. going-five _ (code-byte f (lettered f), tt))
-    (λ _. cases (Replies b) (eqb n 0x74) (λ e. going-five _ (lf, (lm, tt)))
-    (λ _. cases (Replies b) (eqb n 0x05) (λ e. going-five _ (lb, (l0, (l0, tt))))
-    (λ _. cases (Replies b) (eqb n 0x64) (λ e. h) (λ _. h)))))))))
-
--- each word is at most 257
-abbrev pub Legal : List ℕ → Type 0
-Legal [] = Unit {0}
-Legal (w ∷ ws) = (w ≤ 257) × Legal ws
+    (λ _. cases (Replies b) (eqb n modeD) (λ e. h)
+    (λ _. cases (Replies b) (eqb n letterP) (λ e. h)
+    (λ _. cases (Replies b) (eqb n space) (λ e. going-five _ (l6, tt))
+    (λ _. cases (Replies b) (eqb n letterf) (λ e. going-five _ (code-byte f (lettered f), tt))
+    (λ _. cases (Replies b) (eqb n lettert) (λ e. going-five _ (lf, (lm, tt)))
+    (λ _. cases (Replies b) (eqb n byte05) (λ e. going-five _ (lb, (l0, (l0, tt))))
+    (λ _. cases (Replies b) (eqb n letterd) (λ e. h) (λ _. h)))))))))
 
 -- what a step is to keep and to say
 record Sound (a : Answer) : Type 0 where
   bytes : FiveBytes (a .next .going)
-  legal : Legal (a .words)
+  legal : lineWords (a .words) ≡ true
+
+one-legal : (w : ℕ) → w ≤ silence → lineWords (w ∷ []) ≡ true
+unfolding lineWords
+one-legal w h = both _ _ (le-leb w silence h) refl
 
 next-sound : (b : BallBox) → FiveBytes (b .going) → Sound (nextByte b)
 unfolding nextByte
 next-sound b h =
-    record { bytes = after-five (b .going) h; legal = (omega (arith, bytes-at (b .going .bytes) (b .going .sent) (h .each)), tt) }
+    record { bytes = after-five (b .going) h; legal = one-legal _ (omega (arith, bytes-at (b .going .bytes) (b .going .sent) (h .each))) }
 
 sending-sound : (b : BallBox) → FiveBytes (b .going) → Sound (sending b)
-unfolding sending
+unfolding sending lineWords
 sending-sound b h =
-    cases Sound (bytesLeft b) (λ e. next-sound (withByteReady b) (ready-five b h)) (λ e. record { bytes = h; legal = (omega arith, tt) })
+    cases Sound (bytesLeft b) (λ e. next-sound (withByteReady b) (ready-five b h)) (λ e. record { bytes = h; legal = refl })
 
 slot-sound : (b : BallBox) → good b ≡ true → FiveBytes (b .going) → Sound (onSlot b)
 unfolding latching
@@ -252,36 +243,36 @@ slot-sound b g h =
     (cases (λ (x : BallBox). FiveBytes (x .going)) (not (bytesLeft b) && wanted b) (λ e. latched-five b g) (λ e. h))
 
 host-sound : (n : ℕ) (b : BallBox) → good b ≡ true → FiveBytes (b .going) → Sound (onHost n b)
-unfolding onHost dropped
+unfolding onHost dropped lineWords
 host-sound n b g h =
     let s = parts b g .settings in
     record {
       bytes = cases (λ (x : BallBox). FiveBytes (obeyed (commandOf n) x .going)) (bytesLeft b) (λ e. obeyed-five n (withGoing nothing b) s nothing-five) (λ e. obeyed-five n b s h);
-      legal = cases Legal (bytesLeft b) (λ e. (omega arith, tt)) (λ e. tt);
+      legal = cases (λ (words : List ℕ). lineWords words ≡ true) (bytesLeft b) (λ e. refl) (λ e. refl);
     }
 
 awake-sound : (b : BallBox) (e : Event) → good b ≡ true → FiveBytes (b .going) → Sound (awake b e)
-unfolding awake onButtons onPeriod
-awake-sound b (Motion dx dy) g h = record { bytes = h; legal = tt }
+unfolding awake onButtons onPeriod lineWords
+awake-sound b (Motion dx dy) g h = record { bytes = h; legal = refl }
 awake-sound b (Buttons n) g h =
-    record { bytes = cases (λ (x : BallBox). FiveBytes (x .going)) (eqb n (b .settings .buttons)) (λ e. h) (λ e. h); legal = tt }
+    record { bytes = cases (λ (x : BallBox). FiveBytes (x .going)) (eqb n (b .settings .buttons)) (λ e. h) (λ e. h); legal = refl }
 awake-sound b (Host n) g h = host-sound n b g h
 awake-sound b Slot g h = slot-sound b g h
-awake-sound b Period g h = record { bytes = h; legal = tt }
+awake-sound b Period g h = record { bytes = h; legal = refl }
 
 asleep-sound : (b : BallBox) (e : Event) → FiveBytes (b .going) → Sound (asleep b e)
-unfolding asleep woken
-asleep-sound b (Motion dx dy) h = record { bytes = h; legal = tt }
-asleep-sound b (Buttons n) h = record { bytes = h; legal = tt }
-asleep-sound b (Host n) h = record { bytes = let l : 6 < 256 = omega arith in going-five _ (l, tt); legal = tt }
-asleep-sound b Slot h = record { bytes = h; legal = (omega arith, tt) }
-asleep-sound b Period h = record { bytes = h; legal = tt }
+unfolding asleep woken lineWords
+asleep-sound b (Motion dx dy) h = record { bytes = h; legal = refl }
+asleep-sound b (Buttons n) h = record { bytes = h; legal = refl }
+asleep-sound b (Host n) h = record { bytes = let l : 6 < 256 = omega arith in going-five _ (l, tt); legal = refl }
+asleep-sound b Slot h = record { bytes = h; legal = refl }
+asleep-sound b Period h = record { bytes = h; legal = refl }
 
 step-sound : (b : BallBox) (e : Event) → FiveBytes (b .going) → Sound (stepOf b e)
-unfolding stepOf
+unfolding stepOf lineWords
 step-sound b e h =
-    cases Sound (not (good b)) (λ g. record { bytes = h; legal = tt })
-    (λ g. cases Sound (aboveSeven e) (λ l. record { bytes = h; legal = tt })
+    cases Sound (not (good b)) (λ g. record { bytes = h; legal = refl })
+    (λ g. cases Sound (aboveSeven e) (λ l. record { bytes = h; legal = refl })
     (λ l. cases Sound (b .dormant) (λ d. asleep-sound b e h) (λ d. awake-sound b e (not-false (good b) g) h)))
 
 pub fresh-bytes : (b : BallBox) → FreshPromise b → FiveBytes (b .going)
@@ -291,5 +282,5 @@ fresh-bytes b e = subst (λ (x : BallBox). FiveBytes (x .going)) (sym e) nothing
 pub step-bytes : (b : BallBox) (e : Event) (r : Stepped) → StepPromise b e r → FiveBytes (b .going) → FiveBytes (r .next .going)
 step-bytes b e r s h = subst (λ (a : Answer). FiveBytes (a .next .going)) (sym s) (step-sound b e h .bytes)
 
-pub words-legal : (b : BallBox) (e : Event) (r : Stepped) → StepPromise b e r → FiveBytes (b .going) → Legal (wordsOf (r .sent))
-words-legal b e r s h = subst (λ (a : Answer). Legal (a .words)) (sym s) (step-sound b e h .legal)
+pub words-legal : (b : BallBox) (e : Event) (r : Stepped) → StepPromise b e r → FiveBytes (b .going) → lineWords (wordsOf (r .sent)) ≡ true
+words-legal b e r s h = ap (λ (a : Answer). lineWords (a .words)) s ∙ step-sound b e h .legal

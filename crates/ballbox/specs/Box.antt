@@ -1,7 +1,8 @@
 -- The box with one of its parts replaced, a fresh box, and what a step hands back.
-use Prim.Native.Nat.{ℕ}
+use Prim.Native.Nat.{ℕ, _<_}
+use mathlib.Core.Path.{_≡_}
 use mathlib.Core.Bool.{Bool, false}
-use mathlib.Core.List.{List, []}
+use mathlib.Core.List.{List, [], _∷_}
 use lib.IntN.{ℤ, pos}
 use lib.ListN.{length}
 use Rattle.wire.specs.Line.{letterOf}
@@ -51,6 +52,16 @@ goingFrom bytes = record { length = length bytes; sent = 0; bytes = five bytes }
 -- "Nothing going is length 0, sent 0, five zero bytes."
 abbrev pub nothing : Going
 nothing = record { length = 0; sent = 0; bytes = five [] }
+
+-- bytes, each below 256
+abbrev pub Bytes : List ℕ → Type 0
+Bytes [] = Unit {0}
+Bytes (b ∷ bs) = (b < 256) × Bytes bs
+
+-- what the array of the bytes that are going holds in a program
+pub record FiveBytes (g : Going) : Type 0 where
+  pub count : length (g .bytes) ≡ 5
+  pub each : Bytes (g .bytes)
 
 -- modes O and D
 abbrev pub modeO : ℕ

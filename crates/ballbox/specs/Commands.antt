@@ -12,6 +12,25 @@ use Rattle.ballbox.specs.declared.BallBox.{BallBox}
 use Rattle.ballbox.specs.declared.Command.{Command}
 use Rattle.ballbox.specs.declared.Command.the-variants.{SetFormat, SetStream, SetPrompt, AskReport, AskAck, AskCode, AskLetters, AskButtons, Sleep, Ignored}
 
+-- the host's bytes that are no letter of a format or of a stream mode: P, space, `f`, `t`, 05H, `d`; D is `modeD`
+abbrev pub letterP : ℕ
+letterP = 0x50
+
+abbrev pub space : ℕ
+space = 0x20
+
+abbrev pub letterf : ℕ
+letterf = 0x66
+
+abbrev pub lettert : ℕ
+lettert = 0x74
+
+abbrev pub byte05 : ℕ
+byte05 = 0x05
+
+abbrev pub letterd : ℕ
+letterd = 0x64
+
 -- "A B S T U V W"
 abbrev pub isFormat : ℕ → Bool
 isFormat b =
@@ -32,17 +51,22 @@ unfoldable pub commandOf : ℕ → Command
 commandOf b =
     cond (isFormat b) (SetFormat b)
     (cond (isStream b) (SetStream b)
-    (cond (eqb b 0x44) SetPrompt
-    (cond (eqb b 0x50) AskReport
-    (cond (eqb b 0x20) AskAck
-    (cond (eqb b 0x66) AskCode
-    (cond (eqb b 0x74) AskLetters
-    (cond (eqb b 0x05) AskButtons
-    (cond (eqb b 0x64) Sleep Ignored))))))))
+    (cond (eqb b modeD) SetPrompt
+    (cond (eqb b letterP) AskReport
+    (cond (eqb b space) AskAck
+    (cond (eqb b letterf) AskCode
+    (cond (eqb b lettert) AskLetters
+    (cond (eqb b byte05) AskButtons
+    (cond (eqb b letterd) Sleep Ignored))))))))
 
 -- ""Asked only for reports" means no host byte but J K L R M Q N O D P."
 abbrev pub asksForReports : ℕ → Bool
-asksForReports b = isStream b || eqb b 0x44 || eqb b 0x50
+asksForReports b = isStream b || eqb b modeD || eqb b letterP
+
+-- the bytes that are not "the rest"
+abbrev pub isCommand : ℕ → Bool
+isCommand b =
+    isFormat b || isStream b || eqb b modeD || eqb b letterP || eqb b space || eqb b letterf || eqb b lettert || eqb b byte05 || eqb b letterd
 
 -- "ACK (06H)"
 abbrev pub ack : List ℕ

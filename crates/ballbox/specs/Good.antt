@@ -3,6 +3,7 @@ use Prim.Native.Nat.{ℕ}
 use mathlib.Core.Bool.{Bool, not, _&&_, _||_}
 use lib.Dec.{eqb, ltb, leb}
 use lib.IntN.{pos}
+use Rattle.numbers.specs.Tests.{each}
 use Rattle.wire.specs.Line.{letterOf, sizeBy}
 use Rattle.wire.specs.Holds.{_to_, within}
 use Rattle.wire.specs.Reading.{at}
@@ -48,14 +49,14 @@ abbrev pub zeroFrom : ℕ → Going → Bool
 zeroFrom i g = ltb i (g .length) || eqb (at i (g .bytes)) 0
 
 abbrev pub restZero : Going → Bool
-restZero g = zeroFrom 0 g && zeroFrom 1 g && zeroFrom 2 g && zeroFrom 3 g && zeroFrom 4 g
+restZero g = each (λ i. zeroFrom i g) 5
 
 unfoldable pub goodGoing : ℕ → Going → Bool
 goodGoing letter g = sentBelow g && lengthKnown letter g && begun g && secondHeld letter g && restZero g
 
 -- "dormant only with nothing going or due"
-abbrev pub restful : BallBox → Bool
-restful b = not (b .dormant) || (eqb (b .going .length) 0 && not (b .due))
+abbrev pub dormantRightly : BallBox → Bool
+dormantRightly b = not (b .dormant) || (eqb (b .going .length) 0 && not (b .due))
 
 unfoldable pub good : BallBox → Bool
-good b = goodSettings (b .settings) && goodTrack (b .track) && goodGoing (b .settings .format) (b .going) && restful b
+good b = goodSettings (b .settings) && goodTrack (b .track) && goodGoing (b .settings .format) (b .going) && dormantRightly b

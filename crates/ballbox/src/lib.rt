@@ -8,10 +8,10 @@ ghost use Rattle.ballbox.specs.Good.{good};
 ghost use Rattle.ballbox.specs.Promises.{answerOf, aboveSeven, FreshPromise, StepPromise};
 
 mod commands;
+mod dormant;
 mod latching;
 mod line;
 mod motion;
-mod rest;
 mod rules;
 
 // A movement or a place, x and y.

@@ -1,7 +1,7 @@
 // The good box, rule by rule.
 ghost use mathlib.Core.Path.{_≡_};
 ghost use Rattle.ballbox.specs.Commands.{isFormat};
-ghost use Rattle.ballbox.specs.Good.{goodSettings, onPad, goodTrack, sentBelow, lengthKnown, begun, secondHeld, restZero, goodGoing, restful, good};
+ghost use Rattle.ballbox.specs.Good.{goodSettings, onPad, goodTrack, sentBelow, lengthKnown, begun, secondHeld, restZero, goodGoing, dormantRightly, good};
 use crate::BallBox;
 use crate::Going;
 use crate::Pair;
@@ -101,8 +101,8 @@ impl Going {
 
 impl BallBox {
     // Dormant only with nothing going or due.
-    fn restful(self) -> bool
-        ensures { λ r. ⌜ r ≡ restful self ⌝ }
+    fn dormant_rightly(self) -> bool
+        ensures { λ r. ⌜ r ≡ dormantRightly self ⌝ }
     {
         !self.dormant | ((self.going.length == 0) & !self.due)
     }
@@ -113,6 +113,6 @@ impl BallBox {
         let settings = self.settings;
         let track = self.track;
         let going = self.going;
-        settings.good() & track.good() & going.good(settings.format) & self.restful()
+        settings.good() & track.good() & going.good(settings.format) & self.dormant_rightly()
     }
 }

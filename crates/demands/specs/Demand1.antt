@@ -37,8 +37,9 @@ use Rattle.ballbox.specs.declared.BallBox.{BallBox}
 use Rattle.ballbox.specs.declared.Event.{Event}
 use Rattle.ballbox.specs.declared.Event.the-variants.{Buttons}
 use Rattle.ballbox.specs.declared.Stepped.{Stepped}
+use Rattle.ballbox.proofs.Answers as box-answers
 use Rattle.ballbox.proofs.Refusals as box-refusals
-use Rattle.ballbox.proofs.Kept as kept
+use Rattle.ballbox.proofs.Goodness as box-goodness
 
 -- `wire::size`, `marked`, `fits`, `report_of`, `Encoded::refusal`, `Encoded::length`: one answer
 pub size-one : (letter : ℕ) {a b : ℕ} → SizePromise letter a → SizePromise letter b → a ≡ b
@@ -99,10 +100,10 @@ read-line-ends = refusals.read-ends
 
 -- `BallBox::fresh` and `BallBox::step`: one answer; 6, and then 3, hand back the old box and no word
 pub fresh-box-one : (b c : BallBox) → box.FreshPromise b → box.FreshPromise c → b ≡ c
-fresh-box-one = box-refusals.fresh-one
+fresh-box-one = box-answers.one-fresh
 
 pub box-step-one : (b : BallBox) (e : Event) (r s : Stepped) → box.StepPromise b e r → box.StepPromise b e s → r ≡ s
-box-step-one = box-refusals.step-one
+box-step-one = box-answers.one-step
 
 pub box-step-bad-state : (b : BallBox) (e : Event) (r : Stepped) → box.StepPromise b e r → boxes.good b ≡ false → answerOf r ≡ refused badState b
 box-step-bad-state = box-refusals.bad-state
@@ -121,7 +122,7 @@ pub read-stays-good : (r : Reader) (words : List ℕ) (out : List ℤ) (a : Read
 read-stays-good = goodness.read-stays-good
 
 pub fresh-box-good : (b : BallBox) → box.FreshPromise b → boxes.good b ≡ true
-fresh-box-good = kept.fresh-good
+fresh-box-good = box-goodness.fresh-is-good
 
 pub box-stays-good : (b : BallBox) (e : Event) (r : Stepped) → box.StepPromise b e r → boxes.good b ≡ true → boxes.good (r .next) ≡ true
-box-stays-good = kept.step-good
+box-stays-good = box-goodness.step-stays-good

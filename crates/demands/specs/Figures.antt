@@ -35,14 +35,14 @@ use Rattle.ballbox.specs.Promises.{wordsOf, stepOf, FreshPromise, StepPromise}
 use Rattle.ballbox.specs.declared.BallBox.{BallBox}
 use Rattle.ballbox.specs.declared.Event.the-variants.{Host, Slot}
 use Rattle.ballbox.specs.declared.Stepped.{Stepped}
-use Rattle.ballbox.proofs.Kept.{step-good}
+use Rattle.ballbox.proofs.Goodness.{step-stays-good}
 use Rattle.ballbox.proofs.Obeying.{reply-to-f, awake-after-f}
 use Rattle.ballbox.proofs.Latches.{first-sent}
 use Rattle.demands.specs.Said.{Encodes, Refuses, StandFor, FitsNot, encodes}
 
 -- p1 `f` in S: 1A
 pub p1 : (b : BallBox) (r s : Stepped) → good b ≡ true → b .dormant ≡ false → b .settings .format ≡ letterOf Mm → StepPromise b (Host 0x66) r → StepPromise (r .next) Slot s → wordsOf (s .sent) ≡ 0x1A ∷ []
-p1 b r s g d f p q = first-sent (r .next) s 0x1A [] (step-good b (Host 0x66) r p g) (awake-after-f b r g d p) (reply-to-f b r g d Mm f p) q
+p1 b r s g d f p q = first-sent (r .next) s 0x1A [] (step-stays-good b (Host 0x66) r p g) (awake-after-f b r g d p) (reply-to-f b r g d Mm f p) q
 
 -- p2 `t` when fresh: 55 4F
 pub p2 : (b : BallBox) (r s t : Stepped) → FreshPromise b → StepPromise b (Host 0x74) r → StepPromise (r .next) Slot s → StepPromise (s .next) Slot t → wordsOf (s .sent) ++ wordsOf (t .sent) ≡ 0x55 ∷ 0x4F ∷ []

@@ -1,22 +1,23 @@
 -- A box that is set to one format and asked only for reports sends sound passages of that format.
 use Prim.Native.Nat.{ℕ, _+_, _<_}
-use mathlib.Core.Path.{_≡_, refl, _∙_, ap}
-use mathlib.Core.Bool.{Bool, true, false, not, _&&_, _||_}
+use mathlib.Core.Path.{_≡_, refl, _∙_}
+use mathlib.Core.Bool.{Bool, true, false, not, _&&_}
 use mathlib.Core.List.{List, [], _∷_, _++_}
 use native.Mathlib.Omega.{arith}
 use lib.Dec.{eqb}
 use borrow.Author.Tests.{eqb-true, eqb-false}
 use Rattle.numbers.proofs.Choices.{cases, or-else}
 use Rattle.numbers.proofs.Tested.{left, right}
-use Rattle.wire.specs.Line.{letterOf, namedBy, ofNamed, sizeOf}
+use Rattle.wire.specs.Line.{letterOf, sizeOf}
 use Rattle.wire.specs.Holds.{accepted}
-use Rattle.wire.specs.Passages.{Passage, Going, nothing, report, answer, Sound, SoundGoing, told, sentOne, brokenOff, passagesOver, goingOver}
+use Rattle.wire.specs.Passages.{Passage, Going, nothing, report, replying, Sound, SoundGoing, told, sentOne, brokenOff, passagesOver, goingOver}
 use Rattle.wire.specs.declared.Report.{Report}
 use Rattle.wire.specs.declared.Format.{Format}
 use Rattle.wire.specs.declared.Format.the-variants.{FiveByte}
 use Rattle.wire.proofs.Letters.{letter-named}
+use Rattle.ballbox.specs.Box.{modeO, modeD}
 use Rattle.ballbox.specs.Latching.{taken, latched, latchedReport, secondLatched}
-use Rattle.ballbox.specs.Commands.{isStream, commandOf, obeyed}
+use Rattle.ballbox.specs.Commands.{letterP, commandOf, asksForReports, obeyed}
 use Rattle.ballbox.specs.Events.{bytesLeft, wanted, latching, secondNow, withByteReady, nextByte, sending, dropped, onHost, onPeriod, awake}
 use Rattle.ballbox.specs.Good.{good}
 use Rattle.ballbox.specs.Promises.{aboveSeven, stepOf}
@@ -25,12 +26,13 @@ use Rattle.ballbox.specs.declared.Command.{Command}
 use Rattle.ballbox.specs.declared.Command.the-variants.{SetFormat, SetStream, SetPrompt, AskReport, AskAck, AskCode, AskLetters, AskButtons, Sleep, Ignored}
 use Rattle.ballbox.specs.declared.Event.{Event}
 use Rattle.ballbox.specs.declared.Event.the-variants.{Motion, Buttons, Host, Slot, Period}
-use Rattle.ballbox.proofs.Kept.{stepped-good}
+use Rattle.ballbox.proofs.Goodness.{stepped-good}
+use Rattle.ballbox.proofs.Refusals.{ruled}
 use Rattle.history.specs.History.{formatOf, begun, withPair, paired, isFive, replyTo, whenAwake, toldBy, nextBox, passagesOf, goingAfter}
 use Rattle.history.specs.Asked.{asks, onlyAsks}
 use Rattle.history.proofs.Carries.{Carries}
 use Rattle.history.proofs.Slots.{latched-carries, not-yet, five-is, pair-accepted}
-use Rattle.history.proofs.Bridge.{step-sends, step-is, told-is, buttons-line}
+use Rattle.history.proofs.Bridge.{step-sends, told-is, buttons-line}
 
 -- the box is set to f, good and awake, and this, which is sound, is going
 pub record SetTo (f : Format) (b : BallBox) (g : Going) : Type 0 where
@@ -41,8 +43,7 @@ pub record SetTo (f : Format) (b : BallBox) (g : Going) : Type 0 where
   pub sound : SoundGoing f g
 
 same-format : (b : BallBox) (f : Format) → b .settings .format ≡ letterOf f → formatOf b ≡ f
-same-format b f e =
-    ap (λ (l : ℕ). ofNamed FiveByte (λ f. f) (namedBy l)) e ∙ ap (ofNamed FiveByte (λ f. f)) (letter-named f)
+same-format b f e = rw (e, letter-named f)
 
 -- what is ready to be sent at a slot is sound
 pair-sound : (f : Format) (b : BallBox) (n : ℕ) (r : Report) → b .settings .format ≡ letterOf f → accepted f r ≡ true → n < sizeOf f → SoundGoing f (paired b (report n f r))
@@ -69,7 +70,7 @@ sound-ready f b nothing h = go (wanted b) refl
 sound-ready f b (report n k r) h =
     let s = h .sound in
     rw (s .0) (pair-sound f b n r (h .format) (s .1) (s .2))
-sound-ready f b (answer n bytes) h = absurd (h .sound)
+sound-ready f b (replying n bytes) h = absurd (h .sound)
 
 -- and so are the passages that it ends, and what is left of it
 sound-sent : (f : Format) (g : Going) → SoundGoing f g → Sound f (sentOne g .passages) × SoundGoing f (sentOne g .going)
@@ -79,12 +80,12 @@ sound-sent f (report n k r) s = rw (s .0) (go (eqb (n + 1) (sizeOf f)) refl)
     go : (t : Bool) → eqb (n + 1) (sizeOf f) ≡ t → Sound f (sentOne (report n f r) .passages) × SoundGoing f (sentOne (report n f r) .going)
     go true e = rw e (((refl, s .1), tt), tt)
     go false e = let d = eqb-false (n + 1) (sizeOf f) e in rw e (tt, (refl, s .1, omega (arith, s .2)))
-sound-sent f (answer n bytes) s = absurd s
+sound-sent f (replying n bytes) s = absurd s
 
 sound-broken : (f : Format) (g : Going) → SoundGoing f g → Sound f (brokenOff g)
 sound-broken f nothing s = tt
 sound-broken f (report n k r) s = (s, tt)
-sound-broken f (answer n bytes) s = absurd s
+sound-broken f (replying n bytes) s = absurd s
 
 -- a box with the format and the sleep of another
 pub record Alike (b c : BallBox) : Type 0 where
@@ -133,16 +134,16 @@ Asking Ignored = ⊥
 byte-asks : (n : ℕ) → Asking (commandOf n) → (byte : ℕ) → eqb byte n ≡ true → Asking (commandOf byte)
 byte-asks n h byte e = rw (eqb-true byte n e) h
 
-asking-command : (byte : ℕ) → isStream byte || eqb byte 0x44 || eqb byte 0x50 ≡ true → Asking (commandOf byte)
+asking-command : (byte : ℕ) → asksForReports byte ≡ true → Asking (commandOf byte)
 unfolding commandOf
 asking-command byte =
     or-else _ _
     (or-else _ _
     (or-else _ _
     (or-else _ _ (or-else _ _ (or-else _ _ (or-else _ _ (or-else _ _ (or-else _ _ (byte-asks 0x4A tt byte) (byte-asks 0x4B tt byte)) (byte-asks 0x4C tt byte)) (byte-asks 0x52 tt byte)) (byte-asks 0x4D tt byte)) (byte-asks 0x51 tt byte)) (byte-asks 0x4E tt byte))
-    (byte-asks 0x4F tt byte))
-    (byte-asks 0x44 tt byte))
-    (byte-asks 0x50 tt byte)
+    (byte-asks modeO tt byte))
+    (byte-asks modeD tt byte))
+    (byte-asks letterP tt byte)
 
 asking-alike : (b : BallBox) (c : Command) → Asking c → Alike b (obeyed c b)
 unfolding obeyed
@@ -213,7 +214,7 @@ asked-step f b e g a h = go (aboveSeven e) refl
     go : (t : Bool) → aboveSeven e ≡ t → Sound f (toldBy b e g .passages) × SetTo f (nextBox b e) (toldBy b e g .going)
     go true p = next (rw (refused-next b e (h .good) p) (alike b)) (rw (refused-told b e g p) (tt, h .sound))
     go false p =
-        next (rw (step-is b e false (h .good) p (h .awake)) (awake-alike b e a)) (rw (told-is b e g false p (h .awake)) (awake-told f b e g a h))
+        next (rw (ruled b e false (h .good) p (h .awake)) (awake-alike b e a)) (rw (told-is b e g false p (h .awake)) (awake-told f b e g a h))
 
 sound-append : (f : Format) (a b : List Passage) → Sound f a → Sound f b → Sound f (a ++ b)
 sound-append f [] b p q = q

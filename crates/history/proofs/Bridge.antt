@@ -5,8 +5,8 @@ use mathlib.Core.Bool.{Bool, true, false, cond}
 use mathlib.Core.List.{List, [], _∷_, _++_, append-nil}
 use lib.Dec.{eqb, lit<, lit≤}
 use Rattle.numbers.proofs.Tested.{holds}
-use Rattle.wire.specs.Passages.{Going, nothing, report, answer, goingWords, passageWords, told, givenOver}
-use Rattle.wire.proofs.Sender.{bridge}
+use Rattle.wire.specs.Passages.{Going, nothing, report, replying, goingWords, passageWords, told}
+use Rattle.wire.proofs.Sender.{givenOver, bridge}
 use Rattle.ballbox.specs.Box as box
 use Rattle.ballbox.specs.Box.{goingFrom}
 use Rattle.ballbox.specs.Events.{bytesLeft, onButtons, onPeriod, awake, asleep, woken}
@@ -16,7 +16,8 @@ use Rattle.ballbox.specs.declared.BallBox.{BallBox}
 use Rattle.ballbox.specs.declared.Stepped.{Stepped}
 use Rattle.ballbox.specs.declared.Event.{Event}
 use Rattle.ballbox.specs.declared.Event.the-variants.{Motion, Buttons, Host, Slot, Period}
-use Rattle.ballbox.proofs.Kept.{stepped-good}
+use Rattle.ballbox.proofs.Goodness.{stepped-good}
+use Rattle.ballbox.proofs.Refusals.{ruled}
 use Rattle.history.specs.Runs.{RunPromise, wordsGiven}
 use Rattle.history.specs.History.{whenAwake, whenAsleep, toldBy, nextBox, passagesOf, goingAfter}
 use Rattle.history.proofs.Carries.{Carries, same-line, Sends}
@@ -39,13 +40,13 @@ awake-host : (b : BallBox) (byte : ℕ) (g : Going) → b .dormant ≡ false →
 unfolding awake
 awake-host b byte nothing d h = host-idle b byte d h
 awake-host b byte (report n f r) d h = host-busy b byte (report n f r) (h .rightly .left) d h
-awake-host b byte (answer n bytes) d h = host-busy b byte (answer n bytes) (h .rightly .left, h .rightly .short) d h
+awake-host b byte (replying n bytes) d h = host-busy b byte (replying n bytes) (h .rightly .left, h .rightly .short) d h
 
 awake-slot : (b : BallBox) (g : Going) → good b ≡ true → b .dormant ≡ false → Carries b g → Sends (awake b Slot) g (whenAwake b Slot g)
 unfolding awake
 awake-slot b nothing k d h = slot-idle b k d h
 awake-slot b (report n f r) k d h = slot-busy b (report n f r) (h .rightly .left) h
-awake-slot b (answer n bytes) k d h = slot-busy b (answer n bytes) (h .rightly .left, h .rightly .short) h
+awake-slot b (replying n bytes) k d h = slot-busy b (replying n bytes) (h .rightly .left, h .rightly .short) h
 
 awake-sends : (b : BallBox) (e : Event) (g : Going) → good b ≡ true → b .dormant ≡ false → Carries b g → Sends (awake b e) g (whenAwake b e g)
 unfolding awake onPeriod
@@ -69,13 +70,9 @@ idle-asleep b Period h = quiet b b nothing refl refl refl h
 asleep-sends : (b : BallBox) (e : Event) (g : Going) → b .dormant ≡ true → Carries b g → Sends (asleep b e) g (whenAsleep b e g)
 asleep-sends b e nothing d h = idle-asleep b e h
 asleep-sends b e (report n f r) d h = absurd (holds (sym (h .rightly .awake) ∙ d))
-asleep-sends b e (answer n bytes) d h = absurd (holds (sym (h .rightly .awake) ∙ d))
+asleep-sends b e (replying n bytes) d h = absurd (holds (sym (h .rightly .awake) ∙ d))
 
 -- every step of a good box
-pub step-is : (b : BallBox) (e : Event) (s : Bool) → good b ≡ true → aboveSeven e ≡ false → b .dormant ≡ s → stepOf b e ≡ cond s (asleep b e) (awake b e)
-unfolding stepOf
-step-is b e s k p q = rw (k, p) (ap (λ (t : Bool). cond t (asleep b e) (awake b e)) q)
-
 pub told-is : (b : BallBox) (e : Event) (g : Going) (s : Bool) → aboveSeven e ≡ false → b .dormant ≡ s → toldBy b e g ≡ cond s (whenAsleep b e g) (whenAwake b e g)
 unfolding toldBy
 told-is b e g s p q = rw p (ap (λ (t : Bool). cond t (whenAsleep b e g) (whenAwake b e g)) q)
@@ -89,8 +86,8 @@ step-sends b e g k h = go (aboveSeven e) refl (b .dormant) refl
   where
     go : (t : Bool) → aboveSeven e ≡ t → (s : Bool) → b .dormant ≡ s → Sends (stepOf b e) g (toldBy b e g)
     go true p s q = refused-sends b e g k p h
-    go false p true q = rw (step-is b e true k p q, told-is b e g true p q) (asleep-sends b e g q h)
-    go false p false q = rw (step-is b e false k p q, told-is b e g false p q) (awake-sends b e g k q h)
+    go false p true q = rw (ruled b e true k p q, told-is b e g true p q) (asleep-sends b e g q h)
+    go false p false q = rw (ruled b e false k p q, told-is b e g false p q) (awake-sends b e g k q h)
 
 -- a box that carries what is going, and stays good
 abbrev Holds : BallBox → Going → Type 0

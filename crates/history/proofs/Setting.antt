@@ -15,9 +15,9 @@ use Rattle.ballbox.specs.declared.BallBox.{BallBox}
 use Rattle.ballbox.specs.declared.Stepped.{Stepped}
 use Rattle.ballbox.specs.declared.Command.the-variants.{SetFormat}
 use Rattle.ballbox.specs.declared.Event.the-variants.{Host}
-use Rattle.ballbox.proofs.Kept.{stepped-good}
+use Rattle.ballbox.proofs.Goodness.{stepped-good}
+use Rattle.ballbox.proofs.Refusals.{ruled}
 use Rattle.history.proofs.Hosts.{dropped-idle}
-use Rattle.history.proofs.Bridge.{step-is}
 use Rattle.history.proofs.Asking.{SetTo, dropped-alike}
 
 sets-format : (f : Format) → commandOf (letterOf f) ≡ SetFormat (letterOf f)
@@ -40,7 +40,7 @@ none-left b = go (bytesLeft b) refl
 
 set-by : (f : Format) (b : BallBox) → good b ≡ true → b .dormant ≡ false → stepOf b (Host (letterOf f)) ≡ box.gives (cond (bytesLeft b) (break ∷ []) []) (obeyed (SetFormat (letterOf f)) (dropped b))
 unfolding awake onHost
-set-by f b k d = step-is b (Host (letterOf f)) false k refl d ∙ rw (sets-format f)
+set-by f b k d = ruled b (Host (letterOf f)) false k refl d ∙ rw (sets-format f)
 
 -- the box that comes back
 pub set-to : (f : Format) (b : BallBox) (a : Stepped) → good b ≡ true → b .dormant ≡ false → StepPromise b (Host (letterOf f)) a → SetTo f (a .next) nothing

@@ -1,67 +1,61 @@
 -- A slot: latching, U's second pair, and one word more.
 use Prim.Native.Nat.{ℕ, _+_, _≤_, _<_}
 use mathlib.Core.Path.{_≡_, refl, sym, _∙_, ap}
-use mathlib.Core.Bool.{Bool, true, false, _&&_, _||_}
+use mathlib.Core.Bool.{Bool, true, false, _&&_, and-false}
 use mathlib.Core.List.{List, [], _∷_, _++_}
 use native.Mathlib.Omega.{arith}
 use lib.ListN.{length, take, set}
-use lib.Dec.{eqb, leb, lit<}
-use lib.IntN.{ℤ}
+use lib.Dec.{eqb, lit<}
 use borrow.Author.Tests.{lt-ltb, le-ltb, eqb-true, eqb-false, ne-eqb}
 use Rattle.wire.specs.Line.{letterOf, namedBy, ofNamed, sizeOf}
-use Rattle.wire.specs.Table.{bytesOf, five, bytesU, bytesBy}
+use Rattle.wire.specs.Table.{bytesOf, five, bytesU}
 use Rattle.numbers.proofs.Tested.{holds, left, right}
 use Rattle.wire.specs.Reading.{at}
-use Rattle.wire.specs.Holds.{within, secondRange, accepted, acceptedBy}
-use Rattle.wire.specs.Passages.{Going, nothing, report, answer, goingWords, sentOne, nextWord, Left}
+use Rattle.wire.specs.Holds.{accepted, acceptedBy}
+use Rattle.wire.specs.Passages.{Going, nothing, report, replying, goingWords, sentOne}
 use Rattle.wire.specs.declared.Report.{Report}
 use Rattle.wire.specs.declared.Format.{Format}
 use Rattle.wire.specs.declared.Format.the-variants.{Mm, Microsoft, Absolute, Relative, FiveByte, ThreeByte, Hexadecimal}
 use Rattle.wire.proofs.Letters.{letter-named}
+use Rattle.wire.proofs.Front.{size-between}
 use Rattle.wire.proofs.Codec.{bytes-length}
 use Rattle.wire.proofs.Codec.Accepted.{parts, whole}
-use Rattle.wire.proofs.Sender.{sends}
-use Rattle.ballbox.specs.Box.{goingFrom, modeD}
-use Rattle.ballbox.specs.Latching.{limits, limited, movement, taken, secondOnly, withSecond, secondLatched, latched, latchedReport}
+use Rattle.wire.proofs.Sender.{nextWord, Left, sends}
+use Rattle.ballbox.specs.Box.{goingFrom}
+use Rattle.ballbox.specs.Latching.{movement, taken, secondOnly, withSecond, secondLatched, latched, latchedReport}
 use Rattle.ballbox.specs.Events.{bytesLeft, wanted, secondNow, withByteReady, after, nextByte, onSlot}
 use Rattle.ballbox.specs.declared.BallBox.{BallBox}
 use Rattle.ballbox.specs.declared.Going.{Going as Bytes}
 use Rattle.ballbox.specs.declared.Track.{Track}
 use Rattle.ballbox.specs.declared.Pair.{Pair}
-use Rattle.ballbox.specs.Commands.{isFormat, isStream}
-use Rattle.ballbox.specs.Good.{good, goodSettings}
-use Rattle.ballbox.proofs.Accepting.{wider, limited-within, latched-accepted}
+use Rattle.ballbox.specs.Commands.{isFormat}
+use Rattle.ballbox.specs.Good.{good}
+use Rattle.ballbox.proofs.Letters.{Lettered, known, unknown, lettered}
+use Rattle.ballbox.proofs.Accepting.{second-within, latched-accepted}
 use Rattle.ballbox.proofs.Slots.{latching-busy, latching-wanted, latching-idle, sending-byte, sending-silence}
-use Rattle.ballbox.proofs.Steps.{parts as good-parts, good-buttons}
+use Rattle.ballbox.proofs.Good.{parts as good-parts, good-buttons}
+use Rattle.ballbox.proofs.Goodness.{letter-known}
+use Rattle.ballbox.proofs.Latches.{latched-bytes}
 use Rattle.history.specs.History.{begun, formatOf, paired, withPair, isFive}
 use Rattle.history.proofs.Carries.{onLine, OnLine, Rightly, Carries, to-line, at-five, Sends}
-
-size-small : (f : Format) → (3 ≤ sizeOf f) × (sizeOf f ≤ 5)
-size-small Mm = omega arith
-size-small Microsoft = omega arith
-size-small Absolute = omega arith
-size-small Relative = omega arith
-size-small FiveByte = omega arith
-size-small ThreeByte = omega arith
-size-small Hexadecimal = omega arith
 
 -- something is going
 abbrev pub Busy : Going → Type 0
 Busy nothing = ⊥
 Busy (report n f r) = n < sizeOf f
-Busy (answer n bytes) = (n < length bytes) × (length bytes ≤ 3)
+Busy (replying n bytes) = (n < length bytes) × (length bytes ≤ 3)
 
 pub busy-left : (g : Going) → Busy g → Left g
 busy-left nothing h = tt
 busy-left (report n f r) h = h
-busy-left (answer n bytes) h = h .0
+busy-left (replying n bytes) h = h .0
 
 -- its next byte, and what is then left of it
 next-byte : (g : Going) → Busy g → at (onLine g .sent) (onLine g .bytes) ≡ nextWord g
 next-byte nothing h = absurd h
 next-byte (report n f r) h =
-    at-five (bytesOf f r) n (rw (bytes-length f r) h) (rw (bytes-length f r) (size-small f .1))
-next-byte (answer n bytes) h = at-five bytes n (h .0) (omega arith)
+    at-five (bytesOf f r) n (rw (bytes-length f r) h) (rw (bytes-length f r) (size-between f .1))
+next-byte (replying n bytes) h = at-five bytes n (h .0) (omega arith)
 
 after-next : (g : Going) → Busy g → after (onLine g) ≡ onLine (sentOne g .going)
 unfolding after
@@ -71,9 +65,9 @@ after-next (report n f r) h = go (eqb (n + 1) (sizeOf f)) refl
     go : (t : Bool) → eqb (n + 1) (sizeOf f) ≡ t → after (onLine (report n f r)) ≡ onLine (sentOne (report n f r) .going)
     go true e = rw (e, le-ltb (n + 1) (sizeOf f) (omega (arith, eqb-true (n + 1) (sizeOf f) e)))
     go false e = rw (e, lt-ltb (n + 1) (sizeOf f) (let d = eqb-false (n + 1) (sizeOf f) e in omega arith))
-after-next (answer n bytes) h = go (eqb (n + 1) (length bytes)) refl
+after-next (replying n bytes) h = go (eqb (n + 1) (length bytes)) refl
   where
-    go : (t : Bool) → eqb (n + 1) (length bytes) ≡ t → after (onLine (answer n bytes)) ≡ onLine (sentOne (answer n bytes) .going)
+    go : (t : Bool) → eqb (n + 1) (length bytes) ≡ t → after (onLine (replying n bytes)) ≡ onLine (sentOne (replying n bytes) .going)
     go true e = rw (e, le-ltb (n + 1) (length bytes) (omega (arith, eqb-true (n + 1) (length bytes) e)))
     go false e = rw (e, lt-ltb (n + 1) (length bytes) (let d = eqb-false (n + 1) (length bytes) e in omega arith))
 
@@ -87,9 +81,9 @@ still-rightly (report n f r) b c y h e d = go (eqb (n + 1) (sizeOf f)) refl
     go false q =
         let k = eqb-false (n + 1) (sizeOf f) q in
         rw q (record { set = e ∙ h .set; left = omega arith; right = h .right; awake = d ∙ h .awake })
-still-rightly (answer n bytes) b c y h e d = go (eqb (n + 1) (length bytes)) refl
+still-rightly (replying n bytes) b c y h e d = go (eqb (n + 1) (length bytes)) refl
   where
-    go : (t : Bool) → eqb (n + 1) (length bytes) ≡ t → Rightly c (sentOne (answer n bytes) .going)
+    go : (t : Bool) → eqb (n + 1) (length bytes) ≡ t → Rightly c (sentOne (replying n bytes) .going)
     go true q = rw q tt
     go false q =
         let k = eqb-false (n + 1) (length bytes) q in
@@ -99,7 +93,7 @@ still-rightly (answer n bytes) b c y h e d = go (eqb (n + 1) (length bytes)) ref
 from-line : (g : Going) (b : BallBox) → Busy g → OnLine b g → b .going ≡ onLine g
 from-line nothing b y h = absurd y
 from-line (report n f r) b y h = h
-from-line (answer n bytes) b y h = h
+from-line (replying n bytes) b y h = h
 
 -- the next byte of what is going goes out
 byte-sends : (b : BallBox) (g : Going) → Busy g → Carries b g → Sends (nextByte b) g (sentOne g)
@@ -111,12 +105,7 @@ byte-sends b g y h =
       carries = record { line = to-line (sentOne g .going) _ (ap after l ∙ after-next g y); rightly = still-rightly g b _ y (h .rightly) refl refl };
     }
 
--- the second pair of U keeps to its range
-pair-within : (v : ℤ) → within (secondRange FiveByte) (limited (letterOf FiveByte) v) ≡ true
-unfolding limits
-pair-within v =
-    wider (limits (letterOf FiveByte)) (secondRange FiveByte) (limited (letterOf FiveByte) v) refl refl (limited-within (letterOf FiveByte) v)
-
+-- the second pair of U is accepted with the first
 pub pair-accepted : (t : Track) (r : Report) → accepted FiveByte r ≡ true → accepted FiveByte (withPair (taken (letterOf FiveByte) t) r) ≡ true
 unfolding taken
 pair-accepted t r a =
@@ -125,7 +114,7 @@ pair-accepted t r a =
     whole FiveByte (withPair (taken (letterOf FiveByte) t) r)
     (record {
       pressed = p .pressed;
-      moved = record { x = p .moved .x; y = p .moved .y; second-x = pair-within (v .x); second-y = pair-within (v .y) };
+      moved = record { x = p .moved .x; y = p .moved .y; second-x = second-within (v .x); second-y = second-within (v .y) };
     })
 
 -- it is put into bytes 4 and 5, behind the three that have gone
@@ -175,10 +164,6 @@ at-byte-four b n f r e q h =
       words = pair-behind p r;
     })
 
-no-second : (a b : Bool) → b ≡ false → a && b ≡ false
-no-second true b e = e
-no-second false b e = refl
-
 pub pairs : (b : BallBox) (g : Going) → Busy g → Carries b g → Paired b (withByteReady b) g (paired b g)
 unfolding withByteReady
 pairs b nothing y h = absurd y
@@ -192,15 +177,15 @@ pairs b (report n f r) y h = go (isFive f && eqb n 3) refl
         rw (now, e)
         (at-byte-four b n f r (five-is f (left (isFive f) (eqb n 3) e)) (eqb-true n 3 (right (isFive f) (eqb n 3) e)) h)
     go false e = rw (now, e) (record { carries = h; busy = y; words = refl })
-pairs b (answer n bytes) y h =
+pairs b (replying n bytes) y h =
     let e : secondNow b ≡ false =
-    rw (h .line) (no-second (eqb (b .settings .format) (letterOf FiveByte)) (eqb n 3) (ne-eqb n 3 (λ q. omega arith))) in
+    rw (h .line, ne-eqb n 3 (λ q. omega arith)) (and-false (eqb (b .settings .format) (letterOf FiveByte))) in
     rw e (record { carries = h; busy = y; words = refl })
 
 pub bytes-left : (b : BallBox) (g : Going) → Busy g → Carries b g → bytesLeft b ≡ true
 bytes-left b nothing y h = absurd y
 bytes-left b (report n f r) y h = rw (h .line) (lt-ltb n (sizeOf f) y)
-bytes-left b (answer n bytes) y h = rw (h .line) (lt-ltb n (length bytes) (y .0))
+bytes-left b (replying n bytes) y h = rw (h .line) (lt-ltb n (length bytes) (y .0))
 
 -- a slot of a box that has bytes to send
 next-sends : (b : BallBox) (g : Going) → Busy g → Carries b g → Sends (nextByte (withByteReady b)) g (sentOne (paired b g))
@@ -215,30 +200,13 @@ slot-busy b g y h =
     rw (latching-busy b e, sending-byte b e) (next-sends b g y h)
 
 -- the format of a good box is one of the table
-one-of : (l : ℕ) (a b s t u v w : Bool) → eqb l (letterOf Absolute) ≡ a → eqb l (letterOf Relative) ≡ b → eqb l (letterOf Mm) ≡ s → eqb l (letterOf ThreeByte) ≡ t → eqb l (letterOf FiveByte) ≡ u → eqb l (letterOf Microsoft) ≡ v → eqb l (letterOf Hexadecimal) ≡ w → a || b || s || t || u || v || w ≡ true → (f : Format) × (l ≡ letterOf f)
-one-of l true b s t u v w ea eb es et eu ev ew e = (Absolute, eqb-true l _ ea)
-one-of l false true s t u v w ea eb es et eu ev ew e = (Relative, eqb-true l _ eb)
-one-of l false false true t u v w ea eb es et eu ev ew e = (Mm, eqb-true l _ es)
-one-of l false false false true u v w ea eb es et eu ev ew e = (ThreeByte, eqb-true l _ et)
-one-of l false false false false true v w ea eb es et eu ev ew e = (FiveByte, eqb-true l _ eu)
-one-of l false false false false false true w ea eb es et eu ev ew e = (Microsoft, eqb-true l _ ev)
-one-of l false false false false false false true ea eb es et eu ev ew e = (Hexadecimal, eqb-true l _ ew)
-one-of l false false false false false false false ea eb es et eu ev ew e = absurd (holds e)
+format-in : (l : ℕ) → Lettered l → isFormat l ≡ true → l ≡ letterOf (ofNamed FiveByte (λ f. f) (namedBy l))
+format-in l (known f e) h = rw (e, letter-named f)
+format-in l (unknown e none) h = absurd (holds (sym none ∙ h))
 
 known-format : (b : BallBox) → good b ≡ true → b .settings .format ≡ letterOf (formatOf b)
-unfolding goodSettings
 known-format b g =
-    let s = b .settings in
-    let m = isStream (s .mode) || eqb (s .mode) modeD in
-    let e = left (isFormat (s .format)) m (left (isFormat (s .format) && m) (leb (s .buttons) 7) (good-parts b g .settings)) in
-    let o = one-of (s .format) _ _ _ _ _ _ _ refl refl refl refl refl refl refl e in
-    let same : formatOf b ≡ o .0 =
-    ap (λ (l : ℕ). ofNamed FiveByte (λ f. f) (namedBy l)) (o .1) ∙ ap (ofNamed FiveByte (λ f. f)) (letter-named (o .0)) in
-    o .1 ∙ ap letterOf (sym same)
-
-bytes-known : (l : ℕ) (f : Format) (r : Report) → l ≡ letterOf f → bytesBy l r ≡ bytesOf f r
-unfolding bytesBy
-bytes-known l f r e = rw (e, letter-named f)
+    let s = b .settings in format-in (s .format) (lettered (s .format)) (letter-known s (good-parts b g .settings))
 
 accepted-known : (l : ℕ) (f : Format) (r : Report) → l ≡ letterOf f → acceptedBy l r ≡ true → accepted f r ≡ true
 unfolding acceptedBy
@@ -252,11 +220,11 @@ latched-carries b g d =
     let r = latchedReport b in
     let e = known-format b g in
     record {
-      line = rw (bytes-known (b .settings .format) f r e, bytes-length f r);
+      line = rw (latched-bytes f b e, bytes-length f r);
       rightly =
           record {
             set = e;
-            left = omega (arith, size-small f .0);
+            left = omega (arith, size-between f .0);
             right = accepted-known (b .settings .format) f r e (latched-accepted b (good-buttons b g));
             awake = d;
           };
@@ -264,7 +232,7 @@ latched-carries b g d =
 
 -- a report of which nothing has gone has its second pair to come
 pub not-yet : (b : BallBox) (f : Format) (r : Report) → paired b (report 0 f r) ≡ report 0 f r
-not-yet b f r = rw (no-second (isFive f) (eqb 0 3) refl)
+not-yet b f r = rw (and-false (isFive f))
 
 -- a slot of a box that has none
 pub idle-left : (b : BallBox) → Carries b nothing → bytesLeft b ≡ false

@@ -3,7 +3,7 @@ use mathlib.Core.Bool.{Bool, cond, _&&_}
 use mathlib.Core.List.{List, [], _∷_}
 use lib.Dec.{eqb}
 use Rattle.wire.specs.Line.{letterOf, namedBy, ofNamed}
-use Rattle.wire.specs.Passages.{Passage, Going, nothing, report, answer, Told, told, sentOne, brokenOff, passagesOver, goingOver}
+use Rattle.wire.specs.Passages.{Passage, Going, nothing, report, replying, Told, told, sentOne, brokenOff, passagesOver, goingOver}
 use Rattle.wire.specs.declared.Report.{Report}
 use Rattle.wire.specs.declared.Format.{Format}
 use Rattle.wire.specs.declared.Format.the-variants.{FiveByte}
@@ -26,7 +26,7 @@ formatOf b = ofNamed FiveByte (λ f. f) (namedBy (b .settings .format))
 abbrev pub begun : BallBox → Going → Going
 begun b nothing = cond (wanted b) (report 0 (formatOf b) (latchedReport b)) nothing
 begun b (report n f r) = report n f r
-begun b (answer n bytes) = answer n bytes
+begun b (replying n bytes) = replying n bytes
 
 -- a report of U with its second pair
 abbrev pub withPair : Pair → Report → Report
@@ -40,7 +40,7 @@ abbrev pub paired : BallBox → Going → Going
 paired b nothing = nothing
 paired b (report n f r) =
     cond (isFive f && eqb n 3) (report n f (withPair (taken (b .settings .format) (b .track)) r)) (report n f r)
-paired b (answer n bytes) = answer n bytes
+paired b (replying n bytes) = replying n bytes
 
 -- the reply that a command leaves to be sent, if any
 abbrev pub replyTo : BallBox → Command → Going
@@ -48,10 +48,10 @@ replyTo b (SetFormat f) = nothing
 replyTo b (SetStream m) = nothing
 replyTo b SetPrompt = nothing
 replyTo b AskReport = nothing
-replyTo b AskAck = answer 0 ack
-replyTo b AskCode = answer 0 (codeByte (b .settings .format) ∷ [])
-replyTo b AskLetters = answer 0 (b .settings .format ∷ b .settings .mode ∷ [])
-replyTo b AskButtons = answer 0 (b .settings .buttons ∷ 0 ∷ 0 ∷ [])
+replyTo b AskAck = replying 0 ack
+replyTo b AskCode = replying 0 (codeByte (b .settings .format) ∷ [])
+replyTo b AskLetters = replying 0 (b .settings .format ∷ b .settings .mode ∷ [])
+replyTo b AskButtons = replying 0 (b .settings .buttons ∷ 0 ∷ 0 ∷ [])
 replyTo b Sleep = nothing
 replyTo b Ignored = nothing
 
@@ -66,7 +66,7 @@ whenAwake b Period g = told [] g
 abbrev pub whenAsleep : BallBox → Event → Going → Told
 whenAsleep b (Motion dx dy) g = told [] g
 whenAsleep b (Buttons n) g = told [] g
-whenAsleep b (Host byte) g = told [] (answer 0 ack)
+whenAsleep b (Host byte) g = told [] (replying 0 ack)
 whenAsleep b Slot g = sentOne g
 whenAsleep b Period g = told [] g
 

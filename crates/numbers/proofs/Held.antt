@@ -8,8 +8,9 @@ use lib.Dec.{T, ltb}
 use lib.Signed.{mag, ltZ, leZ}
 use mir.Syntax.{Width, w16, w32}
 use mir.Val.{SFits, hbits}
-use borrow.Author.Tests.{ltb-false, le-leb}
+use borrow.Author.Tests.{ltb-false, leb-true, le-ltb, le-leb}
 use Rattle.numbers.specs.Signed.{held}
+use Rattle.numbers.proofs.Tested.{left, right, holds}
 
 -- what lies between two numbers of a width is a number of the width
 near-between : (m : ℕ) (lo hi x : ℤ) → mag lo < m → mag hi < m → ltZ x lo ≡ false → ltZ hi x ≡ false → mag x < m
@@ -38,6 +39,20 @@ ltZ-leZ (pos a) (negsuc b) e = refl
 ltZ-leZ (negsuc a) (pos b) e = absurd (subst T e tt)
 ltZ-leZ (negsuc a) (negsuc b) e = le-leb a b (ltb-false b a e)
 
+leZ-ltZ : (a b : ℤ) → leZ b a ≡ true → ltZ a b ≡ false
+leZ-ltZ (pos a) (pos b) e = le-ltb a b (leb-true b a e)
+leZ-ltZ (pos a) (negsuc b) e = refl
+leZ-ltZ (negsuc a) (pos b) e = absurd (holds e)
+leZ-ltZ (negsuc a) (negsuc b) e = le-ltb b a (leb-true a b e)
+
+pub leZ-trans : (a b c : ℤ) → leZ a b ≡ true → leZ b c ≡ true → leZ a c ≡ true
+leZ-trans (pos a) (pos b) (pos c) h k = le-leb a c (omega (arith, leb-true a b h, leb-true b c k))
+leZ-trans (negsuc a) (negsuc b) (negsuc c) h k = le-leb c a (omega (arith, leb-true b a h, leb-true c b k))
+leZ-trans (negsuc a) b (pos c) h k = refl
+leZ-trans (pos a) (pos b) (negsuc c) h k = absurd (holds k)
+leZ-trans (pos a) (negsuc b) c h k = absurd (holds h)
+leZ-trans (negsuc a) (pos b) (negsuc c) h k = absurd (holds k)
+
 leZ-self : (a : ℤ) → leZ a a ≡ true
 leZ-self (pos n) = le-leb n n (omega arith)
 leZ-self (negsuc n) = le-leb n n (omega arith)
@@ -50,6 +65,11 @@ inside lo hi x false false p q r = simp (ltZ-leZ x lo p, ltZ-leZ hi x q)
 pub held-inside : (lo hi x : ℤ) → leZ lo hi ≡ true → leZ lo (held lo hi x) && leZ (held lo hi x) hi ≡ true
 unfolding held
 held-inside lo hi x r = inside lo hi x (ltZ x lo) (ltZ hi x) refl refl r
+
+-- and what lies between them is held as it is
+pub held-same : (lo hi x : ℤ) → leZ lo x && leZ x hi ≡ true → held lo hi x ≡ x
+unfolding held
+held-same lo hi x e = rw (leZ-ltZ x lo (left (leZ lo x) (leZ x hi) e), leZ-ltZ hi x (right (leZ lo x) (leZ x hi) e))
 
 -- the sum of two 16-bit numbers fits 32 bits, and held it fits 16
 mag-cond : (t : Bool) {x y m : ℕ} → x ≤ m → y ≤ m → mag (cond t (negsuc x) (pos y)) ≤ m

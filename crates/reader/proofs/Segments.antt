@@ -15,7 +15,7 @@ use Rattle.wire.specs.Line.{sizeOf, lineWords}
 use Rattle.wire.specs.Table.{bytesOf}
 use Rattle.wire.specs.Holds.{accepted}
 use Rattle.wire.specs.Fits.{fitsAt}
-use Rattle.wire.specs.Passages.{Passage, silent, finished, broken, reply, brokenReply, wordsOf, passageWords, Going, nothing, report, answer, goingWords, SoundOf, Sound, SoundGoing, Unbroken, finishedIn, finishedReports}
+use Rattle.wire.specs.Passages.{Passage, silent, finished, broken, reply, brokenReply, wordsOf, passageWords, Going, nothing, report, replying, goingWords, SoundOf, Sound, SoundGoing, Unbroken, finishedIn, finishedReports}
 use Rattle.wire.specs.declared.Report.{Report}
 use Rattle.wire.specs.declared.Format.{Format}
 use Rattle.wire.proofs.Codec.{bytes-length, bytes-fit, there}
@@ -125,7 +125,7 @@ module _ (f : Format) where
   pub sound-going : (going : Going) → SoundGoing f going → Part (frameOf f) (goingWords going)
   sound-going nothing s = (tt, tt)
   sound-going (report n g r) s = rw (s .0) (part-report n r (s .1) (s .2))
-  sound-going (answer n bytes) s = absurd s
+  sound-going (replying n bytes) s = absurd s
 
   finished-of : (p : Passage) → SoundOf f p → line.finishedOf (frameOf f) (segmentOf p) ≡ finishedIn f p
   finished-of silent s = refl

@@ -8,10 +8,27 @@ use lib.ListN.{length, getD, take}
 use lib.Seq.{take-suc, take-length}
 use lib.Dec.{eqb}
 use borrow.Author.Tests.{eqb-true}
-use Rattle.wire.specs.Line.{break, sizeOf}
+use Rattle.wire.specs.Line.{break, silence, sizeOf}
 use Rattle.wire.specs.Table.{bytesOf}
-use Rattle.wire.specs.Passages.{Passage, Going, nothing, report, answer, goingWords, passageWords, Told, sentOne, brokenOff, nextWord, Left, givenOver, passagesOver, goingOver}
+use Rattle.wire.specs.Passages.{Passage, Going, nothing, report, replying, goingWords, passageWords, Told, sentOne, brokenOff, passagesOver, goingOver}
 use Rattle.wire.proofs.Codec.{bytes-length}
+
+-- the word that a slot gives: the next byte of what is going, or a silence
+abbrev pub nextWord : Going → ℕ
+nextWord nothing = silence
+nextWord (report n f r) = getD (bytesOf f r) n 0
+nextWord (replying n bytes) = getD bytes n 0
+
+-- a byte is left
+abbrev pub Left : Going → Type 0
+Left nothing = Unit {0}
+Left (report n f r) = n < sizeOf f
+Left (replying n bytes) = n < length bytes
+
+-- over a list of events, where next is the sender's step: the words that they give
+unfoldable pub givenOver : {B E : Type 0} → (B → E → B) → (B → E → List ℕ) → B → List E → List ℕ
+givenOver next given b [] = []
+givenOver next given b (e ∷ events) = given b e ++ givenOver next given (next b e) events
 
 pub passages-append : (a b : List Passage) → passageWords (a ++ b) ≡ passageWords a ++ passageWords b
 passages-append [] b = refl
@@ -32,9 +49,9 @@ sends (report n f r) l = go (eqb (n + 1) (sizeOf f)) refl
     go : (t : Bool) → eqb (n + 1) (sizeOf f) ≡ t → goingWords (report n f r) ++ (nextWord (report n f r) ∷ []) ≡ passageWords (sentOne (report n f r) .passages) ++ goingWords (sentOne (report n f r) .going)
     go true e = rw (e, append-nil, append-nil) (all-gone (bytesOf f r) n (eqb-true (n + 1) (sizeOf f) e ∙ sym (bytes-length f r)) (rw (bytes-length f r) l))
     go false e = rw e (one-more (bytesOf f r) n (rw (bytes-length f r) l))
-sends (answer n bytes) l = go (eqb (n + 1) (length bytes)) refl
+sends (replying n bytes) l = go (eqb (n + 1) (length bytes)) refl
   where
-    go : (t : Bool) → eqb (n + 1) (length bytes) ≡ t → goingWords (answer n bytes) ++ (nextWord (answer n bytes) ∷ []) ≡ passageWords (sentOne (answer n bytes) .passages) ++ goingWords (sentOne (answer n bytes) .going)
+    go : (t : Bool) → eqb (n + 1) (length bytes) ≡ t → goingWords (replying n bytes) ++ (nextWord (replying n bytes) ∷ []) ≡ passageWords (sentOne (replying n bytes) .passages) ++ goingWords (sentOne (replying n bytes) .going)
     go true e = rw (e, append-nil, append-nil) (all-gone bytes n (eqb-true (n + 1) (length bytes) e) l)
     go false e = rw e (one-more bytes n l)
 
@@ -42,7 +59,7 @@ sends (answer n bytes) l = go (eqb (n + 1) (length bytes)) refl
 pub breaks : (g : Going) → (g ≡ nothing → ⊥) → goingWords g ++ (break ∷ []) ≡ passageWords (brokenOff g)
 breaks nothing h = absurd (h refl)
 breaks (report n f r) h = sym (append-nil _)
-breaks (answer n bytes) h = sym (append-nil _)
+breaks (replying n bytes) h = sym (append-nil _)
 
 -- a sender: its steps, the words that they give, and what they do to the line, where Holds says that this is going
 module _ {B E : Type 0} (next : B → E → B) (given : B → E → List ℕ) (tells : B → E → Going → Told) (Holds : B → Going → Type 0)

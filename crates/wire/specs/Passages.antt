@@ -3,7 +3,7 @@ use Prim.Native.Nat.{ℕ, _+_, _<_}
 use mathlib.Core.Path.{_≡_}
 use mathlib.Core.Bool.{true, cond}
 use mathlib.Core.List.{List, [], _∷_, _++_}
-use lib.ListN.{length, getD, take}
+use lib.ListN.{length, take}
 use lib.Dec.{eqb}
 use Rattle.wire.specs.Line.{break, silence, sizeOf}
 use Rattle.wire.specs.Table.{bytesOf}
@@ -24,7 +24,7 @@ pub data Passage : Type 0 where
 pub data Going : Type 0 where
   nothing : Going
   report : ℕ → Format → Report → Going
-  answer : ℕ → List ℕ → Going
+  replying : ℕ → List ℕ → Going
 
 -- the words of a passage
 abbrev pub wordsOf : Passage → List ℕ
@@ -37,7 +37,7 @@ wordsOf (brokenReply n bytes) = take n bytes ++ (break ∷ [])
 abbrev pub goingWords : Going → List ℕ
 goingWords nothing = []
 goingWords (report n f r) = take n (bytesOf f r)
-goingWords (answer n bytes) = take n bytes
+goingWords (replying n bytes) = take n bytes
 
 -- the words of passages, one after the other
 abbrev pub passageWords : List Passage → List ℕ
@@ -60,7 +60,7 @@ Sound f (p ∷ passages) = SoundOf f p × Sound f passages
 abbrev pub SoundGoing : Format → Going → Type 0
 SoundGoing f nothing = Unit {0}
 SoundGoing f (report n g r) = (g ≡ f) × (accepted f r ≡ true) × (n < sizeOf f)
-SoundGoing f (answer n bytes) = ⊥
+SoundGoing f (replying n bytes) = ⊥
 
 -- no passage is broken off
 abbrev pub Unbroken : List Passage → Type 0
@@ -95,33 +95,16 @@ told passages going = record { passages = passages; going = going }
 abbrev pub sentOne : Going → Told
 sentOne nothing = told (silent ∷ []) nothing
 sentOne (report n f r) = cond (eqb (n + 1) (sizeOf f)) (told (finished f r ∷ []) nothing) (told [] (report (n + 1) f r))
-sentOne (answer n bytes) = cond (eqb (n + 1) (length bytes)) (told (reply bytes ∷ []) nothing) (told [] (answer (n + 1) bytes))
+sentOne (replying n bytes) = cond (eqb (n + 1) (length bytes)) (told (reply bytes ∷ []) nothing) (told [] (replying (n + 1) bytes))
 
 -- what is going is broken off
 abbrev pub brokenOff : Going → List Passage
 brokenOff nothing = []
 brokenOff (report n f r) = broken n f r ∷ []
-brokenOff (answer n bytes) = brokenReply n bytes ∷ []
+brokenOff (replying n bytes) = brokenReply n bytes ∷ []
 
--- the word that a slot gives: the next byte of what is going, or a silence
-abbrev pub nextWord : Going → ℕ
-nextWord nothing = silence
-nextWord (report n f r) = getD (bytesOf f r) n 0
-nextWord (answer n bytes) = getD bytes n 0
-
--- a byte is left
-abbrev pub Left : Going → Type 0
-Left nothing = Unit {0}
-Left (report n f r) = n < sizeOf f
-Left (answer n bytes) = n < length bytes
-
--- over a list of events, where next is the sender's step: the words that the events give, the passages that they end, and what is going after
--- them
+-- over a list of events, where next is the sender's step: the passages that they end, and what is going after them
 module _ {B E : Type 0} (next : B → E → B) where
-  unfoldable pub givenOver : (B → E → List ℕ) → B → List E → List ℕ
-  givenOver given b [] = []
-  givenOver given b (e ∷ events) = given b e ++ givenOver given (next b e) events
-
   unfoldable pub passagesOver : (B → E → Going → Told) → B → Going → List E → List Passage
   passagesOver tells b g [] = []
   passagesOver tells b g (e ∷ events) = tells b e g .passages ++ passagesOver tells (next b e) (tells b e g .going) events

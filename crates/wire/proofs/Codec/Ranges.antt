@@ -5,13 +5,22 @@ use mathlib.Core.Bool.{true}
 use native.Mathlib.Omega.{arith}
 use lib.IntN.{ℤ, pos, negsuc, negℤ, natAbs}
 use lib.Dec.{leb}
-use lib.Signed.{mag}
+use lib.Signed.{mag, leZ}
 use borrow.Author.Tests.{leb-true, le-leb}
 use Rattle.numbers.specs.Signed.{twos, untwos}
+use Rattle.numbers.proofs.Choices.{both}
+use Rattle.numbers.proofs.Held.{leZ-trans}
 use Rattle.numbers.proofs.Tested.{left, right, holds}
 use Rattle.numbers.proofs.Twos.{twos-below, untwos-twos, twos-untwos, untwos-near, within-near, near-within}
 use Rattle.wire.specs.Line.{isByte}
 use Rattle.wire.specs.Holds.{_to_, within}
+use Rattle.wire.specs.declared.Range.{Range}
+
+-- a wider range holds what a narrower one holds
+pub wider : (r s : Range) (z : ℤ) → leZ (s .low) (r .low) ≡ true → leZ (r .high) (s .high) ≡ true → within r z ≡ true → within s z ≡ true
+wider r s z h k e =
+    both (leZ (s .low) z) (leZ z (s .high)) (leZ-trans (s .low) (r .low) z h (left (leZ (r .low) z) (leZ z (r .high)) e))
+    (leZ-trans z (r .high) (s .high) (right (leZ (r .low) z) (leZ z (r .high)) e) k)
 
 -- 0 to high: the magnitude is the number
 pub positive : (high : ℕ) (z : ℤ) → within (pos 0 to pos high) z ≡ true → pos (natAbs z) ≡ z

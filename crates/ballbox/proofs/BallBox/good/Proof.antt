@@ -13,13 +13,13 @@ good-requires-2 c κs = search needs
 good-requires-3 : tie.Need-good-requires-3
 good-requires-3 c κs = search needs
 
-restful-requires : tie.Need-restful-requires
-restful-requires c κs = search needs
+dormant-rightly-requires : tie.Need-dormant-rightly-requires
+dormant-rightly-requires c κs = search needs
 
 returns : tie.Need-returns
 unfolding good
-returns c = simp (c .restful .ensures, c .before .good4 .ensures, c .before .before .good3 .ensures, c .before .before .before .good2 .ensures)
+returns c = simp (c .dormant-rightly .ensures, c .before .good4 .ensures, c .before .before .good3 .ensures, c .before .before .before .good2 .ensures)
 
 pub good-spec : {M : Type 1} → statement M
 good-spec =
-    tie.close (tie.spec good-requires good-requires-2 good-requires-3 restful-requires returns)
+    tie.close (tie.spec good-requires good-requires-2 good-requires-3 dormant-rightly-requires returns)

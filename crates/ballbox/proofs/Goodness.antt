@@ -1,25 +1,29 @@
 -- A fresh box is good, and a step of a good box gives a good box.
-use Prim.Native.Nat.{ℕ, _+_, _≤_, _<_}
+use Prim.Native.Nat.{ℕ, _+_, _-_, _≤_, _<_}
 use mathlib.Core.Path.{_≡_, refl, sym, ap, _∙_}
 use mathlib.Core.Bool.{Bool, true, false, not, _&&_, _||_, and-false}
-use mathlib.Core.List.{[], _∷_}
+use mathlib.Core.List.{List, [], _++_}
 use native.Mathlib.Omega.{arith}
 use lib.Dec.{leb, ltb, eqb}
 use lib.IntN.{ℤ, pos, _+ℤ_}
+use lib.ListN.{length, replicate, getD-replicate}
+use lib.Seq.{getD-take, getD-append-add}
 use borrow.Author.Tests.{ltb-true, ltb-false, lt-ltb, eqb-true, eqb-false, le-leb, eq-eqb}
 use Rattle.numbers.proofs.Choices.{both, cases}
 use Rattle.numbers.specs.Signed.{twos}
 use Rattle.numbers.proofs.Held.{held-inside}
 use Rattle.numbers.proofs.Tested.{left, right, holds}
 use Rattle.wire.specs.Line.{letterOf, namedBy, sizeBy}
-use Rattle.wire.specs.Table.{bytesS, bytesV, rowsV, bytesA, bytesB, rowsA, bytesU, bytesT, bytesW, rowsW, bytesBy}
-use Rattle.wire.specs.Reading.{at, report}
+use Rattle.wire.specs.Table.{five, bytesU, bytesBy}
+use Rattle.wire.specs.Reading.{at}
 use Rattle.wire.specs.declared.Format.{Format}
-use Rattle.wire.specs.declared.Format.the-variants.{Mm, Microsoft, Absolute, Relative, FiveByte, ThreeByte, Hexadecimal}
+use Rattle.wire.specs.declared.Format.the-variants.{FiveByte}
+use Rattle.wire.proofs.Letters.{letter-named}
+use Rattle.wire.proofs.Front.{size-between}
 use Rattle.ballbox.specs.Box.{modeD, goingFrom, nothing, freshBox, Answer}
 use Rattle.ballbox.specs.Motion.{placedAt, placed, movedBy}
 use Rattle.ballbox.specs.Latching.{cleared, latchedReport, latched, withSecond, secondLatched}
-use Rattle.ballbox.specs.Commands.{isFormat, isStream, commandOf, obeyed}
+use Rattle.ballbox.specs.Commands.{letterP, space, letterf, lettert, byte05, letterd, isFormat, isStream, commandOf, ack, obeyed}
 use Rattle.ballbox.specs.Events.{onMotion, onButtons, onPeriod, bytesLeft, wanted, latching, secondNow, withByteReady, after, nextByte, sending, onSlot, dropped, onHost, woken, awake, asleep}
 use Rattle.ballbox.specs.Good.{onPad, goodSettings, goodTrack, goodGoing, good}
 use Rattle.ballbox.specs.Promises.{aboveSeven, stepOf, FreshPromise, StepPromise}
@@ -33,11 +37,12 @@ use Rattle.ballbox.specs.declared.Event.{Event}
 use Rattle.ballbox.specs.declared.Event.the-variants.{Motion, Buttons, Host, Slot, Period}
 use Rattle.ballbox.specs.declared.Stepped.{Stepped}
 use Rattle.ballbox.proofs.Letters.{Lettered, known, unknown, lettered}
-use Rattle.ballbox.proofs.Steps.{GoodGoing, Good, parts, whole}
+use Rattle.ballbox.proofs.Accepting.{bytes-by-length}
+use Rattle.ballbox.proofs.Good.{GoodGoing, Good, parts, whole}
 
-pub fresh-good : (b : BallBox) → FreshPromise b → good b ≡ true
+pub fresh-is-good : (b : BallBox) → FreshPromise b → good b ≡ true
 unfolding freshBox good goodSettings goodTrack goodGoing
-fresh-good b e = ap good e
+fresh-is-good b e = ap good e
 
 -- what is set
 module _ (s : Settings) (h : goodSettings s ≡ true) where
@@ -74,25 +79,26 @@ cleared-good : (t : Track) → goodTrack t ≡ true → goodTrack (cleared t) �
 unfolding goodTrack cleared
 cleared-good t h = let p = left (onPad (t .position)) (onPad (t .last)) h in both _ _ p p
 
+-- behind some bytes the five hold zeros
+behind : (bytes : List ℕ) (i : ℕ) → i < 5 → length bytes ≤ i → at i (five bytes) ≡ 0
+behind bytes i l h =
+    let k : length bytes + (i - length bytes) ≡ i = omega arith in
+    getD-take 5 (bytes ++ replicate 5 0) i 0 l ∙
+    (ap (λ (n : ℕ). at n (bytes ++ replicate 5 0)) (sym k) ∙
+    (getD-append-add bytes (replicate 5 0) (i - length bytes) 0 ∙ getD-replicate 5 (i - length bytes) 0 0 (omega arith)))
+
 -- what is going and has a byte to send, whether it has begun or not
 record Sendable (letter : ℕ) (g : Going) : Type 0 where
   below : g .sent < g .length
   known : 3 < g .length → g .length ≡ sizeBy letter
   second : letter ≡ letterOf FiveByte → g .sent < 3 → (at 3 (g .bytes) ≡ 0) × (at 4 (g .bytes) ≡ 0)
-  zero1 : g .length ≤ 1 → at 1 (g .bytes) ≡ 0
-  zero2 : g .length ≤ 2 → at 2 (g .bytes) ≡ 0
-  zero3 : g .length ≤ 3 → at 3 (g .bytes) ≡ 0
-  zero4 : g .length ≤ 4 → at 4 (g .bytes) ≡ 0
+  zero : (i : ℕ) → i < 5 → g .length ≤ i → at i (g .bytes) ≡ 0
 
 -- nothing is left to send
 pub record Idle (g : Going) : Type 0 where
   pub length0 : g .length ≡ 0
   pub sent0 : g .sent ≡ 0
-  pub zero0 : at 0 (g .bytes) ≡ 0
-  pub zero1 : at 1 (g .bytes) ≡ 0
-  pub zero2 : at 2 (g .bytes) ≡ 0
-  pub zero3 : at 3 (g .bytes) ≡ 0
-  pub zero4 : at 4 (g .bytes) ≡ 0
+  pub zero : (i : ℕ) → i < 5 → at i (g .bytes) ≡ 0
 
 idle-good : (letter : ℕ) (g : Going) → Idle g → GoodGoing letter g
 idle-good letter g i =
@@ -101,16 +107,12 @@ idle-good letter g i =
       none = λ l. i .sent0;
       known = λ l. absurd (omega (arith, i .length0));
       begun = λ l. absurd (omega (arith, i .length0));
-      second = λ l m. (i .zero3, i .zero4);
-      zero0 = λ l. i .zero0;
-      zero1 = λ l. i .zero1;
-      zero2 = λ l. i .zero2;
-      zero3 = λ l. i .zero3;
-      zero4 = λ l. i .zero4;
+      second = λ l m. (i .zero 3 (omega arith), i .zero 4 (omega arith));
+      zero = λ k l m. i .zero k l;
     }
 
 nothing-idle : Idle nothing
-nothing-idle = record { length0 = refl; sent0 = refl; zero0 = refl; zero1 = refl; zero2 = refl; zero3 = refl; zero4 = refl }
+nothing-idle = record { length0 = refl; sent0 = refl; zero = λ i l. behind [] i l (omega arith) }
 
 after-good : (letter : ℕ) (g : Going) → Sendable letter g → GoodGoing letter (after g)
 unfolding after
@@ -124,11 +126,7 @@ after-good letter g m =
       known = m .known;
       begun = λ h. omega arith;
       second = λ h k. m .second h (omega arith);
-      zero0 = λ h. absurd (omega arith);
-      zero1 = m .zero1;
-      zero2 = m .zero2;
-      zero3 = m .zero3;
-      zero4 = m .zero4;
+      zero = m .zero;
     })
     (λ e. idle-good letter nothing nothing-idle)
 
@@ -145,10 +143,7 @@ second-sendable letter p g o l u s =
       below = l;
       known = o .known;
       second = λ h k. absurd (omega arith);
-      zero1 = λ h. absurd (omega arith);
-      zero2 = λ h. absurd (omega arith);
-      zero3 = λ h. absurd (omega arith);
-      zero4 = λ h. absurd (omega arith);
+      zero = λ i h k. absurd (omega arith);
     }
 
 going-sendable : (letter : ℕ) (g : Going) → GoodGoing letter g → g .sent < g .length → Sendable letter g
@@ -157,51 +152,11 @@ going-sendable letter g o l =
       below = l;
       known = o .known;
       second = λ h k. o .second h (omega arith);
-      zero1 = o .zero1;
-      zero2 = o .zero2;
-      zero3 = o .zero3;
-      zero4 = o .zero4;
+      zero = o .zero;
     }
-
-three-sendable : (letter a b c : ℕ) → Sendable letter (goingFrom (a ∷ b ∷ c ∷ []))
-unfolding goingFrom
-three-sendable letter a b c =
-    record {
-      below = omega arith;
-      known = λ h. absurd (omega arith);
-      second = λ h k. (refl, refl);
-      zero1 = λ h. absurd (omega arith);
-      zero2 = λ h. absurd (omega arith);
-      zero3 = λ h. refl;
-      zero4 = λ h. refl;
-    }
-
-five-sendable : (letter a b c d e : ℕ) → sizeBy letter ≡ 5 → (letter ≡ letterOf FiveByte → (d ≡ 0) × (e ≡ 0)) → Sendable letter (goingFrom (a ∷ b ∷ c ∷ d ∷ e ∷ []))
-unfolding goingFrom
-five-sendable letter a b c d e s u =
-    record {
-      below = omega arith;
-      known = λ h. sym s;
-      second = λ h k. u h;
-      zero1 = λ h. absurd (omega arith);
-      zero2 = λ h. absurd (omega arith);
-      zero3 = λ h. absurd (omega arith);
-      zero4 = λ h. absurd (omega arith);
-    }
-
--- a report that is latched, in U with its second pair zero
-latched-sendable : (f : Format) (n : ℕ) (x y : ℤ) → Sendable (letterOf f) (goingFrom (bytesBy (letterOf f) (report n x y)))
-unfolding bytesBy sizeBy namedBy bytesS bytesV rowsV bytesA bytesB rowsA bytesU bytesT bytesW rowsW twos
-latched-sendable Mm n x y = three-sendable _ _ _ _
-latched-sendable Microsoft n x y = three-sendable _ _ _ _
-latched-sendable Absolute n x y = five-sendable _ _ _ _ _ _ refl (λ e. absurd (omega (arith, e)))
-latched-sendable Relative n x y = five-sendable _ _ _ _ _ _ refl (λ e. absurd (omega (arith, e)))
-latched-sendable FiveByte n x y = five-sendable _ _ _ _ _ _ refl (λ e. (refl, refl))
-latched-sendable ThreeByte n x y = three-sendable _ _ _ _
-latched-sendable Hexadecimal n x y = five-sendable _ _ _ _ _ _ refl (λ e. absurd (omega (arith, e)))
 
 motion-good : (b : BallBox) (dx dy : ℤ) → Good b → Good (onMotion dx dy b)
-motion-good b dx dy g = record { settings = g .settings; track = moved-good (b .track) dx dy (g .track); going = g .going; rest = g .rest }
+motion-good b dx dy g = record { settings = g .settings; track = moved-good (b .track) dx dy (g .track); going = g .going; sleep = g .sleep }
 
 buttons-good : (b : BallBox) (n : ℕ) → ltb 7 n ≡ false → b .dormant ≡ false → Good b → Good (onButtons n b)
 unfolding onButtons
@@ -213,17 +168,17 @@ buttons-good b n l a g =
       settings = set-good (s .format) (s .mode) n (letter-known s (g .settings)) (mode-known s (g .settings)) (le-leb n 7 (ltb-false 7 n l));
       track = g .track;
       going = g .going;
-      rest = rw a;
+      sleep = rw a;
     })
 
 period-good : (b : BallBox) → b .dormant ≡ false → Good b → Good (onPeriod b)
 unfolding onPeriod
-period-good b a g = record { settings = g .settings; track = g .track; going = g .going; rest = rw a }
+period-good b a g = record { settings = g .settings; track = g .track; going = g .going; sleep = rw a }
 
 -- a byte goes out of what is sendable
 sent-good : (b : BallBox) → goodSettings (b .settings) ≡ true → goodTrack (b .track) ≡ true → b .dormant ≡ false → Sendable (b .settings .format) (b .going) → Good (nextByte b .next)
 unfolding nextByte
-sent-good b s t a m = record { settings = s; track = t; going = after-good (b .settings .format) (b .going) m; rest = rw a }
+sent-good b s t a m = record { settings = s; track = t; going = after-good (b .settings .format) (b .going) m; sleep = rw a }
 
 ready-good : (b : BallBox) → b .dormant ≡ false → bytesLeft b ≡ true → Good b → Good (nextByte (withByteReady b) .next)
 unfolding withByteReady secondLatched
@@ -237,9 +192,22 @@ ready-good b a l g =
     (λ e. sent-good b (g .settings) (g .track) a (going-sendable (b .settings .format) (b .going) (g .going) h))
 
 -- a report is latched and its first byte goes out
+size-by : (f : Format) (letter : ℕ) → letter ≡ letterOf f → 3 ≤ sizeBy letter
+unfolding sizeBy
+size-by f letter e = rw (e, letter-named f) (size-between f .0)
+
 latched-known : (b : BallBox) → Lettered (b .settings .format) → isFormat (b .settings .format) ≡ true → Sendable (b .settings .format) (latched b .going)
-unfolding latched latchedReport
-latched-known b (known f e) h = rw e (latched-sendable f _ _ _)
+unfolding latched latchedReport goingFrom bytesBy namedBy bytesU twos
+latched-known b (known f e) h =
+    let l = b .settings .format in
+    let bytes = bytesBy l (latchedReport b) in
+    let size = bytes-by-length l (latchedReport b) in
+    record {
+      below = omega (arith, size, size-by f l e);
+      known = λ k. size;
+      second = λ u k. rw u (refl, refl);
+      zero = behind bytes;
+    }
 latched-known b (unknown e none) h = absurd (holds (sym none ∙ h))
 
 first-good : (b : BallBox) → b .dormant ≡ false → Good b → Good (nextByte (withByteReady (latched b)) .next)
@@ -277,11 +245,7 @@ left-idle letter g o l =
     record {
       length0 = z;
       sent0 = o .none z;
-      zero0 = o .zero0 (omega arith);
-      zero1 = o .zero1 (omega arith);
-      zero2 = o .zero2 (omega arith);
-      zero3 = o .zero3 (omega arith);
-      zero4 = o .zero4 (omega arith);
+      zero = λ i h. o .zero i h (omega arith);
     }
   where
     none-left : (t : Bool) → eqb (g .length) 0 ≡ t → g .length ≤ g .sent → g .length ≡ 0
@@ -296,52 +260,16 @@ dropped-ready b a g =
     (λ l. record { settings = g .settings; track = g .track; idle = left-idle (b .settings .format) (b .going) (g .going) l; awake = a })
 
 -- one to three bytes of a reply
-one-going : (letter a : ℕ) → GoodGoing letter (goingFrom (a ∷ []))
+reply-going : (letter : ℕ) (bytes : List ℕ) → 1 ≤ length bytes → length bytes ≤ 3 → GoodGoing letter (goingFrom bytes)
 unfolding goingFrom
-one-going letter a =
+reply-going letter bytes l m =
     record {
-      some = λ h. omega arith;
+      some = λ h. h;
       none = λ h. refl;
       known = λ h. absurd (omega arith);
       begun = λ h. absurd (omega arith);
-      second = λ h k. (refl, refl);
-      zero0 = λ h. absurd (omega arith);
-      zero1 = λ h. refl;
-      zero2 = λ h. refl;
-      zero3 = λ h. refl;
-      zero4 = λ h. refl;
-    }
-
-two-going : (letter a b : ℕ) → GoodGoing letter (goingFrom (a ∷ b ∷ []))
-unfolding goingFrom
-two-going letter a b =
-    record {
-      some = λ h. omega arith;
-      none = λ h. refl;
-      known = λ h. absurd (omega arith);
-      begun = λ h. absurd (omega arith);
-      second = λ h k. (refl, refl);
-      zero0 = λ h. absurd (omega arith);
-      zero1 = λ h. absurd (omega arith);
-      zero2 = λ h. refl;
-      zero3 = λ h. refl;
-      zero4 = λ h. refl;
-    }
-
-three-going : (letter a b c : ℕ) → GoodGoing letter (goingFrom (a ∷ b ∷ c ∷ []))
-unfolding goingFrom
-three-going letter a b c =
-    record {
-      some = λ h. omega arith;
-      none = λ h. refl;
-      known = λ h. absurd (omega arith);
-      begun = λ h. absurd (omega arith);
-      second = λ h k. (refl, refl);
-      zero0 = λ h. absurd (omega arith);
-      zero1 = λ h. absurd (omega arith);
-      zero2 = λ h. absurd (omega arith);
-      zero3 = λ h. refl;
-      zero4 = λ h. refl;
+      second = λ h k. (behind bytes 3 (omega arith) m, behind bytes 4 (omega arith) (omega arith));
+      zero = behind bytes;
     }
 
 -- each command
@@ -361,7 +289,7 @@ obeyed-good n b r =
       settings = set-good n (s .mode) (s .buttons) e (mode-known s (r .settings)) (few s (r .settings));
       track = cleared-good (b .track) (r .track);
       going = idle-good n (b .going) (r .idle);
-      rest = rw (r .awake);
+      sleep = rw (r .awake);
     })
     (λ _. cases (Obeys b) (isStream n)
     (λ e.
@@ -369,23 +297,23 @@ obeyed-good n b r =
       settings = set-good f n (s .buttons) (letter-known s (r .settings)) (rw e) (few s (r .settings));
       track = r .track;
       going = i;
-      rest = rw (r .awake);
+      sleep = rw (r .awake);
     })
-    (λ _. cases (Obeys b) (eqb n 0x44)
-    (λ e. record { settings = prompt; track = r .track; going = i; rest = rw (r .awake) })
-    (λ _. cases (Obeys b) (eqb n 0x50)
-    (λ e. record { settings = prompt; track = r .track; going = i; rest = rw (r .awake) })
-    (λ _. cases (Obeys b) (eqb n 0x20)
-    (λ e. record { settings = r .settings; track = r .track; going = one-going f _; rest = rw (r .awake) })
-    (λ _. cases (Obeys b) (eqb n 0x66)
-    (λ e. record { settings = r .settings; track = r .track; going = one-going f _; rest = rw (r .awake) })
-    (λ _. cases (Obeys b) (eqb n 0x74)
-    (λ e. record { settings = r .settings; track = r .track; going = two-going f _ _; rest = rw (r .awake) })
-    (λ _. cases (Obeys b) (eqb n 0x05)
-    (λ e. record { settings = r .settings; track = r .track; going = three-going f _ _ _; rest = rw (r .awake) })
-    (λ _. cases (Obeys b) (eqb n 0x64)
-    (λ e. record { settings = r .settings; track = r .track; going = i; rest = rw (eq-eqb (b .going .length) 0 (r .idle .length0)) })
-    (λ _. record { settings = r .settings; track = r .track; going = i; rest = rw (r .awake) })))))))))
+    (λ _. cases (Obeys b) (eqb n modeD)
+    (λ e. record { settings = prompt; track = r .track; going = i; sleep = rw (r .awake) })
+    (λ _. cases (Obeys b) (eqb n letterP)
+    (λ e. record { settings = prompt; track = r .track; going = i; sleep = rw (r .awake) })
+    (λ _. cases (Obeys b) (eqb n space)
+    (λ e. record { settings = r .settings; track = r .track; going = reply-going f _ (omega arith) (omega arith); sleep = rw (r .awake) })
+    (λ _. cases (Obeys b) (eqb n letterf)
+    (λ e. record { settings = r .settings; track = r .track; going = reply-going f _ (omega arith) (omega arith); sleep = rw (r .awake) })
+    (λ _. cases (Obeys b) (eqb n lettert)
+    (λ e. record { settings = r .settings; track = r .track; going = reply-going f _ (omega arith) (omega arith); sleep = rw (r .awake) })
+    (λ _. cases (Obeys b) (eqb n byte05)
+    (λ e. record { settings = r .settings; track = r .track; going = reply-going f _ (omega arith) (omega arith); sleep = rw (r .awake) })
+    (λ _. cases (Obeys b) (eqb n letterd)
+    (λ e. record { settings = r .settings; track = r .track; going = i; sleep = rw (eq-eqb (b .going .length) 0 (r .idle .length0)) })
+    (λ _. record { settings = r .settings; track = r .track; going = i; sleep = rw (r .awake) })))))))))
 
 host-good : (n : ℕ) (b : BallBox) → b .dormant ≡ false → Good b → Good (onHost n b .next)
 unfolding onHost
@@ -393,7 +321,7 @@ host-good n b a g = obeyed-good n (dropped b) (dropped-ready b a g)
 
 woken-good : (b : BallBox) → Good b → Good (woken b)
 unfolding woken
-woken-good b g = record { settings = g .settings; track = g .track; going = one-going (b .settings .format) _; rest = refl }
+woken-good b g = record { settings = g .settings; track = g .track; going = reply-going (b .settings .format) ack (omega arith) (omega arith); sleep = refl }
 
 -- an event, awake or dormant
 awake-good : (b : BallBox) (e : Event) → aboveSeven e ≡ false → b .dormant ≡ false → Good b → Good (awake b e .next)
@@ -420,5 +348,5 @@ stepped-good b e g =
     (cases (λ (x : Answer). good (x .next) ≡ true) (aboveSeven e) (λ l. g)
     (λ l. cases (λ (x : Answer). good (x .next) ≡ true) (b .dormant) (λ d. whole _ (asleep-good b e p)) (λ d. whole _ (awake-good b e l d p))))
 
-pub step-good : (b : BallBox) (e : Event) (r : Stepped) → StepPromise b e r → good b ≡ true → good (r .next) ≡ true
-step-good b e r s g = ap (λ (x : Answer). good (x .next)) s ∙ stepped-good b e g
+pub step-stays-good : (b : BallBox) (e : Event) (r : Stepped) → StepPromise b e r → good b ≡ true → good (r .next) ≡ true
+step-stays-good b e r s g = ap (λ (x : Answer). good (x .next)) s ∙ stepped-good b e g

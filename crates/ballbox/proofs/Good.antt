@@ -6,7 +6,7 @@ use native.Mathlib.Omega.{arith}
 use lib.Dec.{leb, ltb, eqb}
 use borrow.Author.Tests.{leb-true, leb-false, ltb-true, ltb-false, eqb-true, eqb-false, lt-ltb, le-ltb, le-leb, lt-leb, eq-eqb, not-false}
 use Rattle.numbers.proofs.Choices.{other, either, neither, both, cases}
-use Rattle.numbers.proofs.Tested.{left, right}
+use Rattle.numbers.proofs.Tested.{left, right, each-at, each-of}
 use Rattle.wire.specs.Line.{letterOf, sizeBy}
 use Rattle.wire.specs.Reading.{at}
 use Rattle.wire.specs.declared.Format.the-variants.{FiveByte}
@@ -14,7 +14,7 @@ use Rattle.ballbox.specs.Box.{modeD, goingFrom}
 use Rattle.ballbox.specs.Latching.{latched, secondLatched, withSecond}
 use Rattle.ballbox.specs.Commands.{isFormat, isStream}
 use Rattle.ballbox.specs.Events.{bytesLeft, wanted, latching, secondNow, withByteReady}
-use Rattle.ballbox.specs.Good.{good, goodSettings, goodTrack, sentBelow, lengthKnown, begun, secondHeld, zeroFrom, restZero, goodGoing, restful}
+use Rattle.ballbox.specs.Good.{good, goodSettings, goodTrack, sentBelow, lengthKnown, begun, secondHeld, zeroFrom, restZero, goodGoing, dormantRightly}
 use Rattle.ballbox.specs.declared.Going.{Going}
 use Rattle.ballbox.specs.declared.BallBox.{BallBox}
 use Rattle.wire.proofs.Letters.{at-most-five}
@@ -27,11 +27,7 @@ pub record GoodGoing (letter : ℕ) (g : Going) : Type 0 where
   pub known : 3 < g .length → g .length ≡ sizeBy letter
   pub begun : g .length ≡ 5 → 1 ≤ g .sent
   pub second : letter ≡ letterOf FiveByte → g .sent < 4 → (at 3 (g .bytes) ≡ 0) × (at 4 (g .bytes) ≡ 0)
-  pub zero0 : g .length ≤ 0 → at 0 (g .bytes) ≡ 0
-  pub zero1 : g .length ≤ 1 → at 1 (g .bytes) ≡ 0
-  pub zero2 : g .length ≤ 2 → at 2 (g .bytes) ≡ 0
-  pub zero3 : g .length ≤ 3 → at 3 (g .bytes) ≡ 0
-  pub zero4 : g .length ≤ 4 → at 4 (g .bytes) ≡ 0
+  pub zero : (i : ℕ) → i < 5 → g .length ≤ i → at i (g .bytes) ≡ 0
 
 module _ (letter : ℕ) (g : Going) where
   zero-of : (i : ℕ) → zeroFrom i g ≡ true → g .length ≤ i → at i (g .bytes) ≡ 0
@@ -76,9 +72,6 @@ module _ (letter : ℕ) (g : Going) where
       let s = right (a && b) c three in
       let h = right (a && b && c) d four in
       let z = right (a && b && c && d) (restZero g) e in
-      let z4 = left (zeroFrom 0 g && zeroFrom 1 g && zeroFrom 2 g && zeroFrom 3 g) (zeroFrom 4 g) z in
-      let z3 = left (zeroFrom 0 g && zeroFrom 1 g && zeroFrom 2 g) (zeroFrom 3 g) z4 in
-      let z2 = left (zeroFrom 0 g && zeroFrom 1 g) (zeroFrom 2 g) z3 in
       let u = eqb letter (letterOf FiveByte) in
       let p = eqb (at 3 (g .bytes)) 0 in
       let q = eqb (at 4 (g .bytes)) 0 in
@@ -90,11 +83,7 @@ module _ (letter : ℕ) (g : Going) where
         second = λ l m.
             let pq = other (not u || leb 4 (g .sent)) (p && q) h (rw (eq-eqb letter (letterOf FiveByte) l, lt-leb 4 (g .sent) m)) in
             (eqb-true _ _ (left p q pq), eqb-true _ _ (right p q pq));
-        zero0 = zero-of 0 (left (zeroFrom 0 g) (zeroFrom 1 g) z2);
-        zero1 = zero-of 1 (right (zeroFrom 0 g) (zeroFrom 1 g) z2);
-        zero2 = zero-of 2 (right (zeroFrom 0 g && zeroFrom 1 g) (zeroFrom 2 g) z3);
-        zero3 = zero-of 3 (right (zeroFrom 0 g && zeroFrom 1 g && zeroFrom 2 g) (zeroFrom 3 g) z4);
-        zero4 = zero-of 4 (right (zeroFrom 0 g && zeroFrom 1 g && zeroFrom 2 g && zeroFrom 3 g) (zeroFrom 4 g) z);
+        zero = λ i l. zero-of i (each-at (λ i. zeroFrom i g) 5 z i l);
       }
 
   pub going-whole : GoodGoing letter g → goodGoing letter g ≡ true
@@ -111,7 +100,7 @@ module _ (letter : ℕ) (g : Going) where
       let zz = o .second (eqb-true letter (letterOf FiveByte) (not-false u n)) (leb-false 4 (g .sent) (neither (not u) (leb 4 (g .sent)) e .1)) in
       both _ _ (eq-eqb _ _ (zz .0)) (eq-eqb _ _ (zz .1)))
       in
-      rw (a, b, c, d, of-zero 0 (o .zero0), of-zero 1 (o .zero1), of-zero 2 (o .zero2), of-zero 3 (o .zero3), of-zero 4 (o .zero4))
+      rw (a, b, c, d) (each-of (λ i. zeroFrom i g) 5 (λ i l. of-zero i (o .zero i l)))
 
 -- U's second pair leaves the count of bytes sent
 pub ready-sent : (b : BallBox) → withByteReady b .going .sent ≡ b .going .sent
@@ -123,7 +112,7 @@ pub record Good (b : BallBox) : Type 0 where
   pub settings : goodSettings (b .settings) ≡ true
   pub track : goodTrack (b .track) ≡ true
   pub going : GoodGoing (b .settings .format) (b .going)
-  pub rest : restful b ≡ true
+  pub sleep : dormantRightly b ≡ true
 
 pub parts : (b : BallBox) → good b ≡ true → Good b
 unfolding good
@@ -131,18 +120,18 @@ parts b g =
     let s = goodSettings (b .settings) in
     let t = goodTrack (b .track) in
     let o = goodGoing (b .settings .format) (b .going) in
-    let three = left (s && t && o) (restful b) g in
+    let three = left (s && t && o) (dormantRightly b) g in
     let two = left (s && t) o three in
     record {
       settings = left s t two;
       track = right s t two;
       going = going-parts (b .settings .format) (b .going) (right (s && t) o three);
-      rest = right (s && t && o) (restful b) g;
+      sleep = right (s && t && o) (dormantRightly b) g;
     }
 
 pub whole : (b : BallBox) → Good b → good b ≡ true
 unfolding good
-whole b p = rw (p .settings, p .track, going-whole (b .settings .format) (b .going) (p .going), p .rest)
+whole b p = rw (p .settings, p .track, going-whole (b .settings .format) (b .going) (p .going), p .sleep)
 
 pub good-buttons : (b : BallBox) → good b ≡ true → b .settings .buttons ≤ 7
 unfolding goodSettings
