@@ -1,110 +1,65 @@
 -- Worked runs: demand 3 at small runs of the box, with the words, the passages and the answers computed. Runs that lack just one of its conditions,
 -- where the report is not handed out as sent, stand in crates/reader/proofs/DamagedRuns.antt.
-use Prim.Native.Nat.{ℕ}
 use mathlib.Core.Path.{_≡_, refl}
-use mathlib.Core.Bool.{not}
+use mathlib.Core.Bool.{true}
 use mathlib.Core.List.{List, [], _∷_}
 use native.Mathlib.Omega.{arith}
 use lib.IntN.{pos}
-use Rattle.numbers.proofs.Choices.{cases}
 use Rattle.numbers.specs.Bits.{number, bit}
 use Rattle.numbers.specs.Signed.{minus, twos, held, heldSum}
-use Rattle.wire.specs.Line.{namedBy, sizeBy, lineWords}
+use Rattle.wire.specs.Line.{letterOf, namedBy, sizeBy, lineWords}
 use Rattle.wire.specs.Table.{bytesS, bytesU, bytesBy}
 use Rattle.wire.specs.Reading.{report}
 use Rattle.wire.specs.Passages.{silent, finished, nothing, passagesOver, goingOver}
 use Rattle.wire.specs.declared.Report.{Report}
+use Rattle.wire.specs.declared.Format.{Format}
 use Rattle.wire.specs.declared.Format.the-variants.{Mm, FiveByte}
 use Rattle.frames.specs.Line.{none, gone, stays}
 use Rattle.reader.specs.Lines.{HandsOut, HandsOutAt, Lost, of-finished}
-use Rattle.ballbox.specs.Box.{Answer, freshBox, goingFrom}
+use Rattle.ballbox.specs.Box.{freshBox, goingFrom}
 use Rattle.ballbox.specs.Motion.{counted, placedAt, placed, movedBy, apart, hasMoved}
 use Rattle.ballbox.specs.Latching.{limits, limited, movement, taken, cleared, latchedReport, latched, withSecond, secondLatched}
 use Rattle.ballbox.specs.Commands.{commandOf, obeyed}
-use Rattle.ballbox.specs.Events.{bytesLeft, onButtons, latching, withByteReady, after, nextByte, sending, dropped, onHost, awake, asleep}
+use Rattle.ballbox.specs.Events.{onButtons, latching, withByteReady, after, nextByte, sending, dropped, onHost, awake}
 use Rattle.ballbox.specs.Good.{good, goodSettings, goodTrack, goodGoing}
-use Rattle.ballbox.specs.Promises.{wordsOf, aboveSeven, stepOf, StepPromise}
-use Rattle.ballbox.specs.declared.BallBox.{BallBox}
+use Rattle.ballbox.specs.Promises.{stepOf}
 use Rattle.ballbox.specs.declared.Stepped.{Stepped}
-use Rattle.ballbox.specs.declared.Sent.{Sent}
-use Rattle.ballbox.specs.declared.Sent.the-variants.{Nothing, Word}
 use Rattle.ballbox.specs.declared.Event.{Event}
-use Rattle.ballbox.specs.declared.Event.the-variants.{Motion, Buttons, Host, Slot, Period}
-use Rattle.history.specs.Runs.{RunPromise, wordsGiven}
+use Rattle.ballbox.specs.declared.Event.the-variants.{Motion, Buttons, Host, Slot}
+use Rattle.history.specs.Runs.{wordsGiven, sentAs, answerTo, answersTo}
 use Rattle.history.specs.History.{toldBy}
 use Rattle.history.specs.Asked.{onlyAsks}
+use Rattle.history.proofs.Permitted.{answer-permitted, answers-permitted}
 use Rattle.demands.specs.Demand3.{Run, sent, stillGoing, from-then-on, marked, unmarked, exactly}
 
--- the answers of the public step, as the rules say them
-sentAs : List ℕ → Sent
-sentAs [] = Nothing
-sentAs (w ∷ words) = Word w
+-- a fresh box that is set to f by its letter, and the answers of the rules
+abbrev setTo : Format → Stepped
+setTo f = answerTo freshBox (Host (letterOf f))
 
-answerTo : BallBox → Event → Stepped
-answerTo b e = record { refusal = stepOf b e .refusal; next = stepOf b e .next; sent = sentAs (stepOf b e .words) }
-
-answersTo : BallBox → List Event → List Stepped
-answersTo b [] = []
-answersTo b (e ∷ events) = answerTo b e ∷ answersTo (stepOf b e .next) events
-
--- they are permitted
-OneWord : Answer → Type 0
-OneWord a = wordsOf (sentAs (a .words)) ≡ a .words
-
-awake-one : (b : BallBox) (e : Event) → OneWord (awake b e)
-unfolding OneWord sentAs awake onHost sending nextByte
-awake-one b (Motion dx dy) = refl
-awake-one b (Buttons n) = refl
-awake-one b (Host byte) = cases (λ (words : List ℕ). wordsOf (sentAs words) ≡ words) (bytesLeft b) (λ e. refl) (λ e. refl)
-awake-one b Slot = cases OneWord (bytesLeft (latching b)) (λ e. refl) (λ e. refl)
-awake-one b Period = refl
-
-asleep-one : (b : BallBox) (e : Event) → OneWord (asleep b e)
-unfolding OneWord sentAs asleep
-asleep-one b (Motion dx dy) = refl
-asleep-one b (Buttons n) = refl
-asleep-one b (Host byte) = refl
-asleep-one b Slot = refl
-asleep-one b Period = refl
-
-step-one : (b : BallBox) (e : Event) → OneWord (stepOf b e)
-unfolding OneWord sentAs stepOf
-step-one b e =
-    cases OneWord (not (good b)) (λ g. refl)
-    (λ g. cases OneWord (aboveSeven e) (λ l. refl) (λ l. cases OneWord (b .dormant) (λ d. asleep-one b e) (λ d. awake-one b e)))
-
-answer-permitted : (b : BallBox) (e : Event) → StepPromise b e (answerTo b e)
-unfolding answerTo OneWord
-answer-permitted b e = λ i. record { refusal = stepOf b e .refusal; next = stepOf b e .next; words = step-one b e i }
-
-answers-permitted : (b : BallBox) (events : List Event) → RunPromise b events (answersTo b events)
-unfolding answersTo answerTo RunPromise
-answers-permitted b [] = tt
-answers-permitted b (e ∷ events) = (answer-permitted b e, answers-permitted (stepOf b e .next) events)
-
--- S: a movement, a slot with nothing to send, and a press
-abbrev setS : Stepped
-setS = answerTo freshBox (Host 0x53)
-
-abbrev eventsS : List Event
-eventsS = Motion (pos 5) (minus 3) ∷ Slot ∷ Slot ∷ Slot ∷ Slot ∷ Buttons 4 ∷ Slot ∷ Slot ∷ Slot ∷ []
-
-run-S : Run Mm freshBox setS eventsS (answersTo (setS .next) eventsS)
-unfolding good goodSettings goodTrack goodGoing freshBox sizeBy namedBy onlyAsks
-run-S =
+run-of : (f : Format) (events : List Event) → onlyAsks events ≡ true → Run f freshBox (setTo f) events (answersTo (setTo f .next) events)
+unfolding good goodSettings goodTrack goodGoing freshBox sizeBy namedBy
+run-of f events asked =
     record {
       good = refl;
       awake = refl;
-      set = answer-permitted freshBox (Host 0x53);
-      asked = refl;
-      permitted = answers-permitted (setS .next) eventsS;
+      set = answer-permitted freshBox (Host (letterOf f));
+      asked = asked;
+      permitted = answers-permitted (setTo f .next) events;
     }
 
-words-S : wordsGiven (answersTo (setS .next) eventsS) ≡ 0x90 ∷ 0x05 ∷ 0x03 ∷ 257 ∷ 0x9C ∷ 0x00 ∷ 0x00 ∷ []
+-- S: a movement, a slot with nothing to send, and a press
+abbrev eventsS : List Event
+eventsS = Motion (pos 5) (minus 3) ∷ Slot ∷ Slot ∷ Slot ∷ Slot ∷ Buttons 4 ∷ Slot ∷ Slot ∷ Slot ∷ []
+
+run-S : Run Mm freshBox (setTo Mm) eventsS (answersTo (setTo Mm .next) eventsS)
+unfolding onlyAsks
+run-S = run-of Mm eventsS refl
+
+words-S : wordsGiven (answersTo (setTo Mm .next) eventsS) ≡ 0x90 ∷ 0x05 ∷ 0x03 ∷ 257 ∷ 0x9C ∷ 0x00 ∷ 0x00 ∷ []
 unfolding answerTo answersTo sentAs stepOf good goodSettings goodTrack goodGoing freshBox awake onHost commandOf obeyed dropped cleared sending latching withByteReady nextByte after hasMoved apart goingFrom namedBy sizeBy held heldSum counted placedAt placed movedBy onButtons latched latchedReport bytesBy taken movement limited limits bytesS number bit
 words-S = refl
 
-passages-S : sent setS eventsS ≡ finished Mm (report 0 (pos 5) (minus 3)) ∷ silent ∷ finished Mm (report 4 (pos 0) (pos 0)) ∷ []
+passages-S : sent (setTo Mm) eventsS ≡ finished Mm (report 0 (pos 5) (minus 3)) ∷ silent ∷ finished Mm (report 4 (pos 0) (pos 0)) ∷ []
 unfolding answerTo sentAs stepOf good goodSettings goodTrack goodGoing freshBox awake onHost commandOf obeyed dropped cleared sending latching withByteReady nextByte after hasMoved apart goingFrom namedBy sizeBy held heldSum counted placedAt placed movedBy onButtons latched latchedReport bytesBy taken movement limited limits bytesS number bit toldBy passagesOver
 passages-S = refl
 
@@ -116,11 +71,11 @@ marked-S =
     (finished Mm (report 0 (pos 5) (minus 3)) ∷ silent ∷ []) (report 4 (pos 0) (pos 0)) [] passages-S 6 refl refl (omega arith)
 
 -- Exactly: 90 05 03 loses its second byte, and the other report is handed out.
-going-S : stillGoing setS eventsS ≡ nothing
+going-S : stillGoing (setTo Mm) eventsS ≡ nothing
 unfolding answerTo sentAs stepOf good goodSettings goodTrack goodGoing freshBox awake onHost commandOf obeyed dropped cleared sending latching withByteReady nextByte after hasMoved apart goingFrom namedBy sizeBy held heldSum counted placedAt placed movedBy onButtons latched latchedReport bytesBy taken movement limited limits bytesS number bit toldBy goingOver
 going-S = refl
 
-lost-S : Lost Mm (sent setS eventsS) (stillGoing setS eventsS) (0x90 ∷ 0x03 ∷ 257 ∷ 0x9C ∷ 0x00 ∷ 0x00 ∷ []) (silent ∷ finished Mm (report 4 (pos 0) (pos 0)) ∷ [])
+lost-S : Lost Mm (sent (setTo Mm) eventsS) (stillGoing (setTo Mm) eventsS) (0x90 ∷ 0x03 ∷ 257 ∷ 0x9C ∷ 0x00 ∷ 0x00 ∷ []) (silent ∷ finished Mm (report 4 (pos 0) (pos 0)) ∷ [])
 unfolding bytesS number bit
 lost-S =
     rw (passages-S, going-S)
@@ -130,24 +85,14 @@ pub exactly-S : HandsOut Mm (0x90 ∷ 0x03 ∷ 257 ∷ 0x9C ∷ 0x00 ∷ 0x00 �
 exactly-S = exactly run-S from-then-on refl lost-S
 
 -- U, the user's disaster: a fast move to the left, a slot with nothing to send, and a press of the left button
-abbrev setU : Stepped
-setU = answerTo freshBox (Host 0x55)
-
 abbrev eventsU : List Event
 eventsU = Motion (minus 123) (pos 0) ∷ Slot ∷ Slot ∷ Slot ∷ Motion (minus 123) (pos 0) ∷ Slot ∷ Slot ∷ Slot ∷ Buttons 4 ∷ Slot ∷ Slot ∷ Slot ∷ Slot ∷ Slot ∷ []
 
-run-U : Run FiveByte freshBox setU eventsU (answersTo (setU .next) eventsU)
-unfolding good goodSettings goodTrack goodGoing freshBox sizeBy namedBy onlyAsks
-run-U =
-    record {
-      good = refl;
-      awake = refl;
-      set = answer-permitted freshBox (Host 0x55);
-      asked = refl;
-      permitted = answers-permitted (setU .next) eventsU;
-    }
+run-U : Run FiveByte freshBox (setTo FiveByte) eventsU (answersTo (setTo FiveByte .next) eventsU)
+unfolding onlyAsks
+run-U = run-of FiveByte eventsU refl
 
-words-U : wordsGiven (answersTo (setU .next) eventsU) ≡ 0x87 ∷ 0x85 ∷ 0x00 ∷ 0x85 ∷ 0x00 ∷ 257 ∷ 0x83 ∷ 0x00 ∷ 0x00 ∷ 0x00 ∷ 0x00 ∷ []
+words-U : wordsGiven (answersTo (setTo FiveByte .next) eventsU) ≡ 0x87 ∷ 0x85 ∷ 0x00 ∷ 0x85 ∷ 0x00 ∷ 257 ∷ 0x83 ∷ 0x00 ∷ 0x00 ∷ 0x00 ∷ 0x00 ∷ []
 unfolding answerTo answersTo sentAs stepOf good goodSettings goodTrack goodGoing freshBox awake onHost commandOf obeyed dropped cleared sending latching withByteReady nextByte after hasMoved apart goingFrom namedBy sizeBy held heldSum counted placedAt placed movedBy onButtons latched latchedReport bytesBy taken movement limited limits withSecond secondLatched bytesU twos number bit
 words-U = refl
 
@@ -158,7 +103,7 @@ fast = record { buttons = 0; x1 = minus 123; y1 = pos 0; x2 = minus 123; y2 = po
 abbrev press : Report
 press = report 4 (pos 0) (pos 0)
 
-passages-U : sent setU eventsU ≡ finished FiveByte fast ∷ silent ∷ finished FiveByte press ∷ []
+passages-U : sent (setTo FiveByte) eventsU ≡ finished FiveByte fast ∷ silent ∷ finished FiveByte press ∷ []
 unfolding answerTo sentAs stepOf good goodSettings goodTrack goodGoing freshBox awake onHost commandOf obeyed dropped cleared sending latching withByteReady nextByte after hasMoved apart goingFrom namedBy sizeBy held heldSum counted placedAt placed movedBy onButtons latched latchedReport bytesBy taken movement limited limits withSecond secondLatched bytesU twos number bit toldBy passagesOver
 passages-U = refl
 

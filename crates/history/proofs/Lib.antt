@@ -1,7 +1,10 @@
--- The box as a sender, and the bridge from its words to its passages.
+-- The box as a sender: what is going in it (Carries), its slots (Slots) and host bytes (Hosts), and the bridge from its words to its passages
+-- (Bridge); that a box asked only for reports sends sound passages (Asking), that a letter sets one to its format (Setting), and that the
+-- answers of the rules are permitted (Permitted).
 pub mod Carries
 pub mod Slots
 pub mod Hosts
 pub mod Bridge
 pub mod Asking
 pub mod Setting
+pub mod Permitted
