@@ -15,10 +15,29 @@ use Rattle.ballbox.specs.Latching.{latched, secondLatched, withSecond}
 use Rattle.ballbox.specs.Commands.{isFormat, isStream}
 use Rattle.ballbox.specs.Events.{bytesLeft, wanted, latching, secondNow, withByteReady}
 use Rattle.ballbox.specs.Good.{good, goodSettings, goodTrack, sentBelow, lengthKnown, begun, secondHeld, zeroFrom, restZero, goodGoing, dormantRightly}
+use Rattle.ballbox.specs.declared.Settings.{Settings}
 use Rattle.ballbox.specs.declared.Going.{Going}
 use Rattle.ballbox.specs.declared.BallBox.{BallBox}
 use Rattle.wire.proofs.Letters.{at-most-five}
 use Rattle.ballbox.proofs.Accepting.{bytes-by-length}
+
+-- what is set
+module _ (s : Settings) (h : goodSettings s ≡ true) where
+  pub letter-known : isFormat (s .format) ≡ true
+  unfolding goodSettings
+  letter-known =
+      left (isFormat (s .format)) (isStream (s .mode) || eqb (s .mode) modeD)
+      (left (isFormat (s .format) && (isStream (s .mode) || eqb (s .mode) modeD)) (leb (s .buttons) 7) h)
+
+  pub mode-known : (isStream (s .mode) || eqb (s .mode) modeD) ≡ true
+  unfolding goodSettings
+  mode-known =
+      right (isFormat (s .format)) (isStream (s .mode) || eqb (s .mode) modeD)
+      (left (isFormat (s .format) && (isStream (s .mode) || eqb (s .mode) modeD)) (leb (s .buttons) 7) h)
+
+  pub few : leb (s .buttons) 7 ≡ true
+  unfolding goodSettings
+  few = right (isFormat (s .format) && (isStream (s .mode) || eqb (s .mode) modeD)) (leb (s .buttons) 7) h
 
 -- the rules of what is going
 pub record GoodGoing (letter : ℕ) (g : Going) : Type 0 where
@@ -58,7 +77,7 @@ module _ (letter : ℕ) (g : Going) where
           let l : 0 < g .length = omega (arith, eqb-false (g .length) 0 h) in
           rw (lt-ltb (g .sent) (g .length) (some l))
 
-  pub going-parts : goodGoing letter g ≡ true → GoodGoing letter g
+  going-parts : goodGoing letter g ≡ true → GoodGoing letter g
   unfolding goodGoing
   going-parts e =
       let a = sentBelow g in
@@ -86,7 +105,7 @@ module _ (letter : ℕ) (g : Going) where
         zero = λ i l. zero-of i (each-at (λ i. zeroFrom i g) 5 z i l);
       }
 
-  pub going-whole : GoodGoing letter g → goodGoing letter g ≡ true
+  going-whole : GoodGoing letter g → goodGoing letter g ≡ true
   unfolding goodGoing
   going-whole o =
       let a = of-below (o .some) (o .none) in
@@ -134,13 +153,10 @@ unfolding good
 whole b p = rw (p .settings, p .track, going-whole (b .settings .format) (b .going) (p .going), p .sleep)
 
 pub good-buttons : (b : BallBox) → good b ≡ true → b .settings .buttons ≤ 7
-unfolding goodSettings
-good-buttons b g =
-    let s = b .settings in
-    leb-true (s .buttons) 7 (right (isFormat (s .format) && (isStream (s .mode) || eqb (s .mode) modeD)) (leb (s .buttons) 7) (parts b g .settings))
+good-buttons b g = leb-true (b .settings .buttons) 7 (few (b .settings) (parts b g .settings))
 
 -- at most five bytes are going
-pub length-most : (letter : ℕ) (g : Going) → GoodGoing letter g → g .length ≤ 5
+length-most : (letter : ℕ) (g : Going) → GoodGoing letter g → g .length ≤ 5
 length-most letter g o = go (leb (g .length) 3) refl
   where
     go : (t : Bool) → leb (g .length) 3 ≡ t → g .length ≤ 5

@@ -28,7 +28,6 @@ use Rattle.ballbox.specs.Events.{onMotion, onButtons, onPeriod, bytesLef
 use Rattle.ballbox.specs.Good.{onPad, goodSettings, goodTrack, goodGoing, good}
 use Rattle.ballbox.specs.Promises.{aboveSeven, stepOf, FreshPromise, StepPromise}
 use Rattle.ballbox.specs.declared.Pair.{Pair}
-use Rattle.ballbox.specs.declared.Settings.{Settings}
 use Rattle.ballbox.specs.declared.Track.{Track}
 use Rattle.ballbox.specs.declared.Going.{Going}
 use Rattle.ballbox.specs.declared.BallBox.{BallBox}
@@ -38,30 +37,13 @@ use Rattle.ballbox.specs.declared.Event.the-variants.{Motion, Buttons, H
 use Rattle.ballbox.specs.declared.Stepped.{Stepped}
 use Rattle.ballbox.proofs.Letters.{Lettered, known, unknown, lettered}
 use Rattle.ballbox.proofs.Accepting.{bytes-by-length}
-use Rattle.ballbox.proofs.Good.{GoodGoing, Good, parts, whole}
+use Rattle.ballbox.proofs.Good.{letter-known, mode-known, few, GoodGoing, Good, parts, whole}
 
 pub fresh-is-good : (b : BallBox) → FreshPromise b → good b ≡ true
 unfolding freshBox good goodSettings goodTrack goodGoing
 fresh-is-good b e = ap good e
 
 -- what is set
-module _ (s : Settings) (h : goodSettings s ≡ true) where
-  pub letter-known : isFormat (s .format) ≡ true
-  unfolding goodSettings
-  letter-known =
-      left (isFormat (s .format)) (isStream (s .mode) || eqb (s .mode) modeD)
-      (left (isFormat (s .format) && (isStream (s .mode) || eqb (s .mode) modeD)) (leb (s .buttons) 7) h)
-
-  pub mode-known : (isStream (s .mode) || eqb (s .mode) modeD) ≡ true
-  unfolding goodSettings
-  mode-known =
-      right (isFormat (s .format)) (isStream (s .mode) || eqb (s .mode) modeD)
-      (left (isFormat (s .format) && (isStream (s .mode) || eqb (s .mode) modeD)) (leb (s .buttons) 7) h)
-
-  pub few : leb (s .buttons) 7 ≡ true
-  unfolding goodSettings
-  few = right (isFormat (s .format) && (isStream (s .mode) || eqb (s .mode) modeD)) (leb (s .buttons) 7) h
-
 set-good : (f m n : ℕ) → isFormat f ≡ true → (isStream m || eqb m modeD) ≡ true → leb n 7 ≡ true → goodSettings (record { format = f; mode = m; buttons = n }) ≡ true
 unfolding goodSettings
 set-good f m n h k l = both _ _ (both _ _ h k) l
@@ -95,10 +77,10 @@ record Sendable (letter : ℕ) (g : Going) : Type 0 where
   zero : (i : ℕ) → i < 5 → g .length ≤ i → at i (g .bytes) ≡ 0
 
 -- nothing is left to send
-pub record Idle (g : Going) : Type 0 where
-  pub length0 : g .length ≡ 0
-  pub sent0 : g .sent ≡ 0
-  pub zero : (i : ℕ) → i < 5 → at i (g .bytes) ≡ 0
+record Idle (g : Going) : Type 0 where
+  length0 : g .length ≡ 0
+  sent0 : g .sent ≡ 0
+  zero : (i : ℕ) → i < 5 → at i (g .bytes) ≡ 0
 
 idle-good : (letter : ℕ) (g : Going) → Idle g → GoodGoing letter g
 idle-good letter g i =
@@ -231,11 +213,11 @@ slot-good b a g =
     (λ e. cases (λ (x : Answer). Good (x .next)) (bytesLeft b) (λ l. ready-good b a l g) (λ l. g))
 
 -- a box with nothing going, ready to obey
-pub record Ready (b : BallBox) : Type 0 where
-  pub settings : goodSettings (b .settings) ≡ true
-  pub track : goodTrack (b .track) ≡ true
-  pub idle : Idle (b .going)
-  pub awake : b .dormant ≡ false
+record Ready (b : BallBox) : Type 0 where
+  settings : goodSettings (b .settings) ≡ true
+  track : goodTrack (b .track) ≡ true
+  idle : Idle (b .going)
+  awake : b .dormant ≡ false
 
 -- where no bytes are left nothing is going
 left-idle : (letter : ℕ) (g : Going) → GoodGoing letter g → ltb (g .sent) (g .length) ≡ false → Idle g
@@ -252,7 +234,7 @@ left-idle letter g o l =
     none-left true e k = eqb-true (g .length) 0 e
     none-left false e k = absurd (omega (arith, o .some (omega (arith, eqb-false (g .length) 0 e))))
 
-pub dropped-ready : (b : BallBox) → b .dormant ≡ false → Good b → Ready (dropped b)
+dropped-ready : (b : BallBox) → b .dormant ≡ false → Good b → Ready (dropped b)
 unfolding dropped
 dropped-ready b a g =
     cases Ready (bytesLeft b)

@@ -19,8 +19,7 @@ use Rattle.ballbox.specs.declared.Command.the-variants.{Ignored}
 use Rattle.ballbox.specs.declared.Event.the-variants.{Host}
 use Rattle.ballbox.specs.declared.Stepped.{Stepped}
 use Rattle.wire.proofs.Letters.{letter-named}
-use Rattle.ballbox.proofs.Good.{parts}
-use Rattle.ballbox.proofs.Goodness.{mode-known}
+use Rattle.ballbox.proofs.Good.{mode-known, parts}
 use Rattle.ballbox.proofs.Refusals.{awake-step}
 
 pub rest-ignored : (n : ℕ) → isCommand n ≡ false → commandOf n ≡ Ignored

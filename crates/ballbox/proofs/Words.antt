@@ -33,8 +33,7 @@ use Rattle.ballbox.specs.declared.Event.the-variants.{Motion, Buttons, H
 use Rattle.ballbox.specs.declared.Stepped.{Stepped}
 use Rattle.ballbox.proofs.Letters.{Lettered, known, unknown, lettered}
 use Rattle.ballbox.proofs.Accepting.{latched-accepted, second-accepted}
-use Rattle.ballbox.proofs.Good.{parts, good-buttons}
-use Rattle.ballbox.proofs.Goodness.{letter-known, mode-known, few}
+use Rattle.ballbox.proofs.Good.{letter-known, mode-known, few, parts, good-buttons}
 
 no-word : {X : Type 0} (w : ℕ) (ws : List ℕ) → [] ≡ w ∷ ws → X
 no-word w ws e = let z : _≡_ {A = ℕ} 0 1 = cc in absurd (omega arith)

@@ -1,6 +1,6 @@
 -- A box that is set to one format and asked only for reports sends sound passages of that format.
 use Prim.Native.Nat.{ℕ, _+_, _<_}
-use mathlib.Core.Path.{_≡_, refl, _∙_}
+use mathlib.Core.Path.{_≡_, refl, _∙_, ap}
 use mathlib.Core.Bool.{Bool, true, false, not, _&&_}
 use mathlib.Core.List.{List, [], _∷_, _++_}
 use native.Mathlib.Omega.{arith}
@@ -21,6 +21,7 @@ use Rattle.ballbox.specs.Commands.{letterP, commandOf, asksForReports, obeyed}
 use Rattle.ballbox.specs.Events.{bytesLeft, wanted, latching, secondNow, withByteReady, nextByte, sending, dropped, onHost, onPeriod, awake}
 use Rattle.ballbox.specs.Good.{good}
 use Rattle.ballbox.specs.Promises.{aboveSeven, stepOf}
+use Rattle.ballbox.specs.declared.Settings.{Settings}
 use Rattle.ballbox.specs.declared.BallBox.{BallBox}
 use Rattle.ballbox.specs.declared.Command.{Command}
 use Rattle.ballbox.specs.declared.Command.the-variants.{SetFormat, SetStream, SetPrompt, AskReport, AskAck, AskCode, AskLetters, AskButtons, Sleep, Ignored}
@@ -28,6 +29,7 @@ use Rattle.ballbox.specs.declared.Event.{Event}
 use Rattle.ballbox.specs.declared.Event.the-variants.{Motion, Buttons, Host, Slot, Period}
 use Rattle.ballbox.proofs.Goodness.{stepped-good}
 use Rattle.ballbox.proofs.Refusals.{ruled}
+use Rattle.ballbox.proofs.Obeying.{dropped-settings, dropped-awake}
 use Rattle.history.specs.History.{formatOf, begun, withPair, paired, isFive, replyTo, whenAwake, toldBy, nextBox, passagesOf, goingAfter}
 use Rattle.history.specs.Asked.{asks, onlyAsks}
 use Rattle.history.proofs.Carries.{Carries}
@@ -115,8 +117,7 @@ sending-alike b = go (bytesLeft b) refl
     go false e = rw e (alike b)
 
 pub dropped-alike : (b : BallBox) → Alike b (dropped b)
-unfolding dropped
-dropped-alike b = cases (Alike b) (bytesLeft b) (λ _. (record { format = refl; dormant = refl })) (λ _. alike b)
+dropped-alike b = record { format = ap (λ (s : Settings). s .format) (dropped-settings b); dormant = dropped-awake b }
 
 -- the commands by which a box is asked for reports
 abbrev Asking : Command → Type 0

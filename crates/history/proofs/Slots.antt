@@ -33,8 +33,7 @@ use Rattle.ballbox.specs.Good.{good}
 use Rattle.ballbox.proofs.Letters.{Lettered, known, unknown, lettered}
 use Rattle.ballbox.proofs.Accepting.{second-within, latched-accepted}
 use Rattle.ballbox.proofs.Slots.{latching-busy, latching-wanted, latching-idle, sending-byte, sending-silence}
-use Rattle.ballbox.proofs.Good.{parts as good-parts, good-buttons}
-use Rattle.ballbox.proofs.Goodness.{letter-known}
+use Rattle.ballbox.proofs.Good.{letter-known, parts as good-parts, good-buttons}
 use Rattle.ballbox.proofs.Latches.{latched-bytes}
 use Rattle.history.specs.History.{begun, formatOf, paired, withPair, isFive}
 use Rattle.history.proofs.Carries.{onLine, OnLine, Rightly, Carries, to-line, at-five, Sends}
@@ -45,7 +44,7 @@ Busy nothing = ⊥
 Busy (report n f r) = n < sizeOf f
 Busy (replying n bytes) = (n < length bytes) × (length bytes ≤ 3)
 
-pub busy-left : (g : Going) → Busy g → Left g
+busy-left : (g : Going) → Busy g → Left g
 busy-left nothing h = tt
 busy-left (report n f r) h = h
 busy-left (replying n bytes) h = h .0
