@@ -58,7 +58,7 @@ module _ {f : Format} {b : BallBox} {a : Stepped} {events : List Event} {answers
   front-given from-then-on = no-word
   front-given from-the-letter-on = rw (set-words f b a (run .good) (run .awake) (run .set)) (given-by (bytesLeft b))
 
-  -- the words that the run gave are those of its passages, and each of its reports is one that the encoder accepts
+  -- the words that the run gave are those of its passages
   pub as-sent : wordsGiven answers ≡ passageWords (sent a events) ++ goingWords (stillGoing a events)
   as-sent = run-passages (a .next) events answers (set-box .good) (set-box .carries .line) (run .permitted)
 

@@ -8,6 +8,7 @@ pub mod Turn
 pub mod View
 pub mod Joined
 pub mod Loop
+pub mod Bounds
 pub mod Permitted
 pub mod Goodness
 pub mod Counting
