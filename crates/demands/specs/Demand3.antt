@@ -9,7 +9,7 @@ use Rattle.wire.specs.Holds.{carried}
 use Rattle.wire.specs.Passages.{Passage, silent, finished, passageWords, Going, nothing, goingWords, Unbroken, finishedReports}
 use Rattle.wire.specs.declared.Report.{Report}
 use Rattle.wire.specs.declared.Format.{Format}
-use Rattle.reader.specs.Lines.{Given, no-word, a-break, Within, EndsAt, HandsOut, HandsOutAt, Replaced, Lost}
+use Rattle.reader.specs.DamagedLines.{Given, no-word, a-break, Within, EndsAt, HandsOut, HandsOutAt, Replaced, Lost}
 use Rattle.reader.proofs.Damaged as damaged
 use Rattle.ballbox.specs.Good.{good}
 use Rattle.ballbox.specs.Events.{bytesLeft}
