@@ -9,10 +9,11 @@ use mathlib.Core.List.{List, _∷_, _++_}
 use mathlib.Core.Logic.{_⊎_}
 use lib.ListN.{length, getD}
 use lib.IntN.{ℤ}
-use Rattle.wire.specs.Line.{silence, known}
+use Rattle.wire.specs.Line.{silence, known, letterOf}
 use Rattle.wire.specs.Numbers.{success, badState, badLetter, badButtons, badWord}
 use Rattle.wire.specs.Encoder.{refusalOf, lengthOf}
 use Rattle.wire.specs.Promises.{SizePromise, MarkedPromise, FitsPromise, ReportPromise, EncodePromise, RefusalPromise, LengthPromise}
+use Rattle.wire.specs.declared.Format.the-variants.{FiveByte}
 use Rattle.wire.specs.declared.Report.{Report}
 use Rattle.wire.specs.declared.Encoded.{Encoded}
 use Rattle.wire.proofs.Answers as wire
@@ -40,6 +41,17 @@ use Rattle.ballbox.specs.declared.Stepped.{Stepped}
 use Rattle.ballbox.proofs.Answers as box-answers
 use Rattle.ballbox.proofs.Refusals as box-refusals
 use Rattle.ballbox.proofs.Goodness as box-goodness
+use Rattle.listing.specs.Machine as listers
+use Rattle.listing.specs.Promises as lister
+use Rattle.listing.specs.Promises.{FeedPromise, FinishPromise}
+use Rattle.listing.specs.declared.Lister.{Lister}
+use Rattle.listing.specs.declared.Listed.{Listed}
+use Rattle.listing.proofs.Answers as listing
+use Rattle.listing.proofs.Refusals as listing-refusals
+use Rattle.listing.proofs.Calls as calls
+use Rattle.text.specs.Promises.{NonePromise, WithPromise, DigitsPromise, NumberPromise, SignedPromise, PutPromise}
+use Rattle.text.specs.declared.Text.{Text}
+use Rattle.text.proofs.Answers as text
 
 -- `wire::size`, `marked`, `fits`, `report_of`, `Encoded::refusal`, `Encoded::length`: one answer
 pub size-one : (letter : ℕ) {a b : ℕ} → SizePromise letter a → SizePromise letter b → a ≡ b
@@ -71,7 +83,7 @@ encode-refused = wire.refusal-leaves
 pub fresh-reader-one : (letter : ℕ) (a b : NewReader) → reader.FreshPromise letter a → reader.FreshPromise letter b → a ≡ b
 fresh-reader-one = permitted.one-fresh
 
-pub fresh-reader-refused : (letter : ℕ) (a : NewReader) → known letter ≡ false → reader.FreshPromise letter a → a ≡ newReader badLetter (fresh 0x55)
+pub fresh-reader-refused : (letter : ℕ) (a : NewReader) → known letter ≡ false → reader.FreshPromise letter a → a ≡ newReader badLetter (fresh (letterOf FiveByte))
 fresh-reader-refused = refusals.unknown-letter
 
 -- `Reader::step`: one answer; 6, and then 4, hand back the old reader and answer nothing
@@ -111,6 +123,51 @@ box-step-bad-state = box-refusals.bad-state
 pub box-step-bad-buttons : (b : BallBox) (n : ℕ) (r : Stepped) → box.StepPromise b (Buttons n) r → boxes.good b ≡ true → 7 < n → answerOf r ≡ refused badButtons b
 box-step-bad-buttons = box-refusals.bad-buttons
 
+-- `Lister::fresh`, `Lister::feed`, `Lister::finish`: one answer, every byte of the slice with it; 6 hands back the old lister, with counts of 0, and
+-- writes nothing; no other lister is refused
+pub fresh-lister-one : (a b : Lister) → lister.FreshPromise a → lister.FreshPromise b → a ≡ b
+fresh-lister-one a b = listing.one-fresh
+
+pub feed-one : (m : Lister) (input before : List ℕ) {a b : Listed} {after behind : List ℕ} → FeedPromise m input before a after → FeedPromise m input before b behind → (a ≡ b) × (after ≡ behind)
+feed-one = listing.one-feed
+
+pub finish-one : (m : Lister) (before : List ℕ) {a b : Listed} {after behind : List ℕ} → FinishPromise m before a after → FinishPromise m before b behind → (a ≡ b) × (after ≡ behind)
+finish-one = listing.one-finish
+
+pub feed-bad-state : (m : Lister) (input before after : List ℕ) (a : Listed) → listers.good m ≡ false → FeedPromise m input before a after → lister.whole a after ≡ lister.refused m before
+feed-bad-state = listing-refusals.bad-state-feed
+
+pub finish-bad-state : (m : Lister) (before after : List ℕ) (a : Listed) → listers.good m ≡ false → FinishPromise m before a after → lister.whole a after ≡ lister.refused m before
+finish-bad-state = listing-refusals.bad-state-finish
+
+pub feed-accepts : (m : Lister) (input before after : List ℕ) (a : Listed) → listers.good m ≡ true → FeedPromise m input before a after → a .refusal ≡ success
+feed-accepts = listing-refusals.good-feed
+
+pub finish-accepts : (m : Lister) (before after : List ℕ) (a : Listed) → listers.good m ≡ true → FinishPromise m before a after → a .refusal ≡ success
+finish-accepts = listing-refusals.good-finish
+
+-- `Text::none`, `with`, `digits`, `number`, `signed`, `put`: one answer; what has no room in a slice is not put, and writes nothing
+pub no-text-one : {a b : Text} → NonePromise a → NonePromise b → a ≡ b
+no-text-one = text.one-none
+
+pub with-one : (t : Text) (byte : ℕ) {a b : Text} → WithPromise t byte a → WithPromise t byte b → a ≡ b
+with-one = text.one-with
+
+pub digits-one : (t : Text) (places n : ℕ) {a b : Text} → DigitsPromise t places n a → DigitsPromise t places n b → a ≡ b
+digits-one = text.one-digits
+
+pub number-one : (t : Text) (places n : ℕ) {a b : Text} → NumberPromise t places n a → NumberPromise t places n b → a ≡ b
+number-one = text.one-number
+
+pub signed-one : (t : Text) (places : ℕ) (x : ℤ) {a b : Text} → SignedPromise t places x a → SignedPromise t places x b → a ≡ b
+signed-one = text.one-signed
+
+pub put-one : (t : Text) (at : ℕ) (before : List ℕ) {a b : Bool} {after behind : List ℕ} → PutPromise t at before a after → PutPromise t at before b behind → (a ≡ b) × (after ≡ behind)
+put-one = text.one-put
+
+pub put-leaves : (t : Text) (at : ℕ) (before after : List ℕ) → PutPromise t at before false after → after ≡ before
+put-leaves = text.put-leaves
+
 -- no state that these entries give is ever refused
 pub fresh-reader-good : (letter : ℕ) (a : NewReader) → reader.FreshPromise letter a → readers.good (a .reader) ≡ true
 fresh-reader-good = goodness.fresh-is-good
@@ -126,3 +183,12 @@ fresh-box-good = box-goodness.fresh-is-good
 
 pub box-stays-good : (b : BallBox) (e : Event) (r : Stepped) → box.StepPromise b e r → boxes.good b ≡ true → boxes.good (r .next) ≡ true
 box-stays-good = box-goodness.step-stays-good
+
+pub fresh-lister-good : (m : Lister) → lister.FreshPromise m → listers.good m ≡ true
+fresh-lister-good = listing-refusals.fresh-is-good
+
+pub feed-stays-good : (m : Lister) (input before after : List ℕ) (a : Listed) → listers.good m ≡ true → FeedPromise m input before a after → listers.good (a .next) ≡ true
+feed-stays-good = calls.next-good
+
+pub finish-stays-good : (m : Lister) (before after : List ℕ) (a : Listed) → listers.good m ≡ true → FinishPromise m before a after → listers.good (a .next) ≡ true
+finish-stays-good = listing-refusals.finish-stays-good

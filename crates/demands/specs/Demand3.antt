@@ -9,7 +9,7 @@ use Rattle.wire.specs.Holds.{carried}
 use Rattle.wire.specs.Passages.{Passage, silent, finished, passageWords, Going, nothing, goingWords, Unbroken, finishedReports}
 use Rattle.wire.specs.declared.Report.{Report}
 use Rattle.wire.specs.declared.Format.{Format}
-use Rattle.reader.specs.Lines.{Given, no-word, a-break, Within, EndsAt, HandsOut, HandsOutAt, Replaced, Lost}
+use Rattle.reader.specs.DamagedLines.{Given, no-word, a-break, Within, EndsAt, HandsOut, HandsOutAt, Replaced, Lost}
 use Rattle.reader.proofs.Damaged as damaged
 use Rattle.ballbox.specs.Good.{good}
 use Rattle.ballbox.specs.Events.{bytesLeft}
@@ -58,7 +58,7 @@ module _ {f : Format} {b : BallBox} {a : Stepped} {events : List Event} {answers
   front-given from-then-on = no-word
   front-given from-the-letter-on = rw (set-words f b a (run .good) (run .awake) (run .set)) (given-by (bytesLeft b))
 
-  -- the words that the run gave are those of its passages, and each of its reports is one that the encoder accepts
+  -- the words that the run gave are those of its passages
   pub as-sent : wordsGiven answers ≡ passageWords (sent a events) ++ goingWords (stillGoing a events)
   as-sent = run-passages (a .next) events answers (set-box .good) (set-box .carries .line) (run .permitted)
 

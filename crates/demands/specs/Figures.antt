@@ -1,4 +1,4 @@
--- The paper's figures, "proved (p) in a single table", on the promises of the public functions.
+-- The paper's figures, "Proved (p) in a single table", on the promises of the public functions.
 use mathlib.Core.Path.{_≡_, refl, _∙_, ap}
 use mathlib.Core.Bool.{true, false}
 use mathlib.Core.List.{List, [], _∷_, _++_}

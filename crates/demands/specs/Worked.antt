@@ -15,7 +15,7 @@ use Rattle.wire.specs.declared.Report.{Report}
 use Rattle.wire.specs.declared.Format.{Format}
 use Rattle.wire.specs.declared.Format.the-variants.{Mm, FiveByte}
 use Rattle.frames.specs.Line.{none, gone, stays}
-use Rattle.reader.specs.Lines.{HandsOut, HandsOutAt, Lost, of-finished}
+use Rattle.reader.specs.DamagedLines.{HandsOut, HandsOutAt, Lost, of-finished}
 use Rattle.ballbox.specs.Box.{freshBox, goingFrom}
 use Rattle.ballbox.specs.Motion.{counted, placedAt, placed, movedBy, apart, hasMoved}
 use Rattle.ballbox.specs.Latching.{limits, limited, movement, taken, cleared, latchedReport, latched, withSecond, secondLatched}

@@ -1,4 +1,4 @@
-// The figures of document 01 that are run.
+// The figures of the paper that are run.
 use crate::print;
 use crate::steps::after;
 use crate::steps::answers;
@@ -46,7 +46,7 @@ fn broken_off() {
 }
 
 pub(crate) fn figures() {
-    print::say(b"Figures of document 01\n");
+    print::say(b"Figures of the paper\n");
     held_movement();
     second_mark();
     broken_off();

@@ -1,4 +1,4 @@
-// figures: runs the figures of document 01, the worked examples of the manuals, and lines of reports in each format.
+// figures: runs the figures of the paper, the worked examples of the manuals, and lines of reports in each format.
 mod box_runs;
 mod lines;
 mod manuals;

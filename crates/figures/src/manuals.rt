@@ -1,4 +1,4 @@
-// The worked examples of the manuals, by document and section, as document 01 keeps them.
+// The worked examples of the manuals, by source document and section, as the paper keeps them.
 use crate::print;
 use crate::reports::show;
 use crate::steps::after;
@@ -70,7 +70,7 @@ fn cleared_counters() {
     print::say(b"\n");
 }
 
-// 000 section 14.5.2: key data, and two bytes that the manual leaves undefined and document 01 has 0.
+// 000 section 14.5.2: key data, and two bytes that the manual leaves undefined and the paper has 0.
 fn diagnostic() {
     print::say(b"000 section 14.5.2");
     let b = after(BallBox::fresh(), Event::Host(b'D'));
@@ -98,7 +98,7 @@ fn replies(letters: &[u8], question: u8, bytes: u8) {
 }
 
 // 000 section 14.6: the format's code, under revision 3.0, in the table's order.
-// 000 section 14.7: the format's and the mode's letter, in the tables' order; M is 4DH, as document 01 decides.
+// 000 section 14.7: the format's and the mode's letter, in the tables' order; M is 4DH, as the paper decides.
 fn letters() {
     print::say(b"000 section 14.6");
     replies(b"UTWBSAV", b'f', 1);

@@ -1,6 +1,6 @@
 -- A lister's calls, whatever answers the promises permit: the bytes written are the listing of the bytes taken.
 use Prim.Native.Nat.{ℕ, _+_, _*_, _≤_, _<_}
-use mathlib.Core.Path.{_≡_, refl, sym, _∙_, ap}
+use mathlib.Core.Path.{_≡_, refl, sym, _∙_, ap, subst}
 use mathlib.Core.Bool.{Bool, true, false, true≢false}
 use mathlib.Core.Logic.{_⊎_, inl, inr, ⊎-elim}
 use mathlib.Core.List.{List, [], _∷_, _++_, append-assoc, append-nil}
@@ -8,6 +8,7 @@ use native.Mathlib.Omega.{arith}
 use lib.Dec.{ltb}
 use lib.ListN.{length, getD, take, drop, length-append, length-take}
 use lib.Seq.{take-at}
+use Rattle.numbers.proofs.Choices.{cases}
 use Rattle.listing.specs.Listing.{listingOf}
 use Rattle.listing.specs.Machine.{Feed, stopped, fresh, byteOf, lastOf, feedIn, finishIn, good, passed, mostBytes}
 use Rattle.listing.specs.Promises.{enough, Whole, whole, written, feedOf, finishOf, FeedPromise, FinishPromise}
@@ -20,7 +21,7 @@ use Rattle.listing.proofs.Ended.{Within, piece-on, never-passed, stays-
 use Rattle.listing.proofs.Keeps.{kept, five, fresh-is-good, feed-stays-good}
 
 -- what a call of a good lister wrote
-module _ (f : Feed) (before after : List ℕ) (a : Listed) (p : whole a after ≡ written 0 f before) where
+module _ (f : Feed) (before after : List ℕ) (a : Listed) (p : whole a after ≡ written f before) where
   call-text : take (a .written) after ≡ f .text
   call-text =
       ap (λ (w : Whole). take (w .listed .written) (w .out)) p ∙ take-at (f .text) (drop (length (f .text)) before) (length (f .text)) refl
@@ -43,12 +44,27 @@ module _ (f : Feed) (before after : List ℕ) (a : Listed) (p : whole a after �
 pub good-within : (m : Lister) → good m ≡ true → Within m
 good-within m g = (kept m g .few, five m g)
 
+-- whatever the lister: no call takes more than there is, or writes more than has room
+pub feed-within : (m : Lister) (input before after : List ℕ) (a : Listed) → FeedPromise m input before a after
+    → (a .taken ≤ length input) × (a .written ≤ length before)
+unfolding feedOf
+feed-within m input before after a p =
+    let P : Whole → Type 0 = λ w. (w .listed .taken ≤ length input) × (w .listed .written ≤ length before) in
+    subst P (sym p)
+    (cases P (good m) (λ _. (pieces.feed-taken input m (length before), pieces.feed-written input m (length before))) (λ _. (omega arith, omega arith)))
+
+pub finish-within : (m : Lister) (before after : List ℕ) (a : Listed) → FinishPromise m before a after → a .written ≤ length before
+unfolding finishOf
+finish-within m before after a p =
+    let P : Whole → Type 0 = λ w. w .listed .written ≤ length before in
+    subst P (sym p) (cases P (good m) (λ _. pieces.finish-written m (length before)) (λ _. omega arith))
+
 -- a good lister and a piece of the input
 module _ (m : Lister) (input before after : List ℕ) (a : Listed) (g : good m ≡ true) (p : FeedPromise m input before a after) where
   abbrev f : Feed
   f = feedIn m input (length before)
 
-  pub feeds : whole a after ≡ written 0 f before
+  pub feeds : whole a after ≡ written f before
   unfolding feedOf
   feeds = rw g at p
 
@@ -84,7 +100,7 @@ takes-some m c input before after a g p room =
 
 -- a good lister and the end of the input
 module _ (m : Lister) (before after : List ℕ) (a : Listed) (g : good m ≡ true) (p : FinishPromise m before a after) where
-  finishes : whole a after ≡ written 0 (finishIn m (length before)) before
+  pub finishes : whole a after ≡ written (finishIn m (length before)) before
   unfolding finishOf
   finishes = rw g at p
 

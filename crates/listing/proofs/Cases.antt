@@ -9,7 +9,7 @@ use Rattle.text.specs.declared.Text.{Text}
 use Rattle.wire.specs.declared.Report.{Report}
 use Rattle.reader.specs.declared.Answer.{Answer}
 use Rattle.reader.specs.declared.Answer.the-variants as answer
-use Rattle.listing.specs.Lines.{width}
+use Rattle.listing.specs.Lines.{width, mostLines}
 use Rattle.listing.specs.Items.{Item, H, Over, answerItems}
 use Rattle.listing.specs.Bytes.{lineD, lineR, bytesOf, allBytes}
 use Rattle.listing.specs.Machine.{Saying, saying, wrong, endedAt, obeyed, takenOf, endOf}
@@ -24,15 +24,15 @@ module _ (p : Place) (l : Line) where
   unfolding takenOf
   done h = rw h
 
-  pub over : p .ended ≡ false → 9999 ≤ p .line → takenOf p l ≡ saying (endedAt p) (Over ∷ [])
+  pub over : p .ended ≡ false → mostLines ≤ p .line → takenOf p l ≡ saying (endedAt p) (Over ∷ [])
   unfolding takenOf
-  over h k = rw (h, le-leb 9999 (p .line) k)
+  over h k = rw (h, le-leb mostLines (p .line) k)
 
-  pub runs : p .ended ≡ false → p .line < 9999 → takenOf p l ≡ obeyed p (p .line + 1) l
+  pub runs : p .ended ≡ false → p .line < mostLines → takenOf p l ≡ obeyed p (p .line + 1) l
   unfolding takenOf
-  runs h k = rw (h, lt-leb 9999 (p .line) k)
+  runs h k = rw (h, lt-leb mostLines (p .line) k)
 
-  pub runs-as : (m : Line) → p .ended ≡ false → p .line < 9999 → l ≡ m → takenOf p l ≡ obeyed p (p .line + 1) m
+  pub runs-as : (m : Line) → p .ended ≡ false → p .line < mostLines → l ≡ m → takenOf p l ≡ obeyed p (p .line + 1) m
   runs-as m h k e = runs h k ∙ ap (obeyed p (p .line + 1)) e
 
 -- the input ends

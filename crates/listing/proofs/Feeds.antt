@@ -13,7 +13,7 @@ use borrow.Author.Tests.{lt-ltb, le-ltb, leb-true, leb-false, le-leb}
 use Rattle.numbers.proofs.Tested.{left, right}
 use Rattle.text.specs.Growth.{shown, textOf, fitsAt, putOf}
 use Rattle.text.specs.declared.Text.{Text}
-use Rattle.text.proofs.Laws.{text-shows, text-long}
+use Rattle.text.proofs.Laws.{text-shows, text-long, put-none}
 use Rattle.listing.specs.Machine.{Feed, stopped, joined, byteOf, lastOf, feedIn, finishIn, good}
 use Rattle.listing.specs.Promises.{whole, written, feedOf, finishOf}
 use Rattle.listing.specs.declared.Lister.{Lister}
@@ -23,10 +23,6 @@ use Rattle.listing.specs.declared.Listed.{Listed}
 module _ (t : Text) (at : ℕ) (out : List ℕ) where
   pub put-room : fitsAt t at out ≡ true → at + t .len ≤ length out
   put-room e = leb-true _ _ (right (leb (t .len) 40) (leb (at + t .len) (length out)) e)
-
-  pub put-none : fitsAt t at out ≡ false → putOf t at out ≡ out
-  unfolding putOf
-  put-none e = rw e
 
 -- and one that has these bytes
 module _ (l : List ℕ) (t : Text) (is : t ≡ textOf l) (few : length l ≤ 40) (at : ℕ) (out : List ℕ) where
@@ -62,7 +58,7 @@ starts input out m = let z : length out - 0 ≡ length out = omega arith in rw z
 -- the loop ends here
 pub ends : (input out out₀ : List ℕ) (m : Lister) (at used : ℕ) (all : Feed) → used ≤ length out → drop used out ≡ drop used out₀
     → standing input out m at used ≡ all → feedIn m (drop at input) (length out - used) ≡ stopped m
-    → whole (answerOf 0 m at used) out ≡ written 0 all out₀
+    → whole (answerOf 0 m at used) out ≡ written all out₀
 ends input out out₀ m at used all room same is stop =
     rw (sym is, stop, add-zero, append-nil, length-take-le used out room, sym same, take-append-drop)
 
@@ -110,7 +106,7 @@ pub feed-refused : (m : Lister) (input out : List ℕ) (r : Listed) → good m �
 unfolding feedOf
 feed-refused m input out r g e = rw (g, e)
 
-pub feed-good : (m : Lister) (input out out′ : List ℕ) (r : Listed) → good m ≡ true → whole r out′ ≡ written 0 (feedIn m input (length out)) out
+pub feed-good : (m : Lister) (input out out′ : List ℕ) (r : Listed) → good m ≡ true → whole r out′ ≡ written (feedIn m input (length out)) out
     → whole r out′ ≡ feedOf m input out
 unfolding feedOf
 feed-good m input out out′ r g e = rw g e

@@ -11,7 +11,7 @@ use Rattle.reader.specs.declared.Answer.{Answer}
 use Rattle.reader.specs.declared.Answer.the-variants as answer
 use Rattle.text.specs.Decimals.{digitsOf, numberOf}
 use Rattle.text.proofs.Laws.{on-cond, digits-long, number-long, signed-long}
-use Rattle.listing.specs.Lines.{width, newline, tab, saidBy}
+use Rattle.listing.specs.Lines.{width, mostLines, newline, tab, saidBy}
 use Rattle.listing.specs.Items.{E, answerItems}
 use Rattle.listing.specs.Bytes.{buttonsOf, sumOf, lineD, lineR, lineH, lineE, lineOver, allBytes}
 use Rattle.listing.specs.Machine.{Saying, Turning, atFirst, formatted, worded, obeyed, takenOf, endOf, unfinished, unopened, frontOf, byteOf, closedOf, lastOf}
@@ -75,7 +75,7 @@ few-obeyed p n (line.Word w) = on-cond (Few 25) (atFirst p) _ _ (few-wrong n) (f
 
 few-taken : (p : Place) (l : Line) → Few 25 (takenOf p l)
 unfolding takenOf lineOver
-few-taken p l = on-cond (Few 25) (p .ended) _ _ (omega arith) (on-cond (Few 25) (leb 9999 (p .line)) _ _ (omega arith) (few-obeyed p (p .line + 1) l))
+few-taken p l = on-cond (Few 25) (p .ended) _ _ (omega arith) (on-cond (Few 25) (leb mostLines (p .line)) _ _ (omega arith) (few-obeyed p (p .line + 1) l))
 
 few-end : (p : Place) → Few 7 (endOf p)
 unfolding endOf

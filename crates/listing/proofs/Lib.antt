@@ -1,5 +1,5 @@
 -- Laws of the listing: its text is that of the definitions (Recordings, Whole), whatever the cuts (Pieces, Calls); listers stay good (Keeps) and end
--- (Ended); two permitted answers are equal (Answers); and what the functions' proofs share.
+-- (Ended); two permitted answers are equal (Answers), and what a refusal leaves (Refusals); and what the functions' proofs share.
 pub mod Answers
 pub mod Calls
 pub mod Cases
@@ -11,6 +11,7 @@ pub mod Long
 pub mod Parse
 pub mod Pieces
 pub mod Recordings
+pub mod Refusals
 pub mod Whole
 pub mod Ended
 pub mod Feeds

@@ -7,8 +7,9 @@ use native.Mathlib.Omega.{arith}
 use native.Mathlib.Numerals.{one-add}
 use lib.Dec.{ltb}
 use lib.ListN.{length, getD, take, length-append}
-use borrow.Author.Tests.{le-ltb, ltb-true}
-use Rattle.listing.specs.Machine.{byteOf, lastOf, feedIn, finishIn}
+use borrow.Author.Tests.{le-ltb, ltb-true, ltb-false}
+use Rattle.numbers.proofs.Choices.{cases}
+use Rattle.listing.specs.Machine.{byteOf, lastOf, feedIn, finishIn, Feed}
 use Rattle.listing.specs.Promises.{enough}
 use Rattle.listing.specs.declared.Lister.{Lister}
 use Rattle.listing.proofs.Few.{few-byte, few-last}
@@ -42,6 +43,29 @@ takes-what-it-can (c ∷ p) m room h = go (takes-what-it-can p) (ltb room (lengt
         let f = feedIn (byteOf m c .next) p (room - length (byteOf m c .text)) in
         let k = ih (byteOf m c .next) (room - length (byteOf m c .text)) (omega arith) in
         rw (e, one-add) (omega (arith, length-append (byteOf m c .text) (f .text)))
+
+-- no more is taken than there is, and no more written than has room
+pub feed-taken : (input : List ℕ) (m : Lister) (room : ℕ) → feedIn m input room .taken ≤ length input
+unfolding feedIn
+feed-taken [] m room = omega arith
+feed-taken (c ∷ cs) m room =
+    let text = byteOf m c .text in
+    cases (λ (f : Feed). f .taken ≤ length (c ∷ cs)) (ltb room (length text)) (λ _. omega arith)
+    (λ _. omega (arith, feed-taken cs (byteOf m c .next) (room - length text)))
+
+pub feed-written : (input : List ℕ) (m : Lister) (room : ℕ) → length (feedIn m input room .text) ≤ room
+unfolding feedIn
+feed-written [] m room = omega arith
+feed-written (c ∷ cs) m room =
+    let text = byteOf m c .text in
+    let later = feedIn (byteOf m c .next) cs (room - length text) in
+    cases (λ (f : Feed). length (f .text) ≤ room) (ltb room (length text)) (λ _. omega arith)
+    (λ e. omega (arith, ltb-false room (length text) e, length-append text (later .text), feed-written cs (byteOf m c .next) (room - length text)))
+
+pub finish-written : (m : Lister) (room : ℕ) → length (finishIn m room .text) ≤ room
+unfolding finishIn
+finish-written m room =
+    cases (λ (f : Feed). length (f .text) ≤ room) (ltb room (length (lastOf m .text))) (λ _. omega arith) (λ e. ltb-false _ _ e)
 
 -- ENOUGH: with so many free places for each byte all of a piece is taken
 pub all-taken : (p : List ℕ) (m : Lister) (room : ℕ) → enough * length p ≤ room → feedIn m p room .taken ≡ length p

@@ -5,7 +5,7 @@ use mathlib.Core.Bool.{cond}
 use mathlib.Core.List.{List, _++_}
 use lib.ListN.{length, drop}
 use Rattle.wire.specs.Numbers.{success, badState}
-use Rattle.listing.specs.Machine.{fresh, Feed, stopped, feedIn, finishIn, good}
+use Rattle.listing.specs.Machine.{fresh, Feed, feedIn, finishIn, good}
 use Rattle.listing.specs.declared.Lister.{Lister}
 use Rattle.listing.specs.declared.Listed.{Listed}
 
@@ -22,18 +22,24 @@ abbrev pub whole : Listed → List ℕ → Whole
 whole listed out = record { listed = listed; out = out }
 
 -- the text at the front of the slice, and nothing behind it
-abbrev pub written : ℕ → Feed → List ℕ → Whole
-written n f out =
-    whole (record { refusal = n; next = f .next; taken = f .taken; written = length (f .text); ended = f .next .place .ended })
+abbrev pub written : Feed → List ℕ → Whole
+written f out =
+    whole (record { refusal = success; next = f .next; taken = f .taken; written = length (f .text); ended = f .next .place .ended })
     (f .text ++ drop (length (f .text)) out)
 
--- "a state that breaks the rules below", 6: "A refusal returns the old state [..] and counts of 0"
+-- "a state that breaks the rules below", 6: "A refusal returns the old state [..] and counts of 0", and the slice is as it was
+abbrev pub refused : Lister → List ℕ → Whole
+refused m out = whole (record { refusal = badState; next = m; taken = 0; written = 0; ended = m .place .ended }) out
+
+-- `Lister::feed(self, input, out)`
 unfoldable pub feedOf : Lister → List ℕ → List ℕ → Whole
-feedOf m input out = cond (good m) (written success (feedIn m input (length out)) out) (written badState (stopped m) out)
+feedOf m input out = cond (good m) (written (feedIn m input (length out)) out) (refused m out)
 
+-- `Lister::finish(self, out)`
 unfoldable pub finishOf : Lister → List ℕ → Whole
-finishOf m out = cond (good m) (written success (finishIn m (length out)) out) (written badState (stopped m) out)
+finishOf m out = cond (good m) (written (finishIn m (length out)) out) (refused m out)
 
+-- `Lister::fresh()`
 abbrev pub FreshPromise : Lister → Type 0
 FreshPromise answer = answer ≡ fresh
 

@@ -113,7 +113,7 @@ impl Lister {
 
     // The bytes of a piece, one after the other.
     fn bytes(self, input: &[u8], out: &mut [u8]) -> Listed
-        ensures { λ r. ⌜ whole r (now (out .exit)) ≡ written 0 (feedIn self (now (input .entry)) (length (now (out .entry)))) (now (out .entry)) ⌝ }
+        ensures { λ r. ⌜ whole r (now (out .exit)) ≡ written (feedIn self (now (input .entry)) (length (now (out .entry)))) (now (out .entry)) ⌝ }
     {
         let mut m = self;
         let mut at: usize = 0;

@@ -17,11 +17,10 @@ struct Went {
 }
 
 // The first bytes, to standard output.
-fn show(out: &[u8], count: usize) -> bool {
-    if count <= out.len() {
-        return io::write_all(STDOUT_FILENO, &out[..count]);
-    }
-    false
+fn show(out: &[u8], count: usize) -> bool
+    requires { ⌜ count ≤ length (now out) ⌝ }
+{
+    io::write_all(STDOUT_FILENO, &out[..count])
 }
 
 // A block of the input. With forty places for each of its bytes all of it is taken.

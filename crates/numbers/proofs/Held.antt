@@ -82,7 +82,7 @@ mag-sub a b =
     let k : a - b ≤ a + b = omega arith in
     mag-cond (ltb a b) h k
 
-mag-sum : (a b : ℤ) → mag (a +ℤ b) ≤ mag a + mag b + 1
+pub mag-sum : (a b : ℤ) → mag (a +ℤ b) ≤ mag a + mag b + 1
 mag-sum (pos a) (pos b) = omega arith
 mag-sum (pos a) (negsuc b) = omega (arith, mag-sub a (suc b))
 mag-sum (negsuc a) (pos b) = omega (arith, mag-sub b (suc a))

@@ -8,7 +8,7 @@ use Rattle.wire.specs.Holds.{carried}
 use Rattle.wire.specs.Passages.{Passage, silent, finished, Going, Sound, SoundGoing, Unbroken, finishedReports}
 use Rattle.wire.specs.declared.Report.{Report}
 use Rattle.wire.specs.declared.Format.{Format}
-use Rattle.reader.specs.Lines.{Given, HandsOut, HandsOutAt, Replaced, Within, EndsAt, Lost, of-finished, of-broken, of-going}
+use Rattle.reader.specs.DamagedLines.{Given, HandsOut, HandsOutAt, Replaced, Within, EndsAt, Lost, of-finished, of-broken, of-going}
 use Rattle.reader.proofs.Stretch.{by-mark, by-silence, lost-finished, lost-broken, lost-going}
 
 -- The passages of the line are `before`, the finished report r, and `after`; i is the place of the word that ends r.

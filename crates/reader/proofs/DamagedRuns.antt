@@ -33,7 +33,7 @@ use Rattle.reader.specs.declared.Answer.the-variants.{Nothing, Dropped}
 use Rattle.reader.specs.declared.Answer.the-variants as answer
 use Rattle.reader.proofs.Permitted.{steps-are}
 use Rattle.reader.proofs.Framed.{fresh-named}
-use Rattle.reader.specs.Lines.{no-word, a-break, HandsOut, HandsOutAt, Replaced, Within, EndsAt, of-finished, of-broken, of-going, handedOut}
+use Rattle.reader.specs.DamagedLines.{no-word, a-break, HandsOut, HandsOutAt, Replaced, Within, EndsAt, of-finished, of-broken, of-going, handedOut}
 use Rattle.reader.proofs.Handed.{permitted}
 use Rattle.reader.proofs.Damaged.{marked, unmarked, exactly}
 

@@ -24,7 +24,7 @@ use Rattle.reader.specs.declared.NewReader.{NewReader}
 use Rattle.reader.specs.declared.Read.{Read}
 use Rattle.reader.specs.declared.Answer.{Answer}
 use Rattle.reader.specs.declared.Answer.the-variants as answer
-use Rattle.reader.specs.Lines.{Given, no-word, a-break, HandsOut, HandsOutAt, handedOut, numbers}
+use Rattle.reader.specs.DamagedLines.{Given, no-word, a-break, HandsOut, HandsOutAt, handedOut, numbers}
 use Rattle.reader.proofs.Framed.{frameOf, told, framed}
 use Rattle.reader.proofs.Took.{took}
 

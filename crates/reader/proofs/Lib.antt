@@ -1,6 +1,6 @@
--- The laws of the reader: Permitted (one answer), Refusals, Room, Steps (word by word), Goodness, Counting, Joining, There, Back, Awaiting,
--- Useless, Sentences and Nowhere (sentences of the paper), Figures, Examples, Wrong (wrong answers); and what their proofs and those of the
--- functions share.
+-- The laws of the reader: one answer (Permitted), what a refusal leaves (Refusals), Room, how far a long read goes (Bounds), word by word (Steps), good readers
+-- stay good (Goodness), Counting, Joining, There and Back, nothing before a silence (Awaiting), Useless, sentences of the paper (Sentences, Nowhere), demand 3's
+-- half of the reader (Damaged) with its worked lines (DamagedRuns), Examples, wrong answers (Wrong); and what their proofs and those of the functions share.
 pub mod Good
 pub mod Word
 pub mod Keeps
@@ -8,6 +8,7 @@ pub mod Turn
 pub mod View
 pub mod Joined
 pub mod Loop
+pub mod Bounds
 pub mod Permitted
 pub mod Goodness
 pub mod Counting

@@ -25,7 +25,7 @@ use Rattle.reader.proofs.Joined.{joined-joined}
 abbrev pub standing : List ℕ → List ℤ → Reader → ℕ → ℕ → ℕ → ℕ → Long
 standing words out r at used reports dropped = joined at reports dropped (take used out) (lineOf r (drop at words) (drop used out))
 
-one-byte : (w : ℕ) → byteIn w ≤ 1
+pub one-byte : (w : ℕ) → byteIn w ≤ 1
 one-byte w = cases (λ n. n ≤ 1) (isByte w) (λ _. omega arith) (λ _. omega arith)
 
 -- what a turn that took its word did

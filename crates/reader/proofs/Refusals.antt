@@ -9,8 +9,9 @@ use native.Mathlib.Omega.{arith}
 use lib.ListN.{length, getD, drop}
 use lib.IntN.{ℤ}
 use borrow.Author.Tests.{lt-leb, ne-eqb}
-use Rattle.wire.specs.Line.{break, silence, known}
+use Rattle.wire.specs.Line.{break, silence, known, letterOf}
 use Rattle.wire.specs.Numbers.{success, badState, badLetter, badWord}
+use Rattle.wire.specs.declared.Format.the-variants.{FiveByte}
 use Rattle.reader.specs.State.{fresh}
 use Rattle.reader.specs.Good.{good}
 use Rattle.reader.specs.Rules.{refusing, wordOf}
@@ -26,7 +27,7 @@ use Rattle.reader.proofs.Permitted.{step-is}
 use Rattle.reader.proofs.Goodness.{step-word, read-line}
 
 -- "(1 for a new reader: a fresh one of U)"
-pub unknown-letter : (letter : ℕ) (a : NewReader) → known letter ≡ false → FreshPromise letter a → a ≡ newReader badLetter (fresh 0x55)
+pub unknown-letter : (letter : ℕ) (a : NewReader) → known letter ≡ false → FreshPromise letter a → a ≡ newReader badLetter (fresh (letterOf FiveByte))
 unfolding freshOf
 unknown-letter letter a k e = rw (e, k)
 

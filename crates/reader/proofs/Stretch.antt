@@ -19,7 +19,7 @@ use Rattle.wire.proofs.Codec.{bytes-length, there}
 use Rattle.frames.specs.Line.{Sub, none, gone, stays, words}
 use Rattle.frames.specs.Frame as frame
 use Rattle.frames.proofs.Replaced as replaced
-use Rattle.reader.specs.Lines.{Given, HandsOut, HandsOutAt, Replaced, Within, EndsAt}
+use Rattle.reader.specs.DamagedLines.{Given, HandsOut, HandsOutAt, Replaced, Within, EndsAt}
 use Rattle.reader.proofs.Framed.{frameOf, two, laws, is-marked}
 use Rattle.reader.proofs.Segments.{legal-append, legal-replaced, segments, segments-append, same-words, calm, whole-report, part-report, sound, sound-going, same-finished, sound-left, sound-right, finished-append, fits-legal, passages-legal, line-legal}
 use Rattle.reader.proofs.Handed.{hands-out, hands-out-at, behind-given, read-given, given-legal}

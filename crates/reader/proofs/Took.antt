@@ -24,7 +24,7 @@ use Rattle.reader.specs.declared.Answer.the-variants as answer
 use Rattle.reader.proofs.Goodness.{fresh-is-good}
 use Rattle.reader.proofs.Permitted.{steps-are}
 use Rattle.reader.proofs.Steps.{word-by-word}
-use Rattle.reader.specs.Lines.{Took, handedOut, numbers}
+use Rattle.reader.specs.DamagedLines.{Took, handedOut, numbers}
 
 -- the reports among answers are as many as are counted, and their numbers are those written
 counted : (l : List Answer) → reportsAmong l ≡ length (handedOut l)

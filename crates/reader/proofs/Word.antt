@@ -50,7 +50,7 @@ pub by-kind : (P : Read → Type 0) (r : Reader) (w : ℕ)
     → (isByte w ≡ true → P (byteOf r (entered (r .format) w)))
     → (isByte w ≡ false → w ≡ break → P (breakOf r))
     → (isByte w ≡ false → w ≡ silence → P (silenceOf r))
-    → (silence < w → P (refusing 4 r))
+    → (silence < w → P (refusing badWord r))
     → P (wordOf r w)
 unfolding wordOf
 by-kind P r w byte broken quiet bad =

@@ -1,9 +1,10 @@
 -- Two answers that meet a promise are equal.
 use Prim.Native.Nat.{ℕ}
 use mathlib.Core.Path.{_≡_, sym, _∙_}
-use mathlib.Core.Bool.{Bool}
+use mathlib.Core.Bool.{Bool, false}
 use mathlib.Core.List.{List}
 use lib.IntN.{ℤ}
+use Rattle.text.proofs.Laws.{put-none}
 use Rattle.text.specs.Promises.{NonePromise, WithPromise, DigitsPromise, NumberPromise, SignedPromise, PutPromise}
 use Rattle.text.specs.declared.Text.{Text}
 
@@ -25,3 +26,7 @@ one-signed t places x p q = p ∙ sym q
 pub one-put : (t : Text) (at : ℕ) (before : List ℕ) {a b : Bool} {left right : List ℕ} → PutPromise t at before a left → PutPromise t at before b right
     → (a ≡ b) × (left ≡ right)
 one-put t at before p q = (p .0 ∙ sym (q .0), p .1 ∙ sym (q .1))
+
+-- what is not put leaves the slice as it was
+pub put-leaves : (t : Text) (at : ℕ) (before after : List ℕ) → PutPromise t at before false after → after ≡ before
+put-leaves t at before after p = p .1 ∙ put-none t at before (sym (p .0))

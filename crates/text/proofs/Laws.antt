@@ -15,7 +15,7 @@ use borrow.Author.Tests.{ltb-true, lt-ltb, le-ltb, le-leb, lt-leb}
 use mir.Syntax.{w32}
 use mir.Val.{SFits}
 use Rattle.text.specs.Growth.{shown, none, grown, grownBy, textOf, fitsAt, putOf}
-use Rattle.text.specs.Decimals.{digitOf, digitsOf, numberOf, magnitudeOf, signedOf}
+use Rattle.text.specs.Decimals.{digitOf, digitsOf, numberOf, signedOf}
 use Rattle.text.specs.Promises.{PutPromise}
 use Rattle.text.specs.declared.Text.{Text}
 
@@ -103,45 +103,35 @@ signed-long places (pos n) = omega (arith, number-long places n)
 signed-long places (negsuc n) = omega (arith, number-long places (suc n))
 
 -- signs
-pub minus : (places : ℕ) (x : ℤ) → ltZ x (pos 0) ≡ true → signedOf places x ≡ 0x2D ∷ numberOf places (magnitudeOf x)
-unfolding signedOf magnitudeOf
+pub minus : (places : ℕ) (x : ℤ) → ltZ x (pos 0) ≡ true → signedOf places x ≡ 0x2D ∷ numberOf places (natAbs x)
+unfolding signedOf
 minus places (pos n) h = absurd (not-suc-le-zero (ltb-true n 0 h))
 minus places (negsuc n) h = refl
 
-pub plus : (places : ℕ) (x : ℤ) → ltZ x (pos 0) ≡ false → signedOf places x ≡ numberOf places (magnitudeOf x)
-unfolding signedOf magnitudeOf
+pub plus : (places : ℕ) (x : ℤ) → ltZ x (pos 0) ≡ false → signedOf places x ≡ numberOf places (natAbs x)
+unfolding signedOf
 plus places (pos n) h = refl
 plus places (negsuc n) h = absurd (subst T h tt)
 
-pub up : (x : ℤ) → ltZ x (pos 0) ≡ false → x ≡ pos (magnitudeOf x)
-unfolding magnitudeOf
+pub up : (x : ℤ) → ltZ x (pos 0) ≡ false → x ≡ pos (natAbs x)
 up (pos n) h = refl
 up (negsuc n) h = absurd (subst T h tt)
 
-pub down : (x : ℤ) → ltZ x (pos 0) ≡ true → negsuc 0 -ℤ x ≡ pos (magnitudeOf x - 1)
-unfolding magnitudeOf
+pub down : (x : ℤ) → ltZ x (pos 0) ≡ true → negsuc 0 -ℤ x ≡ pos (natAbs x - 1)
 down (pos n) h = absurd (not-suc-le-zero (ltb-true n 0 h))
 down (negsuc n) h = let k : 1 ≤ suc n = omega arith in simp (le-ltb (suc n) 1 k)
 
-pub some : (x : ℤ) → ltZ x (pos 0) ≡ true → magnitudeOf x - 1 + 1 ≡ magnitudeOf x
-unfolding magnitudeOf
+pub some : (x : ℤ) → ltZ x (pos 0) ≡ true → natAbs x - 1 + 1 ≡ natAbs x
 some (pos n) h = absurd (not-suc-le-zero (ltb-true n 0 h))
 some (negsuc n) h = omega arith
 
-pub small : (x : ℤ) → SFits w32 x → magnitudeOf x ≤ 2147483648
-unfolding magnitudeOf
+pub small : (x : ℤ) → SFits w32 x → natAbs x ≤ 2147483648
 small (pos n) h = omega arith
 small (negsuc n) h = omega arith
 
-pub few : (x : ℤ) → SFits w32 x → ltZ x (pos 0) ≡ false → magnitudeOf x < 2147483648
-unfolding magnitudeOf
+pub few : (x : ℤ) → SFits w32 x → ltZ x (pos 0) ≡ false → natAbs x < 2147483648
 few (pos n) h k = omega arith
 few (negsuc n) h k = absurd (subst T k tt)
-
-pub nat : (x : ℤ) → ltZ x (pos 0) ≡ false → natAbs x ≡ magnitudeOf x
-unfolding magnitudeOf
-nat (pos n) h = refl
-nat (negsuc n) h = refl
 
 -- room in a slice
 unfit : (t : Text) (at : ℕ) (out : List ℕ) → fitsAt t at out ≡ false → PutPromise t at out false out
@@ -160,3 +150,8 @@ fits t at out h k = rw (le-leb (t .len) 40 h, le-leb (at + t .len) (length out) 
 pub put-is : (t : Text) (at : ℕ) (out : List ℕ) → t .len ≤ 40 → at + t .len ≤ length out → PutPromise t at out true (paste out at (t .bytes) (t .len))
 unfolding putOf
 put-is t at out h k = rw (fits t at out h k) (refl, refl)
+
+-- a text that has no room is not put
+pub put-none : (t : Text) (at : ℕ) (out : List ℕ) → fitsAt t at out ≡ false → putOf t at out ≡ out
+unfolding putOf
+put-none t at out e = rw e

@@ -19,12 +19,7 @@ unfoldable pub numberOf : ℕ → ℕ → List ℕ
 numberOf zero n = digitOf n ∷ []
 numberOf (suc places) n = cond (ltb n 10) (digitOf n ∷ []) (numberOf places (n / 10) ++ (digitOf n ∷ []))
 
--- a number without its sign
-unfoldable pub magnitudeOf : ℤ → ℕ
-magnitudeOf (pos n) = n
-magnitudeOf (negsuc n) = suc n
-
--- "plain decimals with `-`, no `-0`"
+-- a minus in front of a negative number, and none in front of 0
 unfoldable pub signedOf : ℕ → ℤ → List ℕ
 signedOf places (pos n) = numberOf places n
 signedOf places (negsuc n) = 0x2D ∷ numberOf places (suc n)

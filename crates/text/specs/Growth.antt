@@ -15,7 +15,7 @@ abbrev pub shown : Text → List ℕ
 shown t = take (t .len) (t .bytes)
 
 abbrev pub none : Text
-none = record { bytes = replicate 40 0; len = 0 }
+none = record { bytes = replicate capacity 0; len = 0 }
 
 -- a byte more; a full text stays as it is
 unfoldable pub grown : Text → ℕ → Text

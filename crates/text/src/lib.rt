@@ -1,9 +1,10 @@
 // Text by value: bytes one behind the other, and numbers as decimals.
 ghost use mathlib.Core.Path.{_≡_};
 ghost use Prim.Native.Nat.{_+_, _≤_};
+ghost use lib.IntN.{natAbs};
 ghost use lib.ListN.{length};
 ghost use lib.Seq.{paste};
-ghost use Rattle.text.specs.Decimals.{digitOf, magnitudeOf};
+ghost use Rattle.text.specs.Decimals.{digitOf};
 ghost use Rattle.text.specs.Promises.{NonePromise, WithPromise, DigitsPromise, NumberPromise, SignedPromise, PutPromise};
 
 // The bytes of a text are its first len.
@@ -21,7 +22,7 @@ fn digit(n: u32) -> u8
 
 // A number without its sign.
 fn magnitude(x: i32) -> u32
-    ensures { λ r. ⌜ r ≡ magnitudeOf x ⌝ }
+    ensures { λ r. ⌜ r ≡ natAbs x ⌝ }
 {
     if x < 0 {
         return (-1 - x) as u32 + 1;

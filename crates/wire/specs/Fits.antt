@@ -26,10 +26,10 @@ unfoldable pub like : List Cell → ℕ → Bool
 like [] b = isByte b
 like (c ∷ cells) b = agrees c (bit (length cells) b) && like cells b
 
--- "digits 0-9, A-F"
 abbrev pub between : ℕ → ℕ → ℕ → Bool
 between low high b = leb low b && leb b high
 
+-- "digits 0-9, A-F"
 abbrev pub isDigit : ℕ → Bool
 isDigit b = between 0x30 0x39 b || between 0x41 0x46 b
 

@@ -1,8 +1,10 @@
 -- All of the block is taken.
 use borrow.Author.Needs.{needs}
-use mathlib.Core.Path.{refl}
+use mathlib.Core.Path.{_≡_, refl}
 use mathlib.Core.Logic.{inl}
 use native.Mathlib.Omega.{arith}
+use lib.ListN.{length}
+use Rattle.listing.proofs.Calls.{feed-within}
 use Rattle.mlist.proofs.Taken.{taken}
 use Rattle.mlist.proofs.block.Statement.{statement}
 use Rattle.mlist.proofs.block.Tie as tie
@@ -29,7 +31,10 @@ feed-requires : tie.Need-feed-requires
 feed-requires c κs = search needs
 
 show-requires : tie.Need-show-requires
-show-requires c κs = search needs
+show-requires c κs =
+    let feed = c .before .before .before .before .feed in
+    let same : length (feed .last .1 .1 .0) ≡ length (c .before .before .before .before .before .before .before .before .before .before .before .before .before .before .before .before .args .out .now) = search needs in
+    omega (arith, same, feed-within _ _ _ _ (feed .result) (feed .ensures) .1)
 
 same-length-2 : tie.Need-same-length-2
 same-length-2 c = search needs

@@ -1,13 +1,12 @@
 -- So many bytes are there.
 use borrow.Author.Needs.{needs}
 use mathlib.Core.Path.{sym}
-use native.Mathlib.Omega.{arith}
 use lib.Seq.{length-take-le}
 use Rattle.mlist.proofs.show.Statement.{statement}
 use Rattle.mlist.proofs.show.Tie as tie
 
 slice-aggregate-write-all : tie.Need-slice-aggregate-write-all
-slice-aggregate-write-all c = let a = c .before .before .before .args in sym (length-take-le (a .count) (a .out .now) (omega arith))
+slice-aggregate-write-all c = let start = c .before .before in sym (length-take-le (start .args .count) (start .args .out .now) (start .pre))
 
 write-all-requires : tie.Need-write-all-requires
 write-all-requires c κs = search needs
@@ -15,8 +14,5 @@ write-all-requires c κs = search needs
 returns : tie.Need-returns
 returns c = search needs
 
-returns-2 : tie.Need-returns-2
-returns-2 c = search needs
-
 pub show-spec : {M : Type 1} → statement M
-show-spec = tie.close (tie.spec slice-aggregate-write-all write-all-requires returns returns-2)
+show-spec = tie.close (tie.spec slice-aggregate-write-all write-all-requires returns)

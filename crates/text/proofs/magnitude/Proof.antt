@@ -3,13 +3,12 @@ use mathlib.Core.Path.{_≡_, _∙_, ap}
 use mathlib.Core.Bool.{true, false}
 use Prim.Native.Nat.{_-_}
 use native.Mathlib.Omega.{arith}
-use lib.IntN.{ℤ, pos, negsuc, _-ℤ_}
+use lib.IntN.{ℤ, pos, negsuc, _-ℤ_, natAbs}
 use lib.Signed.{ltZ}
 use mir.Syntax.{w32}
 use mir.Val.{SFits, toZ, ofZ}
 use mir.Facts.{toZ-ofZ}
-use Rattle.text.specs.Decimals.{magnitudeOf}
-use Rattle.text.proofs.Laws.{up, nat, down, small, some, few}
+use Rattle.text.proofs.Laws.{up, down, small, some, few}
 use Rattle.text.proofs.magnitude.Statement.{statement}
 use Rattle.text.proofs.magnitude.Tie as tie
 
@@ -23,13 +22,13 @@ below c = rw (same (c .before)) at (c .if1 .taken)
 above : (c : tie.Else1) → ltZ (c .before .args .x) (pos 0) ≡ false
 above c = rw (same (c .before)) at (c .if1 .left)
 
-is : (c : tie.Then1) → negsuc 0 -ℤ toZ w32 (ofZ w32 (c .before .args .x)) ≡ pos (magnitudeOf (c .before .args .x) - 1)
+is : (c : tie.Then1) → negsuc 0 -ℤ toZ w32 (ofZ w32 (c .before .args .x)) ≡ pos (natAbs (c .before .args .x) - 1)
 is c = rw (same (c .before)) (down (c .before .args .x) (below c))
 
-small-fits : (c : tie.Then1) → SFits w32 (pos (magnitudeOf (c .before .args .x) - 1))
+small-fits : (c : tie.Then1) → SFits w32 (pos (natAbs (c .before .args .x) - 1))
 small-fits c = record { sfits = omega (arith, small (c .before .args .x) (c .before .fits .x)) }
 
-kept : (c : tie.Then1) → toZ w32 (ofZ w32 (negsuc 0 -ℤ toZ w32 (ofZ w32 (c .before .args .x)))) ≡ pos (magnitudeOf (c .before .args .x) - 1)
+kept : (c : tie.Then1) → toZ w32 (ofZ w32 (negsuc 0 -ℤ toZ w32 (ofZ w32 (c .before .args .x)))) ≡ pos (natAbs (c .before .args .x) - 1)
 kept c = ap (λ (z : ℤ). toZ w32 (ofZ w32 z)) (is c) ∙ toZ-ofZ (small-fits c)
 
 sub-result : tie.Need-sub-result
@@ -48,7 +47,7 @@ cast-result-2 : tie.Need-cast-result-2
 cast-result-2 c = rw (same (c .before), up (c .before .args .x) (above c)) (tt, record { fits = omega (arith, few (c .before .args .x) (c .before .fits .x) (above c)) })
 
 returns-2 : tie.Need-returns-2
-returns-2 c = rw (same (c .before)) (nat (c .before .args .x) (above c))
+returns-2 c = rw (same (c .before))
 
 pub magnitude-spec : {M : Type 1} → statement M
 magnitude-spec = tie.close (tie.spec sub-result cast-result add-result returns cast-result-2 returns-2)

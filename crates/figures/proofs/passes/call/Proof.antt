@@ -3,7 +3,8 @@ use borrow.Author.Needs.{needs}
 use lib.ListN.{take, drop}
 use native.Mathlib.Omega.{arith}
 use Prim.Native.Nat.{_+_, _-_}
-use Rattle.figures.proofs.Laws.{fair, within}
+use Rattle.reader.proofs.Bounds.{within}
+use Rattle.figures.proofs.Laws.{part-within}
 use Rattle.figures.proofs.passes.call.Statement.{statement}
 use Rattle.figures.proofs.passes.call.Tie as tie
 
@@ -63,8 +64,8 @@ returns c =
     let p = l .before .before .before .pre in
     let n = a .at + l .before .least .result - a .at in
     let m = a .used + l .least2 .result - a .used in
-    let f = fair (a .reader) (take n (drop (a .at) (a .words .now))) (take m (drop (a .used) (a .out .now))) (r .result) _ (r .ensures) in
-    (omega (arith, f .some, within (a .words .now) (a .at) n (p .0)), omega (arith, f .room, within (a .out .now) (a .used) m (p .1)), f .few)
+    let f = within (a .reader) (take n (drop (a .at) (a .words .now))) (take m (drop (a .used) (a .out .now))) (r .result) _ (r .ensures) in
+    (omega (arith, f .some, part-within (a .words .now) (a .at) n (p .0)), omega (arith, f .room, part-within (a .out .now) (a .used) m (p .1)), f .few)
 
 pub call-spec : {M : Type 1} → statement M
 call-spec =

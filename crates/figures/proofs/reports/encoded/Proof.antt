@@ -1,6 +1,6 @@
 -- `encoded`: the encoder tells at most five bytes.
 use borrow.Author.Needs.{needs}
-use Rattle.figures.proofs.Laws.{at-most-five}
+use Rattle.wire.proofs.Answers.{length-small}
 use Rattle.figures.proofs.reports.encoded.Statement.{statement}
 use Rattle.figures.proofs.reports.encoded.Tie as tie
 
@@ -14,7 +14,7 @@ length-requires : tie.Need-length-requires
 length-requires c κs = search needs
 
 returns : tie.Need-returns
-returns c = rw (c .length .ensures) (at-most-five _ _ _ _ (c .before .before .encode .result) (c .before .before .encode .ensures))
+returns c = rw (c .length .ensures) (length-small _ _ _ _ (c .before .before .encode .result) (c .before .before .encode .ensures))
 
 pub encoded-spec : {M : Type 1} → statement M
 encoded-spec = tie.close (tie.spec slice-aggregate-encode encode-requires length-requires returns)

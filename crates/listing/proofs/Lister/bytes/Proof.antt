@@ -11,7 +11,8 @@ use Rattle.listing.specs.Promises.{whole}
 use Rattle.listing.specs.declared.Turn.{Turn}
 use Rattle.listing.specs.declared.Listed.{Listed}
 use Rattle.listing.proofs.Few.{few-byte}
-use Rattle.listing.proofs.Feeds.{size, put-room, put-wrote, put-none, put-short, standing, starts, ends, ends-all, stops, kept, long, again, drop-more}
+use Rattle.text.proofs.Laws.{put-none}
+use Rattle.listing.proofs.Feeds.{size, put-room, put-wrote, put-short, standing, starts, ends, ends-all, stops, kept, long, again, drop-more}
 use Rattle.listing.proofs.Lister.bytes.Statement.{statement}
 use Rattle.listing.proofs.Lister.bytes.Tie as tie
 

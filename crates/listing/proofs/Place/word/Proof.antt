@@ -1,10 +1,10 @@
 -- A word, which must not be the first line.
 use borrow.Author.Needs.{needs}
 use borrow.Author.Tests.{eq-eqb, ne-eqb}
+use Rattle.reader.proofs.Permitted.{step-is}
 use Rattle.listing.specs.Items.{E}
 use Rattle.listing.specs.Machine.{worded}
 use Rattle.listing.proofs.Cases.{ends-said}
-use Rattle.listing.proofs.Letters.{step-next, step-answer}
 use Rattle.listing.proofs.Place.word.Statement.{statement}
 use Rattle.listing.proofs.Place.word.Tie as tie
 
@@ -27,7 +27,7 @@ answered-requires c κs = search needs
 returns-2 : tie.Need-returns-2
 unfolding worded
 returns-2 c = let a = c .before .before .before .before .before .before .args in let s = c .before .before .step in
-    rw (ne-eqb _ _ (c .before .before .before .before .if1 .left), c .answered .ensures, step-next (a .self .reader) (a .word) (s .result) (s .ensures), step-answer (a .self .reader) (a .word) (s .result) (s .ensures))
+    rw (ne-eqb _ _ (c .before .before .before .before .if1 .left), c .answered .ensures, step-is (a .self .reader) (a .word) (s .result) (s .ensures))
 
 pub word-spec : {M : Type 1} → statement M
 word-spec =

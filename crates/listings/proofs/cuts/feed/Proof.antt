@@ -3,7 +3,7 @@ use borrow.Author.Needs.{needs}
 use mathlib.Core.Path.{sym}
 use native.Mathlib.Omega.{arith}
 use lib.Seq.{length-take-le}
-use Rattle.listings.proofs.Within.{fed}
+use Rattle.listing.proofs.Calls.{feed-within}
 use Rattle.listings.proofs.cuts.feed.Statement.{statement}
 use Rattle.listings.proofs.cuts.feed.Tie as tie
 
@@ -33,7 +33,7 @@ same-length c = search needs
 returns : tie.Need-returns
 returns c =
     let a = c .before .before .before .before .before .before .before .before .before .args in
-    let w = fed _ _ _ _ _ (c .before .before .feed .ensures) in
+    let w = feed-within _ _ _ _ _ (c .before .before .feed .ensures) in
     let piece = length-take-le (c .before .before .before .before .before .before .least .result) (a .input .now) (search needs) in
     let places = length-take-le (c .before .before .before .before .before .least2 .result) (a .out .now) (search needs) in
     (omega arith, omega arith)

@@ -1,7 +1,7 @@
 -- What the second call wrote had room.
 use native.Mathlib.Omega.{arith}
 use borrow.Author.Needs.{needs}
-use Rattle.listings.proofs.Within.{finished}
+use Rattle.listing.proofs.Calls.{finish-within}
 use Rattle.listings.proofs.cuts.finish.Statement.{statement}
 use Rattle.listings.proofs.cuts.finish.Tie as tie
 
@@ -18,7 +18,7 @@ same-length : tie.Need-same-length
 same-length c = search needs
 
 returns : tie.Need-returns
-returns c = let w = finished _ _ _ _ (c .before .before .finish2 .ensures) in omega arith
+returns c = let w = finish-within _ _ _ _ (c .before .before .finish2 .ensures) in omega arith
 
 pub finish-spec : {M : Type 1} → statement M
 finish-spec =

@@ -3,7 +3,7 @@ use Prim.Native.Nat.{_-_, _≤_}
 use mathlib.Core.Path.{_≡_}
 use borrow.Author.Needs.{needs}
 use lib.ListN.{length}
-use Rattle.listings.proofs.Within.{encoded}
+use Rattle.wire.proofs.Answers.{length-small}
 use Rattle.listings.proofs.recordings.report.Statement.{statement}
 use Rattle.listings.proofs.recordings.report.Tie as tie
 
@@ -24,7 +24,7 @@ length-requires c κs = search needs
 
 loop-holds : tie.Need-loop-holds Inv-loop μ-loop
 loop-holds c =
-    let few = encoded _ _ _ _ (c .before .before .encode .result) (c .before .before .encode .ensures) in
+    let few = length-small _ _ _ _ (c .before .before .encode .result) (c .before .before .encode .ensures) in
     (search needs, search needs, rw (c .length .ensures) few)
 
 array-read-byte : tie.Need-array-read-byte Inv-loop μ-loop
