@@ -94,6 +94,6 @@ gives words b = record { refusal = success; next = b; words = words }
 abbrev pub quietly : BallBox → Answer
 quietly b = gives [] b
 
--- "A refusal returns the old state, no word"
+-- "A refusal returns the old state [..], no word"
 abbrev pub refused : ℕ → BallBox → Answer
 refused n b = record { refusal = n; next = b; words = [] }
