@@ -61,8 +61,8 @@ fn blocks(input: &mut [u8], out: &mut [u8]) -> Lister
 }
 
 fn main() {
-    let mut input = [0u8; 2048];
-    let mut out = [0u8; 81920];
+    let mut input = [0u8; 4096];
+    let mut out = [0u8; 163840];
     let lister = blocks(&mut input, &mut out);
     let listed = lister.finish(&mut out);
     show(&out, listed.written);

@@ -5,8 +5,8 @@ use mathlib.Core.Path.{_≡_}
 use borrow.Author.Needs.{needs}
 use lib.ListN.{length}
 use Rattle.io.proofs.Counting.{counts}
-use Rattle.listings.proofs.cuts.list.Statement.{statement}
-use Rattle.listings.proofs.cuts.list.Tie as tie
+use Rattle.recordings.proofs.cuts.list.Statement.{statement}
+use Rattle.recordings.proofs.cuts.list.Tie as tie
 
 abbrev Inv-loop : tie.InvT-loop
 Inv-loop recording cut out₀ places lister₀ taken₀ written₀ out lister taken written =

@@ -2,7 +2,7 @@
 ghost use Prim.Native.Nat.{_≤_};
 ghost use lib.ListN.{length};
 use crate::cuts::case;
-use crate::recordings::append;
+use crate::making::append;
 
 // The number of the last line but one.
 const BEFORE_LAST: u32 = 9998;

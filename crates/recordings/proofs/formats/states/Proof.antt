@@ -4,8 +4,8 @@ use mathlib.Core.Path.{_≡_}
 use borrow.Author.Needs.{needs}
 use lib.ListN.{length}
 use Rattle.io.proofs.Counting.{counts}
-use Rattle.listings.proofs.formats.states.Statement.{statement}
-use Rattle.listings.proofs.formats.states.Tie as tie
+use Rattle.recordings.proofs.formats.states.Statement.{statement}
+use Rattle.recordings.proofs.formats.states.Tie as tie
 
 abbrev Inv-loop : tie.InvT-loop
 Inv-loop out₀ letter x1 y1 x2 y2 n₀ buttons₀ out n buttons = (length out ≡ length out₀) × (n ≤ length out)

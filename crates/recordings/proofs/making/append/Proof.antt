@@ -4,8 +4,8 @@ use mathlib.Core.Path.{_≡_}
 use borrow.Author.Needs.{needs}
 use lib.ListN.{length}
 use Rattle.io.proofs.Counting.{counts}
-use Rattle.listings.proofs.recordings.append.Statement.{statement}
-use Rattle.listings.proofs.recordings.append.Tie as tie
+use Rattle.recordings.proofs.making.append.Statement.{statement}
+use Rattle.recordings.proofs.making.append.Tie as tie
 
 abbrev Inv-loop : tie.InvT-loop
 Inv-loop out₀ n bytes more i₀ out i = length out ≡ length out₀

@@ -3,8 +3,8 @@ ghost use Prim.Native.Nat.{_≤_};
 ghost use lib.ListN.{length};
 ghost use Rattle.io.specs.Counts.{Counts};
 use crate::cuts::case;
-use crate::recordings::append;
-use crate::recordings::report;
+use crate::making::append;
+use crate::making::report;
 use wire::Report;
 
 // A format, and a silence.

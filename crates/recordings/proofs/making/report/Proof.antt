@@ -4,8 +4,8 @@ use mathlib.Core.Path.{_≡_}
 use borrow.Author.Needs.{needs}
 use lib.ListN.{length}
 use Rattle.wire.proofs.Answers.{length-small}
-use Rattle.listings.proofs.recordings.report.Statement.{statement}
-use Rattle.listings.proofs.recordings.report.Tie as tie
+use Rattle.recordings.proofs.making.report.Statement.{statement}
+use Rattle.recordings.proofs.making.report.Tie as tie
 
 abbrev Inv-loop : tie.InvT-loop
 Inv-loop out₀ n letter bytes size end₀ i₀ out end i = (length out ≡ length out₀) × (end ≤ length out) × (size ≤ 5)

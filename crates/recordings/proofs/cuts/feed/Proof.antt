@@ -4,8 +4,8 @@ use mathlib.Core.Path.{sym}
 use native.Mathlib.Omega.{arith}
 use lib.Seq.{length-take-le}
 use Rattle.listing.proofs.Calls.{feed-within}
-use Rattle.listings.proofs.cuts.feed.Statement.{statement}
-use Rattle.listings.proofs.cuts.feed.Tie as tie
+use Rattle.recordings.proofs.cuts.feed.Statement.{statement}
+use Rattle.recordings.proofs.cuts.feed.Tie as tie
 
 least-requires : tie.Need-least-requires
 least-requires c κs = search needs

@@ -2,8 +2,8 @@
 use native.Mathlib.Omega.{arith}
 use borrow.Author.Needs.{needs}
 use Rattle.listing.proofs.Calls.{finish-within}
-use Rattle.listings.proofs.cuts.finish.Statement.{statement}
-use Rattle.listings.proofs.cuts.finish.Tie as tie
+use Rattle.recordings.proofs.cuts.finish.Statement.{statement}
+use Rattle.recordings.proofs.cuts.finish.Tie as tie
 
 slice-aggregate-finish : tie.Need-slice-aggregate-finish
 slice-aggregate-finish c = search needs

@@ -1,11 +1,11 @@
-// listings: recordings held here or made by loops, each listed in several cuts.
+// recordings: recordings held here or made by loops, each listed in several cuts.
 ghost use Prim.Native.Nat.{_≤_};
 
 mod cases;
 mod cuts;
 mod formats;
 mod long;
-mod recordings;
+mod making;
 
 // The lesser of two numbers.
 pub(crate) fn least(a: usize, b: usize) -> usize

@@ -3,8 +3,8 @@ use Prim.Native.Nat.{_-_, _≤_}
 use mathlib.Core.Path.{_≡_}
 use borrow.Author.Needs.{needs}
 use lib.ListN.{length}
-use Rattle.listings.proofs.long.silences.Statement.{statement}
-use Rattle.listings.proofs.long.silences.Tie as tie
+use Rattle.recordings.proofs.long.silences.Statement.{statement}
+use Rattle.recordings.proofs.long.silences.Tie as tie
 
 abbrev Inv-loop : tie.InvT-loop
 Inv-loop out₀ n₀ line₀ t5 out n line = (length out ≡ length out₀) × (n ≤ length out)
