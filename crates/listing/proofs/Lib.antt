@@ -1,4 +1,4 @@
--- Laws of the listing: its text is that of the definitions (Recordings, Whole), whatever the cuts (Pieces, Calls); listers stay good (Keeps) and end
+-- Laws of the listing: its text is that of the definitions (Recordings, Whole), whatever the cuts (Pieces, Calls), with calls worked out (Worked); listers stay good (Keeps) and end
 -- (Ended); two permitted answers are equal (Answers), and what a refusal leaves (Refusals); and what the functions' proofs share.
 pub mod Answers
 pub mod Calls
@@ -13,6 +13,7 @@ pub mod Pieces
 pub mod Recordings
 pub mod Refusals
 pub mod Whole
+pub mod Worked
 pub mod Ended
 pub mod Feeds
 pub mod Few

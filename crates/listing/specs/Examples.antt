@@ -23,7 +23,7 @@ pub record Example : Type 0 where
 
 -- the paper's example: F V/B 5/B 108/B 5/B 61/Q/
 -- L 4/D 0002 1/R 0005 L?- 5 3/H 0/
-abbrev paper : Example
+abbrev pub paper : Example
 paper =
     record {
       input = 70 ∷ 9 ∷ 86 ∷ 10 ∷ 66 ∷ 9 ∷ 53 ∷ 10 ∷ 66 ∷ 9 ∷ 49 ∷ 48 ∷ 56 ∷ 10 ∷ 66 ∷ 9 ∷ 53 ∷ 10 ∷ 66 ∷ 9 ∷ 54 ∷ 49 ∷ 10 ∷ 81 ∷ 10 ∷ [];
