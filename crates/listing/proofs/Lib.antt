@@ -1,5 +1,6 @@
--- Laws of the listing: its text is that of the definitions (Recordings, Whole), whatever the cuts (Pieces, Calls), with calls worked out (Worked); listers stay good (Keeps) and end
--- (Ended); two permitted answers are equal (Answers), and what a refusal leaves (Refusals); and what the functions' proofs share.
+-- Laws of the listing: its text is that of the definitions (Recordings, Whole), whatever the cuts (Pieces, Calls), with calls worked out (Worked);
+-- listers stay good (Keeps) and end (Ended); two permitted answers are equal (Answers), and what a refusal leaves (Refusals); and what the
+-- functions' proofs share.
 pub mod Answers
 pub mod Calls
 pub mod Cases
