@@ -2,15 +2,16 @@
 use Prim.Native.Nat.{ℕ, _+_, _<_}
 use mathlib.Core.Path.{_≡_, refl, _∙_, ap}
 use mathlib.Core.Bool.{Bool, true, false, not, _&&_}
-use mathlib.Core.List.{List, [], _∷_, _++_}
+use mathlib.Core.List.{List, [], _∷_}
 use native.Mathlib.Omega.{arith}
 use lib.Dec.{eqb}
 use borrow.Author.Tests.{eqb-true, eqb-false}
+use Rattle.wire.proofs.Passages.{sound-append}
 use Rattle.numbers.proofs.Choices.{cases, or-else}
 use Rattle.numbers.proofs.Tested.{left, right}
 use Rattle.wire.specs.Line.{letterOf, sizeOf}
 use Rattle.wire.specs.Holds.{accepted}
-use Rattle.wire.specs.Passages.{Passage, Going, nothing, report, replying, Sound, SoundGoing, told, sentOne, brokenOff, passagesOver, goingOver}
+use Rattle.wire.specs.Passages.{Going, nothing, report, replying, Sound, SoundGoing, told, sentOne, brokenOff, passagesOver, goingOver}
 use Rattle.wire.specs.declared.Report.{Report}
 use Rattle.wire.specs.declared.Format.{Format}
 use Rattle.wire.specs.declared.Format.the-variants.{FiveByte}
@@ -216,10 +217,6 @@ asked-step f b e g a h = go (aboveSeven e) refl
     go true p = next (rw (refused-next b e (h .good) p) (alike b)) (rw (refused-told b e g p) (tt, h .sound))
     go false p =
         next (rw (ruled b e false (h .good) p (h .awake)) (awake-alike b e a)) (rw (told-is b e g false p (h .awake)) (awake-told f b e g a h))
-
-sound-append : (f : Format) (a b : List Passage) → Sound f a → Sound f b → Sound f (a ++ b)
-sound-append f [] b p q = q
-sound-append f (x ∷ a) b p q = (p .0, sound-append f a b (p .1) q)
 
 -- over every list of such events
 pub asked-sound : (f : Format) (b : BallBox) (g : Going) (events : List Event) → onlyAsks events ≡ true → SetTo f b g → Sound f (passagesOf b g events) × SoundGoing f (goingAfter b g events)

@@ -7,11 +7,12 @@ use mathlib.Core.List.{List, [], _∷_, _++_}
 use native.Mathlib.Omega.{arith}
 use lib.ListN.{length, getD, take, drop, length-append}
 use lib.Seq.{take-suc-set, getD-take, getD-set-same, getD-set-other, length-take-le}
-use lib.Dec.{eqb, eqb·suc-zero}
-use borrow.Author.Tests.{lt-ltb, eqb-true, eqb-false, eq-eqb}
+use lib.Dec.{eqb}
+use borrow.Author.Tests.{lt-ltb, eqb-true, eqb-false}
+use Rattle.wire.proofs.Codec.Shapes.{fits-valid}
 use Rattle.numbers.proofs.Tested.{holds}
 use Rattle.wire.specs.Line.{namedBy, sizeOf, sizeBy, known}
-use Rattle.wire.specs.Fits.{fitsAt, fitsLater, fitsBy, allLater, valid}
+use Rattle.wire.specs.Fits.{fitsAt, fitsBy, valid}
 use Rattle.wire.specs.Reading.{reportOf, reportBy, settledBy}
 use Rattle.wire.specs.Numbers.{success}
 use Rattle.wire.specs.Encoder.{Encoding, refusalOf, lengthOf, encodeIn}
@@ -22,7 +23,7 @@ use Rattle.wire.specs.declared.Named.{Named}
 use Rattle.wire.specs.declared.Named.the-variants.{Known, Unknown}
 use Rattle.wire.specs.declared.Encoded.{Encoded}
 use Rattle.wire.proofs.Accepts.{accepts}
-use Rattle.wire.proofs.Letters.{at-most-five}
+use Rattle.wire.proofs.Letters.{size-named}
 use Rattle.wire.proofs.Front.{same-front}
 use Rattle.wire.proofs.Codec as codec
 use Rattle.reader.specs.State.{keptIn}
@@ -34,7 +35,7 @@ use Rattle.reader.specs.declared.Read.{Read}
 use Rattle.reader.specs.declared.Answer.{Answer}
 use Rattle.reader.specs.declared.Answer.the-variants as answer
 use Rattle.numbers.proofs.Choices.{cases}
-use Rattle.reader.proofs.Good.{Parts, parts}
+use Rattle.reader.proofs.Good.{Parts, parts, one-more}
 use Rattle.reader.proofs.Word.{by-rules, by-kind}
 use Rattle.reader.proofs.Permitted.{step-is}
 use Rattle.reader.proofs.Goodness.{step-word}
@@ -70,18 +71,6 @@ finished r w p =
     (λ _ _ e. absurd (dropped-no-report (r .count) p e))
     (λ _ e. let z : _≡_ {A = ℕ} 0 1 = cc in absurd (omega arith))
 
--- bytes that fit, place by place, are valid
-later-valid : (f : Format) (bs : List ℕ) → ((i : ℕ) → i < length bs → fitsLater f (getD bs i 0) ≡ true) → allLater f bs ≡ true
-unfolding allLater
-later-valid f [] h = refl
-later-valid f (b ∷ bs) h = rw (h 0 (omega arith), later-valid f bs (λ i l. h (suc i) (omega arith)))
-
-fits-valid : (f : Format) (bs : List ℕ) → length bs ≡ sizeOf f → 0 < length bs → ((i : ℕ) → i < length bs → fitsAt f i (getD bs i 0) ≡ true) → valid f bs ≡ true
-unfolding valid fitsAt
-fits-valid f [] size some h = absurd (omega arith)
-fits-valid f (b ∷ bs) size some h =
-    rw (eq-eqb (length (b ∷ bs)) (sizeOf f) size, h 0 (omega arith), later-valid f bs (λ i l. rw (eqb·suc-zero i) at (h (suc i) (omega arith))))
-
 -- the kept bytes and the last one
 module _ (r : Reader) (w : ℕ) (p : Report) (f : Format) (g : good r ≡ true) (named : namedBy (r .format) ≡ Known f) (d : Finished r w p) where
   abbrev has : Parts r
@@ -90,12 +79,11 @@ module _ (r : Reader) (w : ℕ) (p : Report) (f : Format) (g : good r ≡ true) 
   abbrev bytes : List ℕ
   bytes = keptIn r ++ w ∷ []
 
-  size-is : sizeBy (r .format) ≡ sizeOf f
-  unfolding sizeBy
-  size-is = rw named
+  abbrev size-is : sizeBy (r .format) ≡ sizeOf f
+  size-is = size-named (r .format) named
 
-  room : r .count < length (r .kept)
-  room = omega (arith, has .below, has .five, at-most-five (r .format))
+  abbrev room : r .count < length (r .kept)
+  room = one-more r g
 
   bytes-are : bytes ≡ take (suc (r .count)) (more r w)
   bytes-are = sym (take-suc-set (r .kept) (r .count) w room)
@@ -150,6 +138,6 @@ back r w s p before after e g h a room n = go (namedBy (r .format)) refl
     go (Known f) q =
         let i = ap (λ (t : Read). t .answer) (step-is r w s h ∙ step-word r w g) in
         let d = finished r w p (sym i ∙ a) in
-        let z = size-is r w p f g q d in
+        let z = size-named (r .format) q in
         let out = (rw q at n) ∙ encodes r w p f g q d before (rw z at room) in
         rw z (ap (λ (l : Encoding). l .refusal) out, ap (λ (l : Encoding). l .told) out, ap (λ (l : Encoding). l .buffer) out)

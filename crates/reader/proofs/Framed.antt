@@ -8,23 +8,23 @@ use native.Mathlib.Omega.{arith}
 use lib.ListN.{length, take, length-append}
 use lib.Seq.{length-take-le, take-suc-set, getD-take}
 use lib.Dec.{leb, eqb}
-use borrow.Author.Tests.{leb-true, leb-false, eqb-true, eqb-false, ne-eqb, not-true}
+use borrow.Author.Tests.{leb-true, leb-false, eqb-true, eqb-false, ne-eqb}
+use Rattle.reader.proofs.Sentences.{awaits-only-unmarked}
 use Rattle.numbers.proofs.Tested.{left, right}
 use Rattle.wire.specs.Line.{isByte, letterOf, namedBy, sizeOf, markedOf, sizeBy, markedBy, known, lineWords}
-use Rattle.wire.specs.Fits.{fitsAt, fitsBy}
+use Rattle.wire.specs.Fits.{fitsAt}
 use Rattle.wire.specs.Reading.{reportOf, reportBy}
 use Rattle.wire.specs.Numbers.{success}
 use Rattle.wire.specs.declared.Report.{Report}
 use Rattle.wire.specs.declared.Format.{Format}
-use Rattle.wire.specs.declared.Format.the-variants.{Mm, Microsoft, Absolute, Relative, FiveByte, ThreeByte, Hexadecimal}
 use Rattle.wire.specs.declared.Named.the-variants.{Known}
-use Rattle.wire.proofs.Letters.{at-most-five, letter-named}
-use Rattle.wire.proofs.Front.{same-front}
+use Rattle.wire.proofs.Letters.{letter-named, size-named, marked-named, fits-named}
+use Rattle.wire.proofs.Front.{same-front, size-between}
 use Rattle.wire.proofs.Codec.{fits-byte, mark}
 use Rattle.frames.specs.Frame.{Frame, State, has, waits, moveOf, fresh, whole, keep, step}
 use Rattle.frames.specs.Frame as frame
 use Rattle.frames.specs.Line.{Laws, Marked}
-use Rattle.reader.specs.State.{keptIn, unmarked}
+use Rattle.reader.specs.State.{keptIn}
 use Rattle.reader.specs.State as reader
 use Rattle.reader.specs.Good.{good}
 use Rattle.reader.specs.Rules.{entered, dropping, fitting, more, starting, byteOf, breakOf, silenceOf, wordOf}
@@ -36,7 +36,7 @@ use Rattle.reader.specs.declared.NewReader.{NewReader}
 use Rattle.reader.specs.declared.Read.{Read}
 use Rattle.reader.specs.declared.Answer.{Answer}
 use Rattle.reader.specs.declared.Answer.the-variants as answer
-use Rattle.reader.proofs.Good.{Parts, parts}
+use Rattle.reader.proofs.Good.{Parts, parts, one-more}
 use Rattle.reader.proofs.Word.{by-rules, word-format}
 use Rattle.reader.proofs.Keeps.{word-good}
 use Rattle.reader.proofs.Goodness.{step-word, fresh-is-good}
@@ -46,17 +46,8 @@ use Rattle.reader.proofs.Permitted.{steps-are}
 abbrev pub frameOf : Format → Frame Report
 frameOf f = record { fits = λ k b. fitsAt f (length k) b; size = λ b. sizeOf f; marked = markedOf f; decode = reportOf f }
 
-pub two : (f : Format) → 2 ≤ sizeOf f
-two Mm = omega arith
-two Microsoft = omega arith
-two Absolute = omega arith
-two Relative = omega arith
-two FiveByte = omega arith
-two ThreeByte = omega arith
-two Hexadecimal = omega arith
-
 pub laws : (f : Format) → Laws (frameOf f)
-laws f = record { byte = λ k b h. fits-byte f (length k) b h; long = λ b h. two f }
+laws f = record { byte = λ k b h. fits-byte f (length k) b h; long = λ b h. omega (arith, size-between f .0) }
 
 pub is-marked : (f : Format) → markedOf f ≡ true → Marked (frameOf f)
 unfolding fitsAt
@@ -109,40 +100,24 @@ module _ (f : Format) (r : Reader) (g : good r ≡ true) (named : namedBy (r .fo
   abbrev has-parts : Parts r
   has-parts = parts r g
 
-  size-is : sizeBy (r .format) ≡ sizeOf f
-  unfolding sizeBy
-  size-is = rw named
+  abbrev size-is : sizeBy (r .format) ≡ sizeOf f
+  size-is = size-named (r .format) named
 
-  marked-is : markedBy (r .format) ≡ markedOf f
-  unfolding markedBy
-  marked-is = rw named
+  abbrev marked-is : markedBy (r .format) ≡ markedOf f
+  marked-is = marked-named (r .format) named
 
-  fits-is : (place b : ℕ) → fitsBy (r .format) place b ≡ fitsAt f place b
-  unfolding fitsBy
-  fits-is place b = rw named
-
-  room : r .count < length (r .kept)
-  room = omega (arith, has-parts .below, has-parts .five, at-most-five (r .format))
+  abbrev room : r .count < length (r .kept)
+  room = one-more r g
 
   count-is : length (keptIn r) ≡ r .count
   count-is = length-take-le (r .count) (r .kept) (omega (arith, room))
-
-  -- it awaits a silence only in an unmarked format, with no bytes
-  waits-rightly : r .awaiting ≡ true → (markedOf f ≡ false) × (r .count ≡ 0)
-  waits-rightly a = go (rw a at (has-parts .awaits))
-    where
-      go : unmarked (r .format) && eqb (r .count) 0 ≡ true → (markedOf f ≡ false) × (r .count ≡ 0)
-      go e = (
-        sym marked-is ∙ not-true (markedBy (r .format)) (left (unmarked (r .format)) (eqb (r .count) 0) e),
-        eqb-true (r .count) 0 (right (unmarked (r .format)) (eqb (r .count) 0) e),
-      )
 
   -- as many bytes are kept as it counts
   kept-count : length (frame.kept (stateOf r)) ≡ r .count
   kept-count = go (r .awaiting) refl
     where
       go : (t : Bool) → r .awaiting ≡ t → length (frame.kept (stateOf r)) ≡ r .count
-      go true e = rw e (sym (waits-rightly e .1))
+      go true e = rw e (sym (awaits-only-unmarked r g e .1))
       go false e = rw e count-is
 
   fresh-like : stateOf (reader.fresh (r .format)) ≡ fresh (frameOf f)
@@ -175,7 +150,7 @@ module _ (f : Format) (r : Reader) (g : good r ≡ true) (named : namedBy (r .fo
   unfolding rules.start rules.lose
   byte-like w b =
       by-rules (λ s. Like s (step (frameOf f) (stateOf r) w)) r w
-      (λ a. rw (waiting a, waits-on f w b (waits-rightly a .0)) (record { taken = refl; answered = refl; next = waiting a }))
+      (λ a. rw (waiting a, waits-on f w b (sym marked-is ∙ awaits-only-unmarked r g a .0)) (record { taken = refl; answered = refl; next = waiting a }))
       (λ a h. rw (keeping a, keeps f w b (keptIn r) (fit h)) (kept-like w))
       (λ a h s. rw (keeping a, starts f w b (keptIn r) (fit h) (start s), count-is) (record { taken = refl; answered = dropping-told (r .count); next = refl }))
       (λ a h s. rw (keeping a, loses f w b (keptIn r) (fit h) (start s), count-is) (record { taken = refl; answered = ap answer.Dropped (add-one (r .count)); next = fresh-like }))
@@ -187,10 +162,10 @@ module _ (f : Format) (r : Reader) (g : good r ≡ true) (named : namedBy (r .fo
       keeping a = rw a
 
       fit : {t : Bool} → fitting r w ≡ t → fitsAt f (length (keptIn r)) w ≡ t
-      fit h = rw count-is (sym (fits-is (r .count) w) ∙ h)
+      fit h = rw count-is (sym (fits-named (r .format) named (r .count) w) ∙ h)
 
       start : {t : Bool} → starting r w ≡ t → markedOf f && fitsAt f 0 w ≡ t
-      start h = rw (marked-is, fits-is 0 w) at h
+      start h = rw (marked-is, fits-named (r .format) named 0 w) at h
 
   word-like : (w : ℕ) → w ≤ 257 → Like (wordOf r w) (step (frameOf f) (stateOf r) w)
   unfolding wordOf entered breakOf silenceOf moveOf

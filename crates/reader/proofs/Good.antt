@@ -1,10 +1,12 @@
 -- What a good reader has, part by part.
+use native.Mathlib.Omega.{arith}
 use Prim.Native.Nat.{ℕ, _<_}
 use mathlib.Core.Path.{_≡_}
 use mathlib.Core.Bool.{Bool, true, _&&_}
 use lib.ListN.{length, getD}
 use lib.Dec.{eqb}
 use borrow.Author.Tests.{ltb-true, lt-ltb, eqb-true, eq-eqb}
+use Rattle.wire.proofs.Letters.{at-most-five}
 use Rattle.numbers.proofs.Tested.{left, right, each-at, each-of}
 use Rattle.wire.specs.Line.{sizeBy, known}
 use Rattle.numbers.specs.Tests.{each}
@@ -41,3 +43,7 @@ made r p =
 
 pub below-size : (r : Reader) → good r ≡ true → r .count < sizeBy (r .format)
 below-size r g = parts r g .below
+
+-- there is a place for one more byte
+pub one-more : (r : Reader) → good r ≡ true → r .count < length (r .kept)
+one-more r g = let p = parts r g in omega (arith, p .below, p .five, at-most-five (r .format))

@@ -17,8 +17,8 @@ use Rattle.reader.specs.Rules.{entered, fitting, more, finishes, keep, s
 use Rattle.reader.specs.declared.Reader.{Reader}
 use Rattle.reader.specs.declared.Read.{Read}
 use Rattle.numbers.proofs.Choices.{cases}
-use Rattle.wire.proofs.Letters.{at-most-five, at-least-three, size-positive}
-use Rattle.reader.proofs.Good.{Parts, parts, made}
+use Rattle.wire.proofs.Letters.{at-least-three, size-positive}
+use Rattle.reader.proofs.Good.{Parts, parts, made, one-more}
 use Rattle.reader.proofs.Word.{by-rules, by-kind}
 
 -- a reader that has no bytes
@@ -73,7 +73,7 @@ module _ (r : Reader) (g : good r ≡ true) where
 
   kept-good : (b : ℕ) → fitting r b ≡ true → (r .count + 1 ≡ sizeBy (r .format) → ⊥) → good (reader (r .format) (more r b) (r .count + 1) false) ≡ true
   kept-good b fit ne =
-      let room : r .count < length (r .kept) = omega (arith, p .below, p .five, at-most-five (r .format)) in
+      let room = one-more r g in
       made (reader (r .format) (more r b) (r .count + 1) false)
       (record {
         of-known = p .of-known;

@@ -2,7 +2,7 @@
 use Prim.Native.Nat.{ℕ, suc, _+_, _≤_, _<_}
 use mathlib.Core.Path.{_≡_, refl, ap}
 use mathlib.Core.Bool.{true}
-use mathlib.Core.List.{List, [], _∷_, _++_, map, append-assoc}
+use mathlib.Core.List.{List, [], _∷_, _++_, map}
 use native.Mathlib.Nat.{add-zero, zero-add, add-suc, suc-add}
 use native.Mathlib.Numerals.{add-one}
 use native.Mathlib.Omega.{arith}
@@ -10,6 +10,7 @@ use lib.ListN.{length, getD, take, length-append, length-take}
 use lib.Seq.{getD-take}
 use lib.Dec.{leb}
 use borrow.Author.Tests.{le-leb}
+use Rattle.wire.proofs.Front.{size-between}
 use Rattle.numbers.proofs.Tested.{left, right}
 use Rattle.wire.specs.Line.{sizeOf, lineWords}
 use Rattle.wire.specs.Table.{bytesOf}
@@ -21,7 +22,7 @@ use Rattle.wire.specs.declared.Format.{Format}
 use Rattle.wire.proofs.Codec.{bytes-length, bytes-fit, there}
 use Rattle.frames.specs.Line.{Segment, silence, sent, cut, words, Calm, Fits, Full, Short, Part}
 use Rattle.frames.specs.Line as line
-use Rattle.reader.proofs.Framed.{frameOf, two, laws}
+use Rattle.reader.proofs.Framed.{frameOf, laws}
 
 -- legal words, joined and taken apart
 pub legal-append : (u v : List ℕ) → lineWords u ≡ true → lineWords v ≡ true → lineWords (u ++ v) ≡ true
@@ -100,7 +101,7 @@ module _ (f : Format) where
   pub whole-report : (r : Report) → accepted f r ≡ true → line.Report (frameOf f) (bytesOf f r)
   whole-report r a =
       let size = bytes-length f r in
-      (fits-from [] (bytesOf f r) (λ i l. rw zero-add (bytes-fit f r a i (omega arith))), full (bytesOf f r) size (two f))
+      (fits-from [] (bytesOf f r) (λ i l. rw zero-add (bytes-fit f r a i (omega arith))), full (bytesOf f r) size (omega (arith, size-between f .0)))
 
   pub part-report : (n : ℕ) (r : Report) → accepted f r ≡ true → n < sizeOf f → Part (frameOf f) (take n (bytesOf f r))
   part-report n r a l =
@@ -137,19 +138,6 @@ module _ (f : Format) where
   pub same-finished : (passages : List Passage) → Sound f passages → line.finished (frameOf f) (segments passages) ≡ finishedReports f passages
   same-finished [] s = refl
   same-finished (p ∷ passages) s = rw (finished-of p (s .0), same-finished passages (s .1))
-
-  -- sound passages, and reports of passages, in two parts
-  pub sound-left : (l m : List Passage) → Sound f (l ++ m) → Sound f l
-  sound-left [] m s = tt
-  sound-left (p ∷ l) m s = (s .0, sound-left l m (s .1))
-
-  pub sound-right : (l m : List Passage) → Sound f (l ++ m) → Sound f m
-  sound-right [] m s = s
-  sound-right (p ∷ l) m s = sound-right l m (s .1)
-
-  pub finished-append : (l m : List Passage) → finishedReports f (l ++ m) ≡ finishedReports f l ++ finishedReports f m
-  finished-append [] m = refl
-  finished-append (p ∷ l) m = rw (finished-append l m, append-assoc)
 
   -- the words of a line are legal
   pub fits-legal : (k bytes : List ℕ) → Fits (frameOf f) k bytes → lineWords bytes ≡ true

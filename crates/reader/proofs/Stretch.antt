@@ -6,6 +6,8 @@ use mathlib.Core.List.{List, [], _∷_, _++_, append-assoc}
 use native.Mathlib.Omega.{arith}
 use lib.ListN.{length, take, length-append}
 use lib.Dec.{leb}
+use Rattle.wire.proofs.Passages.{passages-append, sound-left, sound-right, finished-append}
+use Rattle.wire.proofs.Front.{size-between}
 use Rattle.numbers.proofs.Tested.{left, right}
 use Rattle.wire.specs.Line.{break, sizeOf, markedOf, lineWords}
 use Rattle.wire.specs.Table.{bytesOf}
@@ -14,14 +16,13 @@ use Rattle.wire.specs.Reading.{reportOf}
 use Rattle.wire.specs.Passages.{Passage, silent, finished, broken, passageWords, Going, report, goingWords, Sound, SoundGoing, Unbroken, finishedReports}
 use Rattle.wire.specs.declared.Report.{Report}
 use Rattle.wire.specs.declared.Format.{Format}
-use Rattle.wire.proofs.Sender.{passages-append}
 use Rattle.wire.proofs.Codec.{bytes-length, there}
 use Rattle.frames.specs.Line.{Sub, none, gone, stays, words}
 use Rattle.frames.specs.Frame as frame
 use Rattle.frames.proofs.Replaced as replaced
 use Rattle.reader.specs.DamagedLines.{Given, HandsOut, HandsOutAt, Replaced, Within, EndsAt}
-use Rattle.reader.proofs.Framed.{frameOf, two, laws, is-marked}
-use Rattle.reader.proofs.Segments.{legal-append, legal-replaced, segments, segments-append, same-words, calm, whole-report, part-report, sound, sound-going, same-finished, sound-left, sound-right, finished-append, fits-legal, passages-legal, line-legal}
+use Rattle.reader.proofs.Framed.{frameOf, laws, is-marked}
+use Rattle.reader.proofs.Segments.{legal-append, legal-replaced, segments, segments-append, same-words, calm, whole-report, part-report, sound, sound-going, same-finished, fits-legal, passages-legal, line-legal}
 use Rattle.reader.proofs.Handed.{hands-out, hands-out-at, behind-given, read-given, given-legal}
 
 -- the finished report r stands on the line between `before` and `after`, and i is the place of its last byte when `old` is replaced by `new`
@@ -50,7 +51,7 @@ module _ (f : Format) (passages : List Passage) (going : Going) (given pre old n
       → replaced.Handed (frameOf f) (pre ++ (new ++ post)) j (reportOf f (bytesOf f r)))
       → HandsOutAt f (given ++ (pre ++ (new ++ post))) i (carried f r)
   handed h k =
-      let size = two f in
+      let size = size-between f .0 in
       let j = i - length given in
       let split : length given + j ≡ i = omega arith in
       hands-out-at f (given ++ (pre ++ (new ++ post))) all-legal i (carried f r)

@@ -12,6 +12,7 @@ use lib.Seq.{take-at, sets, sets-eq}
 use lib.IntN.{ℤ}
 use lib.Dec.{eqb}
 use borrow.Author.Tests.{le-leb, le-ltb, eq-eqb, ne-eqb, eqb-true}
+use Rattle.wire.proofs.Letters.{size-named, fits-named}
 use Rattle.numbers.proofs.Tested.{left, holds}
 use Rattle.wire.specs.Line.{namedBy, sizeOf, sizeBy, known}
 use Rattle.wire.specs.Table.{bytesOf}
@@ -51,14 +52,6 @@ unfolding wordOf byteOf entered
 fitted r b h w f = rw (le-leb b 255 (omega arith), w, f)
 
 module _ (f : Format) (letter : ℕ) (named : namedBy letter ≡ Known f) where
-  size-is : sizeBy letter ≡ sizeOf f
-  unfolding sizeBy
-  size-is = rw named
-
-  fits-is : (place b : ℕ) → fitsBy letter place b ≡ fitsAt f place b
-  unfolding fitsBy
-  fits-is place b = rw named
-
   ready-is-good : good (ready letter) ≡ true
   unfolding known
   ready-is-good = ready-good letter (rw named)
@@ -69,18 +62,18 @@ module _ (f : Format) (letter : ℕ) (named : namedBy letter ≡ Known f) where
     byte-is = codec.fits-byte f n b fit
 
     word-is : wordOf (reader letter kept n false) b ≡ keep (reader letter kept n false) b
-    word-is = fitted (reader letter kept n false) b byte-is refl (fits-is n b ∙ fit)
+    word-is = fitted (reader letter kept n false) b byte-is refl (fits-named letter named n b ∙ fit)
 
     one-more : (suc n ≡ sizeOf f → ⊥) → wordOf (reader letter kept n false) b ≡ answered (reader letter (set kept n b) (suc n) false) answer.Nothing
     unfolding keep
-    one-more ne = word-is ∙ rw (add-one n, ne-eqb (suc n) (sizeBy letter) (λ e. ne (e ∙ size-is)))
+    one-more ne = word-is ∙ rw (add-one n, ne-eqb (suc n) (sizeBy letter) (λ e. ne (e ∙ size-named letter named)))
 
     still-good : (suc n ≡ sizeOf f → ⊥) → good (reader letter (set kept n b) (suc n) false) ≡ true
     still-good ne = rw (one-more ne) at (word-good (reader letter kept n false) g b)
 
     last-one : suc n ≡ sizeOf f → wordOf (reader letter kept n false) b ≡ answered (ready letter) (answer.Report (reportBy letter (set kept n b)))
     unfolding keep
-    last-one e = word-is ∙ rw (add-one n, eq-eqb (suc n) (sizeBy letter) (e ∙ sym size-is))
+    last-one e = word-is ∙ rw (add-one n, eq-eqb (suc n) (sizeBy letter) (e ∙ sym (size-named letter named)))
 
 -- a reader answers bytes by nothing up to the last and then by a report, and is ready again; by steps, and in a long read with room for it
 pub record Reads (r : Reader) (p : Report) (b : ℕ) (bs : List ℕ) : Type 0 where

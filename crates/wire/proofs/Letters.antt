@@ -5,7 +5,7 @@ use mathlib.Core.Bool.{true, false, not, _&&_}
 use native.Mathlib.Omega.{arith}
 use lib.Dec.{eqb, ltb}
 use borrow.Author.Tests.{le-ltb, ne-eqb, eqb-false, not-true}
-use Rattle.wire.specs.Line.{letterOf, namedBy, ofNamed, known, sizeOf, sizeBy}
+use Rattle.wire.specs.Line.{letterOf, namedBy, ofNamed, known, sizeOf, sizeBy, markedOf, markedBy}
 use Rattle.wire.specs.Fits.{fitsAt, fitsBy}
 use Rattle.wire.specs.declared.Format.{Format}
 use Rattle.wire.specs.declared.Format.the-variants.{Mm, Microsoft, Absolute, Relative, FiveByte, ThreeByte, Hexadecimal}
@@ -23,6 +23,20 @@ letter-named Relative = refl
 letter-named FiveByte = refl
 letter-named ThreeByte = refl
 letter-named Hexadecimal = refl
+
+-- what a letter tells is what its format tells
+module _ (letter : ℕ) {f : Format} (named : namedBy letter ≡ Known f) where
+  pub size-named : sizeBy letter ≡ sizeOf f
+  unfolding sizeBy
+  size-named = rw named
+
+  pub marked-named : markedBy letter ≡ markedOf f
+  unfolding markedBy
+  marked-named = rw named
+
+  pub fits-named : (place b : ℕ) → fitsBy letter place b ≡ fitsAt f place b
+  unfolding fitsBy
+  fits-named place b = rw named
 
 -- their sizes
 pub at-most-five : (letter : ℕ) → sizeBy letter ≤ 5

@@ -8,9 +8,10 @@ use lib.ListN.{length, getD, take}
 use lib.Seq.{take-suc, take-length}
 use lib.Dec.{eqb}
 use borrow.Author.Tests.{eqb-true}
+use Rattle.wire.proofs.Passages.{passages-append}
 use Rattle.wire.specs.Line.{break, silence, sizeOf}
 use Rattle.wire.specs.Table.{bytesOf}
-use Rattle.wire.specs.Passages.{Passage, Going, nothing, report, replying, goingWords, passageWords, Told, sentOne, brokenOff, passagesOver, goingOver}
+use Rattle.wire.specs.Passages.{Going, nothing, report, replying, goingWords, passageWords, Told, sentOne, brokenOff, passagesOver, goingOver}
 use Rattle.wire.proofs.Codec.{bytes-length}
 
 -- the word that a slot gives: the next byte of what is going, or a silence
@@ -29,10 +30,6 @@ Left (replying n bytes) = n < length bytes
 unfoldable pub givenOver : {B E : Type 0} → (B → E → B) → (B → E → List ℕ) → B → List E → List ℕ
 givenOver next given b [] = []
 givenOver next given b (e ∷ events) = given b e ++ givenOver next given (next b e) events
-
-pub passages-append : (a b : List Passage) → passageWords (a ++ b) ≡ passageWords a ++ passageWords b
-passages-append [] b = refl
-passages-append (p ∷ a) b = rw (passages-append a b, append-assoc)
 
 -- one byte more of some bytes
 one-more : (bytes : List ℕ) (n : ℕ) → n < length bytes → take n bytes ++ (getD bytes n 0 ∷ []) ≡ take (n + 1) bytes

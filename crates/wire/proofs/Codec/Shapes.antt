@@ -1,12 +1,12 @@
 -- Valid bytes, three or five of them.
 use Prim.Native.Nat.{ℕ, zero, suc, _<_}
-use mathlib.Core.Path.{_≡_}
+use mathlib.Core.Path.{_≡_, refl}
 use mathlib.Core.Bool.{Bool, true, _&&_}
 use mathlib.Core.List.{List, [], _∷_}
 use native.Mathlib.Omega.{arith}
 use lib.ListN.{length, getD}
 use lib.Dec.{eqb, eqb·suc-zero}
-use borrow.Author.Tests.{eqb-true}
+use borrow.Author.Tests.{eqb-true, eq-eqb}
 use Rattle.numbers.proofs.Tested.{left, right, holds}
 use Rattle.wire.specs.Line.{sizeOf}
 use Rattle.wire.specs.Table.{bytesOf}
@@ -100,3 +100,15 @@ three a b c = rw (a, b, c)
 
 pub five : {a b c d e : Bool} → a ≡ true → b ≡ true → c ≡ true → d ≡ true → e ≡ true → true && a && (b && (c && (d && (e && true)))) ≡ true
 five a b c d e = rw (a, b, c, d, e)
+
+-- bytes that fit, place by place, are valid
+later-valid : (f : Format) (bs : List ℕ) → ((i : ℕ) → i < length bs → fitsLater f (getD bs i 0) ≡ true) → allLater f bs ≡ true
+unfolding allLater
+later-valid f [] h = refl
+later-valid f (b ∷ bs) h = rw (h 0 (omega arith), later-valid f bs (λ i l. h (suc i) (omega arith)))
+
+pub fits-valid : (f : Format) (bs : List ℕ) → length bs ≡ sizeOf f → 0 < length bs → ((i : ℕ) → i < length bs → fitsAt f i (getD bs i 0) ≡ true) → valid f bs ≡ true
+unfolding valid fitsAt
+fits-valid f [] size some h = absurd (omega arith)
+fits-valid f (b ∷ bs) size some h =
+    rw (eq-eqb (length (b ∷ bs)) (sizeOf f) size, h 0 (omega arith), later-valid f bs (λ i l. rw (eqb·suc-zero i) at (h (suc i) (omega arith))))
