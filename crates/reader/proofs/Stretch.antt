@@ -77,11 +77,11 @@ module _ (f : Format) (passages : List Passage) (going : Going) (given pre old n
       (rw (same-words front) h))
 
 -- what is left of bytes is legal
-legal-left : {left bytes : List ℕ} → Sub left bytes → lineWords bytes ≡ true → lineWords left ≡ true
+left-legal : {left bytes : List ℕ} → Sub left bytes → lineWords bytes ≡ true → lineWords left ≡ true
 unfolding lineWords
-legal-left none h = h
-legal-left (gone {b} {bytes} d) h = legal-left d (right (leb b 257) (lineWords bytes) h)
-legal-left (stays {b} {bytes} d) h = rw (left (leb b 257) (lineWords bytes) h) (legal-left d (right (leb b 257) (lineWords bytes) h))
+left-legal none h = h
+left-legal (gone {b} {bytes} d) h = left-legal d (right (leb b 257) (lineWords bytes) h)
+left-legal (stays {b} {bytes} d) h = rw (left (leb b 257) (lineWords bytes) h) (left-legal d (right (leb b 257) (lineWords bytes) h))
 
 legal-break : (words : List ℕ) → lineWords words ≡ true → lineWords (break ∷ words) ≡ true
 unfolding lineWords
@@ -103,7 +103,7 @@ module _ (f : Format) (m : markedOf f ≡ true) (given : List ℕ) (v : Given gi
       let p = whole-report f r (t .0 .1) in
       alone (passageWords before ++ (left ++ (passageWords after ++ goingWords going))) (before ++ after)
       (legal-append (passageWords before) (left ++ (passageWords after ++ goingWords going)) (passages-legal f before b)
-      (legal-append left (passageWords after ++ goingWords going) (legal-left d (fits-legal f [] (bytesOf f r) (p .0))) (line-legal f after going (t .1) g)))
+      (legal-append left (passageWords after ++ goingWords going) (left-legal d (fits-legal f [] (bytesOf f r) (p .0))) (line-legal f after going (t .1) g)))
       (rw (← same-words before, ← same-words after, finished-append f before after, ← same-finished f before b, ← same-finished f after (t .1))
       (replaced.removed (frameOf f) (is-marked f m) (segments before) (sound f before b) (bytesOf f r) left (segments after) (goingWords going)
       p d (rw (bytes-length f r) h) (sound f after (t .1)) (sound-going f going g)))
@@ -117,7 +117,7 @@ module _ (f : Format) (m : markedOf f ≡ true) (given : List ℕ) (v : Given gi
       let p = part-report f n r (t .0 .1) (t .0 .2) in
       alone (passageWords before ++ (left ++ (break ∷ (passageWords after ++ goingWords going)))) (before ++ after)
       (legal-append (passageWords before) (left ++ (break ∷ (passageWords after ++ goingWords going))) (passages-legal f before b)
-      (legal-append left (break ∷ (passageWords after ++ goingWords going)) (legal-left d (fits-legal f [] (take n (bytesOf f r)) (p .0)))
+      (legal-append left (break ∷ (passageWords after ++ goingWords going)) (left-legal d (fits-legal f [] (take n (bytesOf f r)) (p .0)))
       (legal-break (passageWords after ++ goingWords going) (line-legal f after going (t .1) g))))
       (rw (← same-words before, ← same-words after, finished-append f before after, ← same-finished f before b, ← same-finished f after (t .1))
       (replaced.removed-cut (frameOf f) (is-marked f m) (segments before) (sound f before b) (take n (bytesOf f r)) left (segments after) (goingWords going)
@@ -128,6 +128,6 @@ module _ (f : Format) (m : markedOf f ≡ true) (given : List ℕ) (v : Given gi
   lost-going passages n r left s g d =
       let p = sound-going f (report n f r) g in
       alone (passageWords passages ++ left) passages
-      (legal-append (passageWords passages) left (passages-legal f passages s) (legal-left d (fits-legal f [] (take n (bytesOf f r)) (p .0))))
+      (legal-append (passageWords passages) left (passages-legal f passages s) (left-legal d (fits-legal f [] (take n (bytesOf f r)) (p .0))))
       (rw (← same-words passages, ← same-finished f passages s)
       (replaced.removed-going (frameOf f) (is-marked f m) (segments passages) (sound f passages s) (take n (bytesOf f r)) left p d))
