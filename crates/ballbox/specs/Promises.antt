@@ -38,7 +38,7 @@ stepOf b e =
     (cond (aboveSeven e) (refused badButtons b)
     (cond (b .dormant) (asleep b e) (awake b e)))
 
--- an answer that is no refusal, or has a number of the two and "returns the old state, no word"
+-- an answer that is no refusal, or has a number of the two and "returns the old state [..], no word"
 pub data RefusesRightly (b : BallBox) (a : Answer) : Type 0 where
   accepted : a .refusal ≡ success → RefusesRightly b a
   refusal : (n : ℕ) → (eqb n badState || eqb n badButtons) ≡ true → a ≡ refused n b → RefusesRightly b a

@@ -15,27 +15,23 @@ use Rattle.listing.specs.declared.Lister.{Lister}
 use Rattle.listing.specs.declared.Listed.{Listed}
 use Rattle.listing.proofs.Calls.{good-within, next-good, takes-all, tells-ended, goes-on}
 use Rattle.listing.proofs.Ended.{never-passed}
-use Rattle.mlist.specs.Blocks.{Leaves}
+use Rattle.mlist.specs.Blocks.{Fed, Leaves}
 
-module _ (m : Lister) (n : ℕ) (input before after : List ℕ) (a : Listed) (g : good m ≡ true) (p : FeedPromise m (take n input) before a after) where
-  pub taken : 1 ≤ n → n ≤ length input → enough * length input ≤ length before → (shown : Bool) → Leaves m input before after (a .next) (shown && not (a .ended))
-  taken some there room shown =
-      let long = length-take-le n input there in
-      inr (record {
-        count = n;
-        some = some;
-        there = there;
-        answer = a;
-        feeds = p;
-        whole = takes-all m (take n input) before after a g p (omega (arith, long)) ∙ long;
-        same = refl;
-        going = λ e. not-true (a .ended) (right shown (not (a .ended)) e);
-      })
+pub taken : (m : Lister) (bytes before after : List ℕ) (a : Listed) → good m ≡ true → FeedPromise m bytes before a after → enough * length bytes ≤ length before → (shown : Bool)
+    → Fed m bytes before after (a .next) (shown && not (a .ended))
+taken m bytes before after a g p room shown =
+    record {
+      answer = a;
+      feeds = p;
+      whole = takes-all m bytes before after a g p room;
+      same = refl;
+      going = λ e. not-true (a .ended) (right shown (not (a .ended)) e);
+    }
 
 module _ (m : Lister) (input before after : List ℕ) (next : Lister) (on : Bool) (g : good m ≡ true) where
   pub stays-good : Leaves m input before after next on → good next ≡ true
   stays-good (inl h) = ap good (h .0) ∙ g
-  stays-good (inr h) = ap good (sym (h .same)) ∙ next-good m (take (h .count) input) before after (h .answer) g (h .feeds)
+  stays-good (inr h) = ap good (sym (h .fed .same)) ∙ next-good m (take (h .count) input) before after (h .fed .answer) g (h .fed .feeds)
 
   -- by which the loop falls
   pub falls : Leaves m input before after next on → cond on (mostBytes - passed next) 0 < mostBytes - passed m
@@ -46,7 +42,9 @@ module _ (m : Lister) (input before after : List ℕ) (next : Lister) (on : Bool
       go true e (inl h) = absurd (true≢false (h .1))
       go true e (inr h) =
           let piece = take (h .count) input in
-          let not-ended : h .answer .next .place .ended ≡ false = sym (tells-ended m piece before after (h .answer) g (h .feeds)) ∙ h .going refl in
-          rw (sym (h .same))
-          (⊎-elim (λ q. absurd (true≢false (sym q ∙ not-ended))) (λ n. omega (arith, n, h .some, h .whole, never-passed m (good-within m g)))
-          (goes-on m piece before after (h .answer) g (h .feeds)))
+          let f = h .fed in
+          let not-ended : f .answer .next .place .ended ≡ false = sym (tells-ended m piece before after (f .answer) g (f .feeds)) ∙ f .going refl in
+          rw (sym (f .same))
+          (⊎-elim (λ q. absurd (true≢false (sym q ∙ not-ended)))
+          (λ n. omega (arith, n, h .some, f .whole, length-take-le (h .count) input (h .there), never-passed m (good-within m g)))
+          (goes-on m piece before after (f .answer) g (f .feeds)))

@@ -9,17 +9,21 @@ use Rattle.listing.specs.Promises.{FeedPromise}
 use Rattle.listing.specs.declared.Lister.{Lister}
 use Rattle.listing.specs.declared.Listed.{Listed}
 
--- a lister was fed the bytes that were read, one or more, and took all of them; more is to be read only if it has not ended
-pub record Fed (m : Lister) (input before after : List ℕ) (next : Lister) (on : Bool) : Type 0 where
-  pub count : ℕ
-  pub some : 1 ≤ count
-  pub there : count ≤ length input
+-- a lister was fed bytes and took all of them, with its text in the slice; more is to be read only if it has not ended
+pub record Fed (m : Lister) (bytes before after : List ℕ) (next : Lister) (on : Bool) : Type 0 where
   pub answer : Listed
-  pub feeds : FeedPromise m (take count input) before answer after
-  pub whole : answer .taken ≡ count
+  pub feeds : FeedPromise m bytes before answer after
+  pub whole : answer .taken ≡ length bytes
   pub same : answer .next ≡ next
   pub going : on ≡ true → answer .ended ≡ false
 
--- nothing was read, and nothing more is to be read; or a block was
+-- it was fed the first bytes of the buffer, one or more
+pub record FedFront (m : Lister) (input before after : List ℕ) (next : Lister) (on : Bool) : Type 0 where
+  pub count : ℕ
+  pub some : 1 ≤ count
+  pub there : count ≤ length input
+  pub fed : Fed m (take count input) before after next on
+
+-- or nothing was read, and nothing more is to be read
 abbrev pub Leaves : Lister → List ℕ → List ℕ → List ℕ → Lister → Bool → Type 0
-Leaves m input before after next on = ((next ≡ m) × (on ≡ false)) ⊎ Fed m input before after next on
+Leaves m input before after next on = ((next ≡ m) × (on ≡ false)) ⊎ FedFront m input before after next on

@@ -5,7 +5,7 @@ ghost use Prim.Native.Nat.{_*_, _≤_};
 ghost use lib.ListN.{length};
 ghost use Rattle.listing.specs.Machine.{good};
 ghost use Rattle.listing.specs.Promises.{enough};
-ghost use Rattle.mlist.specs.Blocks.{Leaves};
+ghost use Rattle.mlist.specs.Blocks.{Fed, Leaves};
 use libc::STDIN_FILENO;
 use libc::STDOUT_FILENO;
 use listing::Lister;
@@ -23,7 +23,22 @@ fn show(out: &[u8], count: usize) -> bool
     io::write_all(STDOUT_FILENO, &out[..count])
 }
 
-// A block of the input. With forty places for each of its bytes all of it is taken.
+// Bytes of the input, and their text to standard output. With forty places for each of them all are taken.
+fn list(lister: Lister, bytes: &[u8], out: &mut [u8]) -> Went
+    requires { ⌜ good lister ≡ true ⌝ }
+    requires { ⌜ enough * length (now bytes) ≤ length (now out) ⌝ }
+    ensures { λ r. ⌜ Fed lister (now (bytes .entry)) (now (out .entry)) (now (out .exit)) (r .next) (r .on) ⌝ }
+{
+    let listed = lister.feed(bytes, out);
+    let next = listed.next;
+    let is_shown = show(out, listed.written);
+    Went {
+        next: next,
+        on: is_shown & !listed.ended,
+    }
+}
+
+// A block of the input: what a read brought is listed, and where it brought nothing the input is over.
 fn block(lister: Lister, input: &mut [u8], out: &mut [u8]) -> Went
     requires { ⌜ good lister ≡ true ⌝ }
     requires { ⌜ enough * length (now input) ≤ length (now out) ⌝ }
@@ -37,13 +52,7 @@ fn block(lister: Lister, input: &mut [u8], out: &mut [u8]) -> Went
             on: false,
         };
     }
-    let listed = lister.feed(&input[..n], out);
-    let next = listed.next;
-    let is_shown = show(out, listed.written);
-    Went {
-        next: next,
-        on: is_shown & !listed.ended,
-    }
+    list(lister, &input[..n], out)
 }
 
 // The blocks, one after the other, until the input is over or the listing has ended: nothing is read after its end.
