@@ -4,7 +4,8 @@ use mathlib.Core.List.{[], _∷_}
 use native.Mathlib.Omega.{arith}
 use Rattle.numbers.specs.Bits.{number, bit}
 use Rattle.numbers.specs.Signed.{held}
-use Rattle.wire.specs.Line.{silence, namedBy, sizeBy}
+use Rattle.frames.specs.Words.{silence}
+use Rattle.wire.specs.Line.{namedBy, sizeBy}
 use Rattle.wire.specs.Table.{bytesU, bytesBy}
 use Rattle.ballbox.specs.Box.{Answer, freshBox, goingFrom}
 use Rattle.ballbox.specs.Motion.{apart, hasMoved}

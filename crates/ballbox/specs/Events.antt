@@ -5,7 +5,8 @@ use mathlib.Core.Bool.{Bool, true, false, not, cond, _&&_, _||_}
 use mathlib.Core.List.{List, [], _∷_}
 use lib.Dec.{eqb, ltb}
 use lib.IntN.{ℤ}
-use Rattle.wire.specs.Line.{break, silence, letterOf}
+use Rattle.frames.specs.Words.{break, silence}
+use Rattle.wire.specs.Line.{letterOf}
 use Rattle.wire.specs.Reading.{at}
 use Rattle.wire.specs.declared.Format.the-variants.{FiveByte}
 use Rattle.ballbox.specs.Box.{modeO, nothing, withButtons, withTrack, withGoing, withDue, withDormant, Answer, gives, quietly}

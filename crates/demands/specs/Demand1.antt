@@ -9,7 +9,8 @@ use mathlib.Core.List.{List, _∷_, _++_}
 use mathlib.Core.Logic.{_⊎_}
 use lib.ListN.{length, getD}
 use lib.IntN.{ℤ}
-use Rattle.wire.specs.Line.{silence, known, letterOf}
+use Rattle.frames.specs.Words.{silence}
+use Rattle.wire.specs.Line.{known, letterOf}
 use Rattle.wire.specs.Numbers.{success, badState, badLetter, badButtons, badWord}
 use Rattle.wire.specs.Encoder.{refusalOf, lengthOf}
 use Rattle.wire.specs.Promises.{SizePromise, MarkedPromise, FitsPromise, ReportPromise, EncodePromise, RefusalPromise, LengthPromise}

@@ -4,7 +4,8 @@ use Prim.Native.Nat.{ℕ}
 use mathlib.Core.Path.{_≡_, sym, _∙_}
 use mathlib.Core.Bool.{Bool, true, false, cond}
 use mathlib.Core.List.{List, [], _∷_, _++_}
-use Rattle.wire.specs.Line.{letterOf, markedOf, break, lineWords}
+use Rattle.frames.specs.Words.{break, lineWords}
+use Rattle.wire.specs.Line.{letterOf, markedOf}
 use Rattle.wire.specs.Holds.{carried}
 use Rattle.wire.specs.Passages.{Passage, silent, finished, passageWords, Going, nothing, goingWords, Unbroken, finishedReports}
 use Rattle.wire.specs.declared.Report.{Report}

@@ -8,7 +8,8 @@ use borrow.Author.Tests.{leb-true, leb-false}
 use lib.ListN.{take, getD, List·getD-eq-default}
 use lib.Dec.{leb, lit≤}
 use lib.IntN.{ℤ, pos}
-use Rattle.wire.specs.Line.{letterOf, silence, sizeBy}
+use Rattle.frames.specs.Words.{silence}
+use Rattle.wire.specs.Line.{letterOf, sizeBy}
 use Rattle.wire.specs.Reading.{report}
 use Rattle.wire.specs.Numbers.{success}
 use Rattle.wire.specs.Encoder.{refusalOf}

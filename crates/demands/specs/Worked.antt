@@ -7,7 +7,8 @@ use native.Mathlib.Omega.{arith}
 use lib.IntN.{pos}
 use Rattle.numbers.specs.Bits.{number, bit}
 use Rattle.numbers.specs.Signed.{minus, twos, held, heldSum}
-use Rattle.wire.specs.Line.{letterOf, namedBy, sizeBy, lineWords}
+use Rattle.frames.specs.Words.{lineWords}
+use Rattle.wire.specs.Line.{letterOf, namedBy, sizeBy}
 use Rattle.wire.specs.Table.{bytesS, bytesU, bytesBy}
 use Rattle.wire.specs.Reading.{report}
 use Rattle.wire.specs.Passages.{silent, finished, nothing, passagesOver, goingOver}

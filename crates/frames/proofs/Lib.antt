@@ -1,5 +1,8 @@
--- What a reader hands out: over words, over the bytes of reports (Reading), in a marked format after any words (Marks), and over a line of which
--- a stretch was replaced (Replaced).
+-- Passages in two parts (Passages); the words of a sender are those of its passages (Sender); what a reader hands out: over words, over the bytes
+-- of reports (Reading), in a marked format after any words (Marks), and over a line of which a stretch was replaced (Replaced).
+pub mod Passages
+pub mod Sender
 pub mod Reading
 pub mod Marks
 pub mod Replaced
+pub mod Words

@@ -2,8 +2,9 @@
 use mathlib.Core.Path.{_≡_, refl, _∙_, ap}
 use mathlib.Core.Bool.{Bool, true, false, cond}
 use mathlib.Core.List.{[], _∷_}
-use Rattle.wire.specs.Line.{letterOf, break}
-use Rattle.wire.specs.Passages.{nothing}
+use Rattle.frames.specs.Words.{break}
+use Rattle.wire.specs.Line.{letterOf}
+use Rattle.frames.specs.Passages.{nothing}
 use Rattle.wire.specs.declared.Format.{Format}
 use Rattle.wire.specs.declared.Format.the-variants.{Mm, Microsoft, Absolute, Relative, FiveByte, ThreeByte, Hexadecimal}
 use Rattle.ballbox.specs.Box as box
@@ -52,7 +53,7 @@ set-to f b a k d p =
       good = rw (← e) (ap (λ (x : box.Answer). good (x .next)) p ∙ stepped-good b (Host (letterOf f)) k);
       awake = dropped-alike b .dormant ∙ d;
       format = refl;
-      carries = record { line = none-left b; rightly = tt };
+      carries = none-left b;
       sound = tt;
     })
 

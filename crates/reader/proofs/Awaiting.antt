@@ -9,7 +9,8 @@ use lib.Dec.{eqb}
 use lib.ListN.{length}
 use lib.IntN.{ℤ}
 use borrow.Author.Tests.{eqb-false}
-use Rattle.wire.specs.Line.{silence, letterOf, namedBy, markedBy, known}
+use Rattle.frames.specs.Words.{silence}
+use Rattle.wire.specs.Line.{letterOf, namedBy, markedBy, known}
 use Rattle.wire.specs.declared.Format.the-variants.{FiveByte}
 use Rattle.reader.specs.State.{fresh}
 use Rattle.reader.specs.Good.{good}

@@ -10,7 +10,8 @@ use lib.ListN.{take, drop}
 use lib.Dec.{eqb}
 use lib.IntN.{ℤ}
 use borrow.Author.Tests.{eqb-false}
-use Rattle.wire.specs.Line.{break, silence, sizeBy}
+use Rattle.frames.specs.Words.{break, silence}
+use Rattle.wire.specs.Line.{sizeBy}
 use Rattle.wire.specs.Numbers.{badState}
 use Rattle.reader.specs.Good.{good}
 use Rattle.reader.specs.Rules.{entered, dropping, finishes, keep, start, lose, breakOf, silenceOf, wordOf}

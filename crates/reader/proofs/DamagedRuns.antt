@@ -8,7 +8,8 @@ use lib.ListN.{getD}
 use lib.IntN.{ℤ, pos}
 use Rattle.numbers.specs.Bits.{bit, bits, number}
 use Rattle.numbers.specs.Signed.{minus, twos, untwos, signed}
-use Rattle.wire.specs.Line.{letterOf, namedBy, sizeBy, markedBy, known, lineWords}
+use Rattle.frames.specs.Words.{lineWords}
+use Rattle.wire.specs.Line.{letterOf, namedBy, sizeBy, markedBy, known}
 use Rattle.wire.specs.Table.{bytesOf, bytesS, bytesT, bytesU}
 use Rattle.wire.specs.Holds.{holds, accepted}
 use Rattle.wire.specs.Fits.{like, fitsFirst, fitsLater, fitsAt, fitsBy}

@@ -11,7 +11,8 @@ use lib.Dec.{leb, eqb}
 use borrow.Author.Tests.{leb-true, leb-false, eqb-true, eqb-false, ne-eqb}
 use Rattle.reader.proofs.Sentences.{awaits-only-unmarked}
 use Rattle.numbers.proofs.Tested.{left, right}
-use Rattle.wire.specs.Line.{isByte, letterOf, namedBy, sizeOf, markedOf, sizeBy, markedBy, known, lineWords}
+use Rattle.frames.specs.Words.{isByte, lineWords}
+use Rattle.wire.specs.Line.{letterOf, namedBy, sizeOf, markedOf, sizeBy, markedBy, known}
 use Rattle.wire.specs.Fits.{fitsAt}
 use Rattle.wire.specs.Reading.{reportOf, reportBy}
 use Rattle.wire.specs.Numbers.{success}

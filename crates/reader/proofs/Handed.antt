@@ -9,7 +9,8 @@ use native.Mathlib.Omega.{arith}
 use lib.ListN.{length, getD, take, drop, List·getD-map}
 use lib.Seq.{drop-at}
 use lib.IntN.{ℤ}
-use Rattle.wire.specs.Line.{break, letterOf, markedOf, lineWords}
+use Rattle.frames.specs.Words.{break, lineWords}
+use Rattle.wire.specs.Line.{letterOf, markedOf}
 use Rattle.wire.specs.declared.Report.{Report}
 use Rattle.wire.specs.declared.Format.{Format}
 use Rattle.frames.specs.Frame.{State, has, waits, moveOf, fresh, step}

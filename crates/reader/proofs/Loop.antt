@@ -10,7 +10,8 @@ use lib.ListN.{length, getD, take, drop, length-append, length-drop, take-append
 use lib.Seq.{take-all, drop-cons, take-at, drop-at, length-take-le}
 use lib.IntN.{ℤ}
 use borrow.Rule.Slice.PartMut.{putMid}
-use Rattle.wire.specs.Line.{isByte, sizeBy}
+use Rattle.frames.specs.Words.{isByte}
+use Rattle.wire.specs.Line.{sizeBy}
 use Rattle.reader.specs.Rules.{wordOf}
 use Rattle.reader.specs.Counts.{byteIn}
 use Rattle.reader.specs.Line.{Long, whole, stopped, joined, lineOf}

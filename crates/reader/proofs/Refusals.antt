@@ -9,7 +9,8 @@ use native.Mathlib.Omega.{arith}
 use lib.ListN.{length, getD, drop}
 use lib.IntN.{ℤ}
 use borrow.Author.Tests.{lt-leb, ne-eqb}
-use Rattle.wire.specs.Line.{break, silence, known, letterOf}
+use Rattle.frames.specs.Words.{break, silence}
+use Rattle.wire.specs.Line.{known, letterOf}
 use Rattle.wire.specs.Numbers.{success, badState, badLetter, badWord}
 use Rattle.wire.specs.declared.Format.the-variants.{FiveByte}
 use Rattle.reader.specs.State.{fresh}

@@ -12,7 +12,8 @@ use lib.Dec.{leb}
 use borrow.Author.Tests.{le-leb}
 use Rattle.wire.proofs.Front.{size-between}
 use Rattle.numbers.proofs.Tested.{left, right}
-use Rattle.wire.specs.Line.{sizeOf, lineWords}
+use Rattle.frames.specs.Words.{lineWords}
+use Rattle.wire.specs.Line.{sizeOf}
 use Rattle.wire.specs.Table.{bytesOf}
 use Rattle.wire.specs.Holds.{accepted}
 use Rattle.wire.specs.Fits.{fitsAt}

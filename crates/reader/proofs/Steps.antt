@@ -11,7 +11,7 @@ use lib.Dec.{leb}
 use lib.IntN.{ℤ}
 use borrow.Author.Tests.{leb-true, eq-eqb}
 use Rattle.numbers.proofs.Tested.{left, right}
-use Rattle.wire.specs.Line.{silence, lineWords}
+use Rattle.frames.specs.Words.{silence, lineWords}
 use Rattle.wire.specs.Numbers.{success}
 use Rattle.reader.specs.Good.{good}
 use Rattle.reader.specs.Rules.{wordOf}

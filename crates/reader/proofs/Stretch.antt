@@ -9,7 +9,8 @@ use lib.Dec.{leb}
 use Rattle.wire.proofs.Passages.{passages-append, sound-left, sound-right, finished-append}
 use Rattle.wire.proofs.Front.{size-between}
 use Rattle.numbers.proofs.Tested.{left, right}
-use Rattle.wire.specs.Line.{break, sizeOf, markedOf, lineWords}
+use Rattle.frames.specs.Words.{break, lineWords}
+use Rattle.wire.specs.Line.{sizeOf, markedOf}
 use Rattle.wire.specs.Table.{bytesOf}
 use Rattle.wire.specs.Holds.{accepted, carried}
 use Rattle.wire.specs.Reading.{reportOf}

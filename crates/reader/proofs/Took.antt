@@ -7,7 +7,8 @@ use native.Mathlib.Nat.{zero-add}
 use native.Mathlib.Numerals.{one-add}
 use lib.ListN.{length}
 use lib.IntN.{ℤ}
-use Rattle.wire.specs.Line.{letterOf, lineWords}
+use Rattle.frames.specs.Words.{lineWords}
+use Rattle.wire.specs.Line.{letterOf}
 use Rattle.wire.specs.declared.Report.{Report}
 use Rattle.wire.specs.declared.Format.{Format}
 use Rattle.reader.specs.State.{fiveOf}

@@ -9,7 +9,8 @@ use lib.ListN.{length, drop}
 use lib.Dec.{eqb}
 use lib.IntN.{ℤ}
 use borrow.Author.Tests.{eqb-true, ltb-false}
-use Rattle.wire.specs.Line.{silence, sizeBy}
+use Rattle.frames.specs.Words.{silence}
+use Rattle.wire.specs.Line.{sizeBy}
 use Rattle.wire.specs.Numbers.{success, badWord}
 use Rattle.reader.specs.State.{fiveOf}
 use Rattle.reader.specs.Rules.{wordOf}

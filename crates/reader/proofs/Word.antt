@@ -7,7 +7,8 @@ use native.Mathlib.Omega.{arith}
 use lib.Dec.{eqb}
 use borrow.Author.Tests.{eqb-true, eqb-false, leb-false}
 use Rattle.numbers.proofs.Tested.{left, right, holds}
-use Rattle.wire.specs.Line.{isByte, break, silence, sizeBy, markedBy}
+use Rattle.frames.specs.Words.{isByte, break, silence}
+use Rattle.wire.specs.Line.{sizeBy, markedBy}
 use Rattle.wire.specs.Fits.{fitsBy}
 use Rattle.wire.specs.Numbers.{success, badWord}
 use Rattle.reader.specs.Rules.{entered, refusing, dropping, alone, fitting, finishes, starting, straying, keep, start, stray, lose, byteOf, breakOf, silenceOf, wordOf}

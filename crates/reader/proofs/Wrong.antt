@@ -7,7 +7,8 @@ use lib.ListN.{length, getD, replicate}
 use lib.IntN.{ℤ, pos, natAbs}
 use Rattle.numbers.specs.Bits.{bit, bits, number}
 use Rattle.numbers.specs.Signed.{signed}
-use Rattle.wire.specs.Line.{break, namedBy, sizeBy, markedBy, known}
+use Rattle.frames.specs.Words.{break}
+use Rattle.wire.specs.Line.{namedBy, sizeBy, markedBy, known}
 use Rattle.wire.specs.Fits.{like, fitsFirst, fitsLater, fitsAt, fitsBy}
 use Rattle.wire.specs.Reading.{readS, reportBy}
 use Rattle.reader.specs.State.{reader, fresh, ready}

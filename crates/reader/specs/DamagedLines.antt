@@ -5,7 +5,8 @@ use mathlib.Core.Bool.{true}
 use mathlib.Core.List.{List, [], _∷_, _++_}
 use lib.ListN.{length, take, drop, getD}
 use lib.IntN.{ℤ}
-use Rattle.wire.specs.Line.{break, letterOf, sizeOf, lineWords}
+use Rattle.frames.specs.Words.{break, lineWords}
+use Rattle.wire.specs.Line.{letterOf, sizeOf}
 use Rattle.wire.specs.Table.{bytesOf}
 use Rattle.wire.specs.Passages.{Passage, finished, broken, passageWords, Sound, SoundGoing, Going, report, goingWords}
 use Rattle.wire.specs.Numbers.{success}

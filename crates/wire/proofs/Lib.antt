@@ -1,5 +1,5 @@
--- The laws of the seven formats (Codec), their letters (Letters), the encoder (Accepts), what follows from the promises (Answers), passages in two
--- parts (Passages) and a sender of them (Sender), and what the functions' proofs share.
+-- The laws of the seven formats (Codec), their letters (Letters), the encoder (Accepts), what follows from the promises (Answers),
+-- and what the functions' proofs share.
 pub mod Answers
 pub mod Codec
 pub mod Accepts
@@ -8,5 +8,3 @@ pub mod FixedBits
 pub mod Front
 pub mod Letters
 pub mod Sums
-pub mod Passages
-pub mod Sender

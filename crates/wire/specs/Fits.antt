@@ -6,7 +6,8 @@ use lib.ListN.{length}
 use lib.Dec.{leb, eqb}
 use Rattle.numbers.specs.Bits.{bit}
 use Rattle.numbers.specs.Parity.{even}
-use Rattle.wire.specs.Line.{isByte, namedBy, ofNamed, sizeOf}
+use Rattle.frames.specs.Words.{isByte}
+use Rattle.wire.specs.Line.{namedBy, ofNamed, sizeOf}
 use Rattle.wire.specs.declared.Format.{Format}
 use Rattle.wire.specs.declared.Format.the-variants.{Mm, Microsoft, Absolute, Relative, FiveByte, ThreeByte, Hexadecimal}
 
