@@ -8,11 +8,8 @@ use native.Mathlib.Numerals.{add-one}
 use native.Mathlib.Omega.{arith}
 use lib.ListN.{length, getD, take, length-append, length-take}
 use lib.Seq.{getD-take}
-use lib.Dec.{leb}
-use borrow.Author.Tests.{le-leb}
 use Rattle.wire.proofs.Front.{size-between}
-use Rattle.numbers.proofs.Tested.{left, right}
-use Rattle.wire.specs.Line.{sizeOf, lineWords}
+use Rattle.wire.specs.Line.{sizeOf}
 use Rattle.wire.specs.Table.{bytesOf}
 use Rattle.wire.specs.Holds.{accepted}
 use Rattle.wire.specs.Fits.{fitsAt}
@@ -22,27 +19,8 @@ use Rattle.wire.specs.declared.Format.{Format}
 use Rattle.wire.proofs.Codec.{bytes-length, bytes-fit, there}
 use Rattle.frames.specs.Line.{Segment, silence, sent, cut, words, Calm, Fits, Full, Short, Part}
 use Rattle.frames.specs.Line as line
-use Rattle.reader.proofs.Framed.{frameOf, laws}
-
--- legal words, joined and taken apart
-pub legal-append : (u v : List ℕ) → lineWords u ≡ true → lineWords v ≡ true → lineWords (u ++ v) ≡ true
-unfolding lineWords
-legal-append [] v h k = k
-legal-append (w ∷ u) v h k = rw (left (leb w 257) (lineWords u) h) (legal-append u v (right (leb w 257) (lineWords u) h) k)
-
-legal-left : (u v : List ℕ) → lineWords (u ++ v) ≡ true → lineWords u ≡ true
-unfolding lineWords
-legal-left [] v h = refl
-legal-left (w ∷ u) v h = rw (left (leb w 257) (lineWords (u ++ v)) h) (legal-left u v (right (leb w 257) (lineWords (u ++ v)) h))
-
-legal-right : (u v : List ℕ) → lineWords (u ++ v) ≡ true → lineWords v ≡ true
-unfolding lineWords
-legal-right [] v h = h
-legal-right (w ∷ u) v h = legal-right u v (right (leb w 257) (lineWords (u ++ v)) h)
-
-pub legal-replaced : (pre old post new : List ℕ) → lineWords (pre ++ (old ++ post)) ≡ true → lineWords new ≡ true → lineWords (pre ++ (new ++ post)) ≡ true
-legal-replaced pre old post new h k =
-    legal-append pre (new ++ post) (legal-left pre (old ++ post) h) (legal-append new post k (legal-right old post (legal-right pre (old ++ post) h)))
+use Rattle.reader.proofs.Framed.{frameOf}
+use Rattle.reader.proofs.AsSent.{asSent, sent-none, sent-append, sent-break, sent-silence, sent-fits}
 
 abbrev pub segmentOf : Passage → Segment
 segmentOf silent = silence
@@ -139,26 +117,19 @@ module _ (f : Format) where
   same-finished [] s = refl
   same-finished (p ∷ passages) s = rw (finished-of p (s .0), same-finished passages (s .1))
 
-  -- the words of a line are legal
-  pub fits-legal : (k bytes : List ℕ) → Fits (frameOf f) k bytes → lineWords bytes ≡ true
-  unfolding lineWords
-  fits-legal k [] h = refl
-  fits-legal k (b ∷ bytes) h = rw (le-leb b 257 (omega (arith, laws f .byte k b (h .0)))) (fits-legal (k ++ (b ∷ [])) bytes (h .1))
+  -- the words of a line are as sent
+  sent-of : (s : Segment) → line.SoundOf (frameOf f) s → asSent f (line.wordsOf s) ≡ true
+  sent-of silence h = sent-silence f
+  sent-of (sent bytes) h = sent-fits f [] bytes (h .0)
+  sent-of (cut bytes) h = sent-append f bytes (256 ∷ []) (sent-fits f [] bytes (h .0)) (sent-break f [] (sent-none f))
 
-  legal-of : (s : Segment) → line.SoundOf (frameOf f) s → lineWords (line.wordsOf s) ≡ true
-  unfolding lineWords
-  legal-of silence h = refl
-  legal-of (sent bytes) h = fits-legal [] bytes (h .0)
-  legal-of (cut bytes) h = legal-append bytes (256 ∷ []) (fits-legal [] bytes (h .0)) refl
+  sent-words : (l : List Segment) → line.Sound (frameOf f) l → asSent f (words l) ≡ true
+  sent-words [] h = sent-none f
+  sent-words (s ∷ l) h = sent-append f (line.wordsOf s) (words l) (sent-of s (h .0)) (sent-words l (h .1))
 
-  legal-words : (l : List Segment) → line.Sound (frameOf f) l → lineWords (words l) ≡ true
-  unfolding lineWords
-  legal-words [] h = refl
-  legal-words (s ∷ l) h = legal-append (line.wordsOf s) (words l) (legal-of s (h .0)) (legal-words l (h .1))
+  pub passages-sent : (passages : List Passage) → Sound f passages → asSent f (passageWords passages) ≡ true
+  passages-sent passages s = rw same-words at (sent-words (segments passages) (sound passages s))
 
-  pub passages-legal : (passages : List Passage) → Sound f passages → lineWords (passageWords passages) ≡ true
-  passages-legal passages s = rw same-words at (legal-words (segments passages) (sound passages s))
-
-  pub line-legal : (passages : List Passage) (going : Going) → Sound f passages → SoundGoing f going → lineWords (passageWords passages ++ goingWords going) ≡ true
-  line-legal passages going s g =
-      legal-append (passageWords passages) (goingWords going) (passages-legal passages s) (fits-legal [] (goingWords going) (sound-going going g .0))
+  pub line-sent : (passages : List Passage) (going : Going) → Sound f passages → SoundGoing f going → asSent f (passageWords passages ++ goingWords going) ≡ true
+  line-sent passages going s g =
+      sent-append f (passageWords passages) (goingWords going) (passages-sent passages s) (sent-fits f [] (goingWords going) (sound-going going g .0))
