@@ -2,7 +2,7 @@
 use Prim.Native.Nat.{ℕ}
 use mathlib.Core.Path.{_≡_, refl}
 use mathlib.Core.List.{List, [], _∷_, _++_, append-assoc}
-use Rattle.frames.specs.Passages.{Passage, silent, finished, broken, UnderWay, nothing, first, finishedIn, finishedBy, passageWords, SoundOf, Sound, SoundPart}
+use Rattle.frames.specs.Passages.{Passage, silent, finished, broken, UnderWay, nothing, first, finishedIn, finishedBy, passageWords, Lost, of-finished, of-broken, of-going, SoundOf, Sound, SoundPart}
 
 module _ {K : Type 0} (bytes : K → List ℕ) where
   pub passages-append : (a b : List (Passage K)) → passageWords bytes (a ++ b) ≡ passageWords bytes a ++ passageWords bytes b
@@ -21,6 +21,14 @@ module _ {K : Type 0} (bytes : K → List ℕ) where
     pub sound-right : (a b : List (Passage K)) → Sound bytes Test (a ++ b) → Sound bytes Test b
     sound-right [] b s = s
     sound-right (p ∷ a) b s = sound-right a b (s .1)
+
+    -- the passages other than the report that lost bytes
+    pub others-sound : {passages others : List (Passage K)} {going : UnderWay K} {words : List ℕ} → Sound bytes Test passages → Lost bytes passages going words others → Sound bytes Test others
+    others-sound s (of-finished before after going k left d h) =
+        sound-append before after (sound-left before (finished k ∷ after) s) (sound-right before (finished k ∷ after) s .1)
+    others-sound s (of-broken before after going n k left d) =
+        sound-append before after (sound-left before (broken n k ∷ after) s) (sound-right before (broken n k ∷ after) s .1)
+    others-sound s (of-going passages n k left d) = s
 
   -- where one test gives another
   module _ (Test Other : K → Type 0) (gives : (k : K) → Test k → Other k) where

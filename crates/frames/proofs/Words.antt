@@ -1,93 +1,93 @@
--- Legal words, joined and taken apart; the words of a line are legal.
+-- Words that each pass a test: joined, taken apart, and the words of a line.
 use Prim.Native.Nat.{ℕ}
 use mathlib.Core.Path.{_≡_, refl}
-use mathlib.Core.Bool.{true}
+use mathlib.Core.Bool.{Bool, true, _&&_}
 use mathlib.Core.List.{List, [], _∷_, _++_}
-use native.Mathlib.Omega.{arith}
 use lib.ListN.{take}
-use lib.Dec.{leb}
-use borrow.Author.Tests.{le-leb}
+use Rattle.numbers.proofs.Choices.{both}
 use Rattle.numbers.proofs.Tested.{left, right}
-use Rattle.frames.specs.Words.{silence, break, lineWords}
+use Rattle.frames.specs.Words.{silence, break}
 use Rattle.frames.specs.Passages.{Passage, silent, finished, broken, UnderWay, nothing, first, Sub, none, gone, stays, wordsOf, passageWords, partWords, Lost, of-finished, of-broken, of-going, SoundOf, Sound, SoundPart}
-use Rattle.frames.specs.Frame.{Frame, Fits, Framed, Laws}
+use Rattle.frames.specs.Frame.{Frame, Fits, Framed}
 use Rattle.frames.proofs.Passages.{sound-left, sound-right}
 use Rattle.frames.proofs.Reading.{part-of}
 
-pub legal-append : (u v : List ℕ) → lineWords u ≡ true → lineWords v ≡ true → lineWords (u ++ v) ≡ true
-unfolding lineWords
-legal-append [] v h k = k
-legal-append (w ∷ u) v h k = rw (left (leb w silence) (lineWords u) h) (legal-append u v (right (leb w silence) (lineWords u) h) k)
+unfoldable pub passing : (ℕ → Bool) → List ℕ → Bool
+passing P [] = true
+passing P (w ∷ words) = P w && passing P words
 
-legal-left : (u v : List ℕ) → lineWords (u ++ v) ≡ true → lineWords u ≡ true
-unfolding lineWords
-legal-left [] v h = refl
-legal-left (w ∷ u) v h = rw (left (leb w silence) (lineWords (u ++ v)) h) (legal-left u v (right (leb w silence) (lineWords (u ++ v)) h))
+module _ (P : ℕ → Bool) where
+  pub passing-append : (u v : List ℕ) → passing P u ≡ true → passing P v ≡ true → passing P (u ++ v) ≡ true
+  unfolding passing
+  passing-append [] v h k = k
+  passing-append (w ∷ u) v h k = both (P w) (passing P (u ++ v)) (left (P w) (passing P u) h) (passing-append u v (right (P w) (passing P u) h) k)
 
-legal-right : (u v : List ℕ) → lineWords (u ++ v) ≡ true → lineWords v ≡ true
-unfolding lineWords
-legal-right [] v h = h
-legal-right (w ∷ u) v h = legal-right u v (right (leb w silence) (lineWords (u ++ v)) h)
+  pub passing-left : (u v : List ℕ) → passing P (u ++ v) ≡ true → passing P u ≡ true
+  unfolding passing
+  passing-left [] v h = refl
+  passing-left (w ∷ u) v h = both (P w) (passing P u) (left (P w) (passing P (u ++ v)) h) (passing-left u v (right (P w) (passing P (u ++ v)) h))
 
-pub legal-replaced : (pre old post new : List ℕ) → lineWords (pre ++ (old ++ post)) ≡ true → lineWords new ≡ true → lineWords (pre ++ (new ++ post)) ≡ true
-legal-replaced pre old post new h k =
-    legal-append pre (new ++ post) (legal-left pre (old ++ post) h) (legal-append new post k (legal-right old post (legal-right pre (old ++ post) h)))
+  pub passing-right : (u v : List ℕ) → passing P (u ++ v) ≡ true → passing P v ≡ true
+  unfolding passing
+  passing-right [] v h = h
+  passing-right (w ∷ u) v h = passing-right u v (right (P w) (passing P (u ++ v)) h)
 
--- what is left of legal words
-legal-sub : {u v : List ℕ} → Sub u v → lineWords v ≡ true → lineWords u ≡ true
-unfolding lineWords
-legal-sub none h = h
-legal-sub (gone {b} {bytes} d) h = legal-sub d (right (leb b silence) (lineWords bytes) h)
-legal-sub (stays {b} {bytes} d) h = rw (left (leb b silence) (lineWords bytes) h) (legal-sub d (right (leb b silence) (lineWords bytes) h))
+  -- what is left of such words
+  passing-sub : {u v : List ℕ} → Sub u v → passing P v ≡ true → passing P u ≡ true
+  unfolding passing
+  passing-sub none h = h
+  passing-sub (gone {b} {bytes} d) h = passing-sub d (right (P b) (passing P bytes) h)
+  passing-sub (stays {b} {left = rest} {bytes} d) h = both (P b) (passing P rest) (left (P b) (passing P bytes) h) (passing-sub d (right (P b) (passing P bytes) h))
 
--- a line of framed reports
-module _ {R K : Type 0} (F : Frame R) (L : Laws F) (bytes : K → List ℕ) where
-  fits-legal : (k bs : List ℕ) → Fits F k bs → lineWords bs ≡ true
-  unfolding lineWords
-  fits-legal k [] h = refl
-  fits-legal k (b ∷ bs) h = rw (le-leb b silence (omega (arith, L .byte k b (h .0)))) (fits-legal (k ++ (b ∷ [])) bs (h .1))
+  -- the words of a line of framed reports, where a break, a silence and whatever fits its place pass the test
+  module _ {R K : Type 0} (F : Frame R) (bytes : K → List ℕ) (breaks : P break ≡ true) (pauses : P silence ≡ true)
+      (fits : (k : List ℕ) (b : ℕ) → F .fits k b ≡ true → P b ≡ true) where
+    fits-pass : (k bs : List ℕ) → Fits F k bs → passing P bs ≡ true
+    unfolding passing
+    fits-pass k [] h = refl
+    fits-pass k (b ∷ bs) h = both (P b) (passing P bs) (fits k b (h .0)) (fits-pass (k ++ (b ∷ [])) bs (h .1))
 
-  part-legal : (n : ℕ) (k : K) → SoundPart bytes (Framed F bytes) (first n k) → lineWords (take n (bytes k)) ≡ true
-  part-legal n k h = fits-legal [] (take n (bytes k)) (part-of F (bytes k) n (h .0) (h .1) .0)
+    part-pass : (n : ℕ) (k : K) → SoundPart bytes (Framed F bytes) (first n k) → passing P (take n (bytes k)) ≡ true
+    part-pass n k h = fits-pass [] (take n (bytes k)) (part-of F (bytes k) n (h .0) (h .1) .0)
 
-  break-legal : (ws : List ℕ) → lineWords ws ≡ true → lineWords (break ∷ ws) ≡ true
-  unfolding lineWords
-  break-legal ws h = h
+    break-pass : (ws : List ℕ) → passing P ws ≡ true → passing P (break ∷ ws) ≡ true
+    unfolding passing
+    break-pass ws h = both (P break) (passing P ws) breaks h
 
-  passage-legal : (p : Passage K) → SoundOf bytes (Framed F bytes) p → lineWords (wordsOf bytes p) ≡ true
-  unfolding lineWords
-  passage-legal silent h = refl
-  passage-legal (finished k) h = fits-legal [] (bytes k) (h .0)
-  passage-legal (broken n k) h = legal-append (take n (bytes k)) (break ∷ []) (part-legal n k h) refl
+    passage-pass : (p : Passage K) → SoundOf bytes (Framed F bytes) p → passing P (wordsOf bytes p) ≡ true
+    unfolding passing
+    passage-pass silent h = both (P silence) true pauses refl
+    passage-pass (finished k) h = fits-pass [] (bytes k) (h .0)
+    passage-pass (broken n k) h = passing-append (take n (bytes k)) (break ∷ []) (part-pass n k h) (both (P break) true breaks refl)
 
-  passages-legal : (l : List (Passage K)) → Sound bytes (Framed F bytes) l → lineWords (passageWords bytes l) ≡ true
-  unfolding lineWords
-  passages-legal [] h = refl
-  passages-legal (p ∷ l) h = legal-append (wordsOf bytes p) (passageWords bytes l) (passage-legal p (h .0)) (passages-legal l (h .1))
+    passages-pass : (l : List (Passage K)) → Sound bytes (Framed F bytes) l → passing P (passageWords bytes l) ≡ true
+    unfolding passing
+    passages-pass [] h = refl
+    passages-pass (p ∷ l) h = passing-append (wordsOf bytes p) (passageWords bytes l) (passage-pass p (h .0)) (passages-pass l (h .1))
 
-  going-legal : (g : UnderWay K) → SoundPart bytes (Framed F bytes) g → lineWords (partWords bytes g) ≡ true
-  unfolding lineWords
-  going-legal nothing h = refl
-  going-legal (first n k) h = part-legal n k h
+    going-pass : (g : UnderWay K) → SoundPart bytes (Framed F bytes) g → passing P (partWords bytes g) ≡ true
+    unfolding passing
+    going-pass nothing h = refl
+    going-pass (first n k) h = part-pass n k h
 
-  pub line-legal : (l : List (Passage K)) (g : UnderWay K) → Sound bytes (Framed F bytes) l → SoundPart bytes (Framed F bytes) g
-      → lineWords (passageWords bytes l ++ partWords bytes g) ≡ true
-  line-legal l g s h = legal-append (passageWords bytes l) (partWords bytes g) (passages-legal l s) (going-legal g h)
+    pub line-passes : (l : List (Passage K)) (g : UnderWay K) → Sound bytes (Framed F bytes) l → SoundPart bytes (Framed F bytes) g
+        → passing P (passageWords bytes l ++ partWords bytes g) ≡ true
+    line-passes l g s h = passing-append (passageWords bytes l) (partWords bytes g) (passages-pass l s) (going-pass g h)
 
-  -- and so are the words of one of which a report lost bytes
-  pub lost-legal : {passages others : List (Passage K)} {going : UnderWay K} {ws : List ℕ}
-      → Sound bytes (Framed F bytes) passages
-      → SoundPart bytes (Framed F bytes) going
-      → Lost bytes passages going ws others
-      → lineWords ws ≡ true
-  lost-legal s g (of-finished before later going k left d h) =
-      let b = sound-left bytes (Framed F bytes) before (finished k ∷ later) s in
-      let t = sound-right bytes (Framed F bytes) before (finished k ∷ later) s in
-      legal-append (passageWords bytes before) _ (passages-legal before b)
-      (legal-append left _ (legal-sub d (fits-legal [] (bytes k) (t .0 .0))) (line-legal later going (t .1) g))
-  lost-legal s g (of-broken before later going n k left d) =
-      let b = sound-left bytes (Framed F bytes) before (broken n k ∷ later) s in
-      let t = sound-right bytes (Framed F bytes) before (broken n k ∷ later) s in
-      legal-append (passageWords bytes before) _ (passages-legal before b)
-      (legal-append left _ (legal-sub d (part-legal n k (t .0))) (break-legal _ (line-legal later going (t .1) g)))
-  lost-legal s g (of-going passages n k left d) = legal-append (passageWords bytes passages) left (passages-legal passages s) (legal-sub d (part-legal n k g))
+    -- and of one of which a report lost bytes
+    pub lost-passes : {passages others : List (Passage K)} {going : UnderWay K} {ws : List ℕ}
+        → Sound bytes (Framed F bytes) passages
+        → SoundPart bytes (Framed F bytes) going
+        → Lost bytes passages going ws others
+        → passing P ws ≡ true
+    lost-passes s g (of-finished before later going k rest d h) =
+        let b = sound-left bytes (Framed F bytes) before (finished k ∷ later) s in
+        let t = sound-right bytes (Framed F bytes) before (finished k ∷ later) s in
+        passing-append (passageWords bytes before) _ (passages-pass before b)
+        (passing-append rest _ (passing-sub d (fits-pass [] (bytes k) (t .0 .0))) (line-passes later going (t .1) g))
+    lost-passes s g (of-broken before later going n k rest d) =
+        let b = sound-left bytes (Framed F bytes) before (broken n k ∷ later) s in
+        let t = sound-right bytes (Framed F bytes) before (broken n k ∷ later) s in
+        passing-append (passageWords bytes before) _ (passages-pass before b)
+        (passing-append rest _ (passing-sub d (part-pass n k (t .0))) (break-pass _ (line-passes later going (t .1) g)))
+    lost-passes s g (of-going passages n k rest d) = passing-append (passageWords bytes passages) rest (passages-pass passages s) (passing-sub d (part-pass n k g))

@@ -15,7 +15,7 @@ use Rattle.wire.specs.Line.{letterOf, namedBy, ofNamed}
 use Rattle.wire.specs.Table.{bytesOf, five, bytesU}
 use Rattle.wire.specs.Reading.{at}
 use Rattle.wire.specs.Holds.{accepted, acceptedBy}
-use Rattle.wire.specs.Messages.{Latched, Message, report, reply, bytesIn}
+use Rattle.wire.specs.Messages.{Latched, Message, report, reply, latchedIn, bytesIn}
 use Rattle.wire.specs.declared.Report.{Report}
 use Rattle.wire.specs.declared.Format.{Format}
 use Rattle.wire.specs.declared.Format.the-variants.{Mm, Microsoft, Absolute, Relative, FiveByte, ThreeByte, Hexadecimal}
@@ -101,9 +101,6 @@ five-is Hexadecimal e = absurd (holds e)
 pub record Paired (b c : BallBox) (n : ℕ) (m k : Message) : Type 0 where
   pub carries : Carries c (first n k)
   pub words : take n (bytesIn k) ≡ take n (bytesIn m)
-
-abbrev latchedIn : Format → Report → Message
-latchedIn f r = report (record { format = f; report = r })
 
 second-latched : (b : BallBox) (r : Report) → Carries b (first 3 (latchedIn FiveByte r))
     → Paired b (secondLatched b) 3 (latchedIn FiveByte r) (latchedIn FiveByte (withPair (taken (b .settings .format) (b .track)) r))

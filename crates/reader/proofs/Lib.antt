@@ -2,6 +2,7 @@
 -- stay good (Goodness), Counting, Joining, There and Back, nothing before a silence (Awaiting), Useless, sentences of the paper (Sentences, Nowhere), demand 3's
 -- half of the reader (Damaged) with its worked lines (DamagedRuns), Examples, wrong answers (Wrong); and what their proofs and those of the functions share.
 pub mod Good
+pub mod Entered
 pub mod Word
 pub mod Keeps
 pub mod Turn
@@ -23,10 +24,10 @@ pub mod Useless
 pub mod Sentences
 pub mod Nowhere
 pub mod Framed
+pub mod AsSent
 pub mod Took
-pub mod Segments
+pub mod Lines
 pub mod Handed
-pub mod Stretch
 pub mod Damaged
 pub mod DamagedRuns
 pub mod Examples

@@ -33,7 +33,7 @@ use Rattle.wire.proofs.Codec.Shapes.{valid-fits}
 use Rattle.wire.proofs.Front.{size-small, same-front}
 use Rattle.reader.specs.State.{reader, ready, fiveOf}
 use Rattle.reader.specs.Good.{good}
-use Rattle.reader.specs.Rules.{entered, answered, keep, byteOf, wordOf}
+use Rattle.reader.specs.Rules.{answered, keep, byteOf, wordOf}
 use Rattle.reader.specs.Line.{whole, lineOf}
 use Rattle.reader.specs.Promises.{ReadPromise}
 use Rattle.reader.specs.Runs.{stepsOf, StepsPromise, answers, readerAfter}
@@ -42,14 +42,15 @@ use Rattle.reader.specs.declared.Read.{Read}
 use Rattle.reader.specs.declared.Reading.{Reading}
 use Rattle.reader.specs.declared.Answer.{Answer}
 use Rattle.reader.specs.declared.Answer.the-variants as answer
+use Rattle.reader.proofs.Entered.{fit-enters}
 use Rattle.reader.proofs.Keeps.{ready-good, word-good}
 use Rattle.reader.proofs.Permitted.{steps-are}
 use Rattle.reader.proofs.Goodness.{step-word, read-line}
 
 -- a byte that fits its place
 fitted : (r : Reader) (b : ℕ) → b < 256 → r .awaiting ≡ false → fitsBy (r .format) (r .count) b ≡ true → wordOf r b ≡ keep r b
-unfolding wordOf byteOf entered
-fitted r b h w f = rw (le-leb b 255 (omega arith), w, f)
+unfolding wordOf byteOf
+fitted r b h w f = rw (le-leb b 255 (omega arith), fit-enters (r .format) (r .count) b f, w, f)
 
 module _ (f : Format) (letter : ℕ) (named : namedBy letter ≡ Known f) where
   ready-is-good : good (ready letter) ≡ true

@@ -18,6 +18,9 @@ pub data Message : Type 0 where
   report : Latched → Message
   reply : List ℕ → Message
 
+abbrev pub latchedIn : Format → Report → Message
+latchedIn f r = report (record { format = f; report = r })
+
 -- "each report has the manual's bytes"
 abbrev pub bytesIn : Message → List ℕ
 bytesIn (report l) = bytesOf (l .format) (l .report)
