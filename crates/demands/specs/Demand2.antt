@@ -14,7 +14,8 @@ use Rattle.wire.specs.Holds.{accepted, carriedBy}
 use Rattle.wire.specs.Numbers.{success}
 use Rattle.wire.specs.Encoder.{refusalOf, lengthOf}
 use Rattle.wire.specs.Promises.{EncodePromise}
-use Rattle.wire.specs.Passages.{nothing, passageWords, goingWords}
+use Rattle.frames.specs.Passages.{nothing, passageWords, partWords}
+use Rattle.wire.specs.Messages.{messageBytes}
 use Rattle.wire.specs.declared.Report.{Report}
 use Rattle.wire.specs.declared.Format.{Format}
 use Rattle.wire.specs.declared.Encoded.{Encoded}
@@ -56,7 +57,7 @@ box-asleep = asleep-step
 pub encoded : (f : Format) (r : Report) (before after : List ℕ) (a : Encoded) → accepted f r ≡ true → sizeOf f ≤ length before → EncodePromise (letterOf f) r before a after → (a ≡ Written (sizeOf f)) × (after ≡ bytesOf f r ++ drop (sizeOf f) before)
 encoded = accepted-written
 
-pub in-a-run : (b : BallBox) (events : List Event) (run : List Stepped) → good b ≡ true → bytesLeft b ≡ false → RunPromise b events run → wordsGiven run ≡ passageWords (passagesOf b nothing events) ++ goingWords (goingAfter b nothing events)
+pub in-a-run : (b : BallBox) (events : List Event) (run : List Stepped) → good b ≡ true → bytesLeft b ≡ false → RunPromise b events run → wordsGiven run ≡ passageWords messageBytes (passagesOf b nothing events) ++ partWords messageBytes (goingAfter b nothing events)
 in-a-run = run-passages
 
 -- "reading them with a ready reader gives back the report, less the button Microsoft's format doesn't carry"

@@ -13,7 +13,7 @@ use Rattle.frames.proofs.Passages.{sound-append}
 use Rattle.numbers.proofs.Choices.{cases, or-else}
 use Rattle.numbers.proofs.Tested.{left, right}
 use Rattle.wire.specs.Line.{letterOf}
-use Rattle.wire.specs.Messages.{Latched, Message, report, reply, bytesIn, HeldBy, SoundIn, SoundEnd}
+use Rattle.wire.specs.Messages.{Latched, Message, report, reply, messageBytes, HeldBy, SoundIn, SoundEnd}
 use Rattle.wire.specs.declared.Format.{Format}
 use Rattle.wire.specs.declared.Format.the-variants.{FiveByte}
 use Rattle.wire.proofs.Letters.{letter-named}
@@ -74,13 +74,13 @@ sound-ready f b (first n (report l)) h =
 sound-ready f b (first n (reply bytes)) h = absurd (h .sound .0)
 
 -- and so are the passages that it ends, and what is left of it
-sound-sent : (f : Format) (g : UnderWay Message) → SoundEnd f g → SoundIn f (sentOne bytesIn g .passages) × SoundEnd f (sentOne bytesIn g .going)
+sound-sent : (f : Format) (g : UnderWay Message) → SoundEnd f g → SoundIn f (sentOne messageBytes g .passages) × SoundEnd f (sentOne messageBytes g .going)
 sound-sent f nothing s = ((tt, tt), tt)
-sound-sent f (first n m) s = go (eqb (n + 1) (length (bytesIn m))) refl
+sound-sent f (first n m) s = go (eqb (n + 1) (length (messageBytes m))) refl
   where
-    go : (t : Bool) → eqb (n + 1) (length (bytesIn m)) ≡ t → SoundIn f (sentOne bytesIn (first n m) .passages) × SoundEnd f (sentOne bytesIn (first n m) .going)
+    go : (t : Bool) → eqb (n + 1) (length (messageBytes m)) ≡ t → SoundIn f (sentOne messageBytes (first n m) .passages) × SoundEnd f (sentOne messageBytes (first n m) .going)
     go true e = rw e ((s .0, tt), tt)
-    go false e = let d = eqb-false (n + 1) (length (bytesIn m)) e in rw e (tt, (s .0, omega (arith, s .1)))
+    go false e = let d = eqb-false (n + 1) (length (messageBytes m)) e in rw e (tt, (s .0, omega (arith, s .1)))
 
 sound-broken : (f : Format) (g : UnderWay Message) → SoundEnd f g → SoundIn f (brokenOff g)
 sound-broken f nothing s = tt
@@ -217,4 +217,4 @@ asked-sound f b g [] a h = (tt, h .sound)
 asked-sound f b g (e ∷ events) a h =
     let s = asked-step f b e g (left (asks e) (onlyAsks events) a) h in
     let r = asked-sound f (nextBox b e) (toldBy b e g .going) events (right (asks e) (onlyAsks events) a) (s .1) in
-    (sound-append bytesIn (HeldBy f) (toldBy b e g .passages) (passagesOf (nextBox b e) (toldBy b e g .going) events) (s .0) (r .0), r .1)
+    (sound-append messageBytes (HeldBy f) (toldBy b e g .passages) (passagesOf (nextBox b e) (toldBy b e g .going) events) (s .0) (r .0), r .1)

@@ -9,7 +9,7 @@ use Rattle.numbers.proofs.Tested.{holds}
 use Rattle.frames.specs.Passages.{UnderWay, nothing, first, passageWords, partWords}
 use Rattle.frames.specs.Sender.{told}
 use Rattle.frames.proofs.Sender.{givenOver, bridge}
-use Rattle.wire.specs.Messages.{Message, bytesIn}
+use Rattle.wire.specs.Messages.{Message, messageBytes}
 use Rattle.ballbox.specs.Box as box
 use Rattle.ballbox.specs.Box.{goingFrom}
 use Rattle.ballbox.specs.Events.{bytesLeft, onButtons, onPeriod, awake, asleep, woken}
@@ -29,7 +29,7 @@ use Rattle.history.proofs.Hosts.{host-busy, host-idle}
 
 -- a step without a word, which leaves the line, the format and the sleep as they are
 quiet : (b c : BallBox) (g : UnderWay Message) → c .going ≡ b .going → Alike b c → Carries b g → Sends (box.quietly c) g (told [] g)
-quiet b c g l a h = record { words = append-nil (partWords bytesIn g); carries = same-line g b c l a h }
+quiet b c g l a h = record { words = append-nil (partWords messageBytes g); carries = same-line g b c l a h }
 
 alike : {b c : BallBox} → c .settings .format ≡ b .settings .format → c .dormant ≡ b .dormant → Alike b c
 alike f d = record { format = f; dormant = d }
@@ -77,7 +77,7 @@ told-is b e g s p q = rw p (ap (λ (t : Bool). cond t (whenAsleep b e g) (whenAw
 
 refused-sends : (b : BallBox) (e : Event) (g : UnderWay Message) → good b ≡ true → aboveSeven e ≡ true → Carries b g → Sends (stepOf b e) g (toldBy b e g)
 unfolding stepOf toldBy
-refused-sends b e g k p h = rw (k, p) (record { words = append-nil (partWords bytesIn g); carries = h })
+refused-sends b e g k p h = rw (k, p) (record { words = append-nil (partWords messageBytes g); carries = h })
 
 pub step-sends : (b : BallBox) (e : Event) (g : UnderWay Message) → good b ≡ true → Carries b g → Sends (stepOf b e) g (toldBy b e g)
 step-sends b e g k h = go (aboveSeven e) refl (b .dormant) refl
@@ -91,12 +91,12 @@ step-sends b e g k h = go (aboveSeven e) refl (b .dormant) refl
 abbrev Holds : BallBox → UnderWay Message → Type 0
 Holds b g = (good b ≡ true) × Carries b g
 
-step : (b : BallBox) (e : Event) (g : UnderWay Message) → Holds b g → (partWords bytesIn g ++ stepOf b e .words ≡ passageWords bytesIn (toldBy b e g .passages) ++ partWords bytesIn (toldBy b e g .going)) × Holds (nextBox b e) (toldBy b e g .going)
+step : (b : BallBox) (e : Event) (g : UnderWay Message) → Holds b g → (partWords messageBytes g ++ stepOf b e .words ≡ passageWords messageBytes (toldBy b e g .passages) ++ partWords messageBytes (toldBy b e g .going)) × Holds (nextBox b e) (toldBy b e g .going)
 step b e g h = let s = step-sends b e g (h .0) (h .1) in (s .words, (stepped-good b e (h .0), s .carries))
 
-rules-bridge : (b : BallBox) (events : List Event) → good b ≡ true → bytesLeft b ≡ false → givenOver nextBox (λ b e. stepOf b e .words) b events ≡ passageWords bytesIn (passagesOf b nothing events) ++ partWords bytesIn (goingAfter b nothing events)
+rules-bridge : (b : BallBox) (events : List Event) → good b ≡ true → bytesLeft b ≡ false → givenOver nextBox (λ b e. stepOf b e .words) b events ≡ passageWords messageBytes (passagesOf b nothing events) ++ partWords messageBytes (goingAfter b nothing events)
 rules-bridge b events k h =
-    bridge bytesIn nextBox (λ b e. stepOf b e .words) toldBy Holds step b nothing events (k, h)
+    bridge messageBytes nextBox (λ b e. stepOf b e .words) toldBy Holds step b nothing events (k, h)
 
 -- any answers that the promise permits give the words of the rules
 permitted : (b : BallBox) (events : List Event) (answers : List Stepped) → RunPromise b events answers → wordsGiven answers ≡ givenOver nextBox (λ b e. stepOf b e .words) b events
@@ -110,5 +110,5 @@ permitted b (e ∷ events) (a ∷ answers) p =
     (permitted (a .next) events answers (p .1) ∙ rw n)
 
 -- The words of a run are the words of its passages and of what is going after them: dormancy, format commands and replies included.
-pub run-passages : (b : BallBox) (events : List Event) (answers : List Stepped) → good b ≡ true → bytesLeft b ≡ false → RunPromise b events answers → wordsGiven answers ≡ passageWords bytesIn (passagesOf b nothing events) ++ partWords bytesIn (goingAfter b nothing events)
+pub run-passages : (b : BallBox) (events : List Event) (answers : List Stepped) → good b ≡ true → bytesLeft b ≡ false → RunPromise b events answers → wordsGiven answers ≡ passageWords messageBytes (passagesOf b nothing events) ++ partWords messageBytes (goingAfter b nothing events)
 run-passages b events answers k h p = permitted b events answers p ∙ rules-bridge b events k h

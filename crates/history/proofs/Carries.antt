@@ -12,7 +12,7 @@ use Rattle.wire.specs.Line.{letterOf}
 use Rattle.wire.specs.Table.{five}
 use Rattle.wire.specs.Holds.{accepted}
 use Rattle.wire.specs.Reading.{at}
-use Rattle.wire.specs.Messages.{Message, report, reply, bytesIn}
+use Rattle.wire.specs.Messages.{Message, report, reply, messageBytes}
 use Rattle.wire.proofs.Front.{size-between}
 use Rattle.wire.proofs.Codec.{bytes-length}
 use Rattle.ballbox.specs.Box as box
@@ -23,7 +23,7 @@ use Rattle.ballbox.specs.declared.Going.{Going}
 -- the box's bytes for it
 abbrev pub onLine : UnderWay Message → Going
 onLine nothing = box.nothing
-onLine (first n m) = record { length = length (bytesIn m); sent = n; bytes = five (bytesIn m) }
+onLine (first n m) = record { length = length (messageBytes m); sent = n; bytes = five (messageBytes m) }
 
 -- a report of the format that is set, which it holds; a reply of at most three bytes
 abbrev pub Sendable : BallBox → Message → Type 0
@@ -32,11 +32,11 @@ Sendable b (reply bytes) = length bytes ≤ 3
 
 -- bytes of it are left, and the box is awake
 pub record Rightly (b : BallBox) (n : ℕ) (m : Message) : Type 0 where
-  pub left : n < length (bytesIn m)
+  pub left : n < length (messageBytes m)
   pub sendable : Sendable b m
   pub awake : b .dormant ≡ false
 
-pub at-most-five : (b : BallBox) (m : Message) → Sendable b m → length (bytesIn m) ≤ 5
+pub at-most-five : (b : BallBox) (m : Message) → Sendable b m → length (messageBytes m) ≤ 5
 at-most-five b (report l) s = omega (arith, bytes-length (l .format) (l .report), size-between (l .format) .1)
 at-most-five b (reply bytes) s = omega arith
 
@@ -54,7 +54,7 @@ still-sendable : (m : Message) (b c : BallBox) → c .settings .format ≡ b .se
 still-sendable (report l) b c e s = (e ∙ s .0, s .1)
 still-sendable (reply bytes) b c e s = s
 
-pub still-rightly : (n k : ℕ) (m : Message) (b c : BallBox) → Alike b c → k < length (bytesIn m) → Rightly b n m → Rightly c k m
+pub still-rightly : (n k : ℕ) (m : Message) (b c : BallBox) → Alike b c → k < length (messageBytes m) → Rightly b n m → Rightly c k m
 still-rightly n k m b c a l h = record { left = l; sendable = still-sendable m b c (a .format) (h .sendable); awake = a .dormant ∙ h .awake }
 
 -- with the same line too it carries the same
@@ -70,5 +70,5 @@ at-five bytes n h k =
 
 -- what an answer of the box does to the line
 pub record Sends (a : box.Answer) (g : UnderWay Message) (t : Told Message) : Type 0 where
-  pub words : partWords bytesIn g ++ a .words ≡ passageWords bytesIn (t .passages) ++ partWords bytesIn (t .going)
+  pub words : partWords messageBytes g ++ a .words ≡ passageWords messageBytes (t .passages) ++ partWords messageBytes (t .going)
   pub carries : Carries (a .next) (t .going)

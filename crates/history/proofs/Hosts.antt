@@ -7,7 +7,7 @@ use lib.Dec.{lit<, lit≤}
 use Rattle.frames.specs.Passages.{nothing, first, partWords}
 use Rattle.frames.specs.Sender.{told, brokenOff}
 use Rattle.frames.proofs.Sender.{breaks}
-use Rattle.wire.specs.Messages.{Message, bytesIn}
+use Rattle.wire.specs.Messages.{Message, messageBytes}
 use Rattle.ballbox.specs.Box as box
 use Rattle.ballbox.specs.Box.{goingFrom, withGoing}
 use Rattle.ballbox.specs.Commands.{commandOf, obeyed}
@@ -21,7 +21,7 @@ use Rattle.history.proofs.Carries.{Carries, Sends}
 use Rattle.history.proofs.Slots.{bytes-left}
 
 -- a reply to be sent, of which nothing has gone
-reply-words : (bytes : List ℕ) → partWords bytesIn (replying bytes) ≡ []
+reply-words : (bytes : List ℕ) → partWords messageBytes (replying bytes) ≡ []
 reply-words [] = refl
 reply-words (b ∷ bytes) = refl
 
@@ -62,6 +62,6 @@ unfolding onHost
 host-busy b byte n m d h =
     let e = bytes-left b n m h in
     record {
-      words = rw (e, reply-words (replyBytes b (commandOf byte)), append-nil) (breaks bytesIn n m);
+      words = rw (e, reply-words (replyBytes b (commandOf byte)), append-nil) (breaks messageBytes n m);
       carries = rw (dropped-busy b e) (obeyed-carries b box.nothing (commandOf byte) refl d);
     }

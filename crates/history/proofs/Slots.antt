@@ -15,7 +15,7 @@ use Rattle.wire.specs.Line.{letterOf, namedBy, ofNamed}
 use Rattle.wire.specs.Table.{bytesOf, five, bytesU}
 use Rattle.wire.specs.Reading.{at}
 use Rattle.wire.specs.Holds.{accepted, acceptedBy}
-use Rattle.wire.specs.Messages.{Latched, Message, report, reply, latchedIn, bytesIn}
+use Rattle.wire.specs.Messages.{Latched, Message, report, reply, latchedIn, messageBytes}
 use Rattle.wire.specs.declared.Report.{Report}
 use Rattle.wire.specs.declared.Format.{Format}
 use Rattle.wire.specs.declared.Format.the-variants.{Mm, Microsoft, Absolute, Relative, FiveByte, ThreeByte, Hexadecimal}
@@ -41,38 +41,38 @@ use Rattle.history.specs.History.{latchedNow, begun, formatOf, pairedAt,
 use Rattle.history.proofs.Carries.{onLine, Alike, Carries, at-most-five, still-rightly, at-five, Sends}
 
 pub bytes-left : (b : BallBox) (n : ℕ) (m : Message) → Carries b (first n m) → bytesLeft b ≡ true
-bytes-left b n m h = rw (h .0) (lt-ltb n (length (bytesIn m)) (h .1 .left))
+bytes-left b n m h = rw (h .0) (lt-ltb n (length (messageBytes m)) (h .1 .left))
 
 -- what is then left of it
 module _ (b : BallBox) (n : ℕ) (m : Message) (h : Carries b (first n m)) where
-  left-line : after (onLine (first n m)) ≡ onLine (sentOne bytesIn (first n m) .going)
+  left-line : after (onLine (first n m)) ≡ onLine (sentOne messageBytes (first n m) .going)
   unfolding after
-  left-line = go (eqb (n + 1) (length (bytesIn m))) refl
+  left-line = go (eqb (n + 1) (length (messageBytes m))) refl
     where
-      go : (t : Bool) → eqb (n + 1) (length (bytesIn m)) ≡ t → after (onLine (first n m)) ≡ onLine (sentOne bytesIn (first n m) .going)
-      go true e = rw (e, le-ltb (n + 1) (length (bytesIn m)) (omega (arith, eqb-true (n + 1) (length (bytesIn m)) e)))
+      go : (t : Bool) → eqb (n + 1) (length (messageBytes m)) ≡ t → after (onLine (first n m)) ≡ onLine (sentOne messageBytes (first n m) .going)
+      go true e = rw (e, le-ltb (n + 1) (length (messageBytes m)) (omega (arith, eqb-true (n + 1) (length (messageBytes m)) e)))
       go false e =
-          let d = eqb-false (n + 1) (length (bytesIn m)) e in
-          rw (e, lt-ltb (n + 1) (length (bytesIn m)) (omega (arith, h .1 .left)))
+          let d = eqb-false (n + 1) (length (messageBytes m)) e in
+          rw (e, lt-ltb (n + 1) (length (messageBytes m)) (omega (arith, h .1 .left)))
 
-  left-carries : (c : BallBox) → c .going ≡ onLine (sentOne bytesIn (first n m) .going) → Alike b c → Carries c (sentOne bytesIn (first n m) .going)
-  left-carries c l a = go (eqb (n + 1) (length (bytesIn m))) refl l
+  left-carries : (c : BallBox) → c .going ≡ onLine (sentOne messageBytes (first n m) .going) → Alike b c → Carries c (sentOne messageBytes (first n m) .going)
+  left-carries c l a = go (eqb (n + 1) (length (messageBytes m))) refl l
     where
-      go : (t : Bool) → eqb (n + 1) (length (bytesIn m)) ≡ t → c .going ≡ onLine (sentOne bytesIn (first n m) .going) → Carries c (sentOne bytesIn (first n m) .going)
+      go : (t : Bool) → eqb (n + 1) (length (messageBytes m)) ≡ t → c .going ≡ onLine (sentOne messageBytes (first n m) .going) → Carries c (sentOne messageBytes (first n m) .going)
       go true e l = rw e (ap (λ (g : Going). ltb (g .sent) (g .length)) (rw e at l))
       go false e l =
-          let q = eqb-false (n + 1) (length (bytesIn m)) e in
+          let q = eqb-false (n + 1) (length (messageBytes m)) e in
           rw e (rw e at l, still-rightly n (n + 1) m b c a (omega (arith, h .1 .left)) (h .1))
 
   -- the next byte of what is going goes out
-  byte-sends : Sends (nextByte b) (first n m) (sentOne bytesIn (first n m))
+  byte-sends : Sends (nextByte b) (first n m) (sentOne messageBytes (first n m))
   unfolding nextByte
   byte-sends =
-      let byte = at-five (bytesIn m) n (h .1 .left) (at-most-five b m (h .1 .sendable)) in
+      let byte = at-five (messageBytes m) n (h .1 .left) (at-most-five b m (h .1 .sendable)) in
       record {
         words =
-            ap (λ (w : ℕ). partWords bytesIn (first n m) ++ (w ∷ [])) (ap (λ (k : Going). at (k .sent) (k .bytes)) (h .0) ∙ byte)
-            ∙ sends bytesIn (first n m) (h .1 .left);
+            ap (λ (w : ℕ). partWords messageBytes (first n m) ++ (w ∷ [])) (ap (λ (k : Going). at (k .sent) (k .bytes)) (h .0) ∙ byte)
+            ∙ sends messageBytes (first n m) (h .1 .left);
         carries = left-carries _ (ap after (h .0) ∙ left-line) (record { format = refl; dormant = refl });
       }
 
@@ -100,7 +100,7 @@ five-is Hexadecimal e = absurd (holds e)
 -- where it is the slot of byte 4 in U, the second pair is latched
 pub record Paired (b c : BallBox) (n : ℕ) (m k : Message) : Type 0 where
   pub carries : Carries c (first n k)
-  pub words : take n (bytesIn k) ≡ take n (bytesIn m)
+  pub words : take n (messageBytes k) ≡ take n (messageBytes m)
 
 second-latched : (b : BallBox) (r : Report) → Carries b (first 3 (latchedIn FiveByte r))
     → Paired b (secondLatched b) 3 (latchedIn FiveByte r) (latchedIn FiveByte (withPair (taken (b .settings .format) (b .track)) r))
@@ -137,13 +137,13 @@ pairs b n (reply bytes) h =
     rw e (record { carries = h; words = refl })
 
 -- a slot of a box that has bytes to send
-next-sends : (b : BallBox) (n : ℕ) (m : Message) → Carries b (first n m) → Sends (nextByte (withByteReady b)) (first n m) (sentOne bytesIn (first n (pairedAt b n m)))
+next-sends : (b : BallBox) (n : ℕ) (m : Message) → Carries b (first n m) → Sends (nextByte (withByteReady b)) (first n m) (sentOne messageBytes (first n (pairedAt b n m)))
 next-sends b n m h =
     let p = pairs b n m h in
     let s = byte-sends (withByteReady b) n (pairedAt b n m) (p .carries) in
     record { words = rw (p .words) at (s .words); carries = s .carries }
 
-pub slot-busy : (b : BallBox) (n : ℕ) (m : Message) → Carries b (first n m) → Sends (onSlot b) (first n m) (sentOne bytesIn (paired b (first n m)))
+pub slot-busy : (b : BallBox) (n : ℕ) (m : Message) → Carries b (first n m) → Sends (onSlot b) (first n m) (sentOne messageBytes (paired b (first n m)))
 slot-busy b n m h =
     let e = bytes-left b n m h in
     rw (latching-busy b e, sending-byte b e) (next-sends b n m h)
@@ -181,10 +181,10 @@ pub not-yet : (b : BallBox) (l : Latched) → pairedAt b 0 (report l) ≡ report
 not-yet b l = rw (and-false (isFive (l .format)))
 
 -- a slot of a box that has none
-pub slot-idle : (b : BallBox) → good b ≡ true → b .dormant ≡ false → bytesLeft b ≡ false → Sends (onSlot b) nothing (sentOne bytesIn (paired b (begun b nothing)))
+pub slot-idle : (b : BallBox) → good b ≡ true → b .dormant ≡ false → bytesLeft b ≡ false → Sends (onSlot b) nothing (sentOne messageBytes (paired b (begun b nothing)))
 slot-idle b g d h = go (wanted b) refl
   where
-    go : (t : Bool) → wanted b ≡ t → Sends (onSlot b) nothing (sentOne bytesIn (paired b (begun b nothing)))
+    go : (t : Bool) → wanted b ≡ t → Sends (onSlot b) nothing (sentOne messageBytes (paired b (begun b nothing)))
     go true e =
         let m = report (latchedNow b) in
         let k = latched-carries b g d in

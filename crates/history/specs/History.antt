@@ -6,7 +6,7 @@ use lib.Dec.{eqb}
 use Rattle.wire.specs.Line.{letterOf, namedBy, ofNamed}
 use Rattle.frames.specs.Passages.{Passage, UnderWay, nothing, first}
 use Rattle.frames.specs.Sender.{Told, told, sentOne, brokenOff, passagesOver, goingOver}
-use Rattle.wire.specs.Messages.{Latched, Message, report, reply, bytesIn}
+use Rattle.wire.specs.Messages.{Latched, Message, report, reply, messageBytes}
 use Rattle.wire.specs.declared.Report.{Report}
 use Rattle.wire.specs.declared.Format.{Format}
 use Rattle.wire.specs.declared.Format.the-variants.{FiveByte}
@@ -75,14 +75,14 @@ abbrev pub whenAwake : BallBox → Event → UnderWay Message → Told Message
 whenAwake b (Motion dx dy) g = told [] g
 whenAwake b (Buttons n) g = told [] g
 whenAwake b (Host byte) g = told (brokenOff g) (replying (replyBytes b (commandOf byte)))
-whenAwake b Slot g = sentOne bytesIn (paired b (begun b g))
+whenAwake b Slot g = sentOne messageBytes (paired b (begun b g))
 whenAwake b Period g = told [] g
 
 abbrev pub whenAsleep : BallBox → Event → UnderWay Message → Told Message
 whenAsleep b (Motion dx dy) g = told [] g
 whenAsleep b (Buttons n) g = told [] g
 whenAsleep b (Host byte) g = told [] (replying ack)
-whenAsleep b Slot g = sentOne bytesIn g
+whenAsleep b Slot g = sentOne messageBytes g
 whenAsleep b Period g = told [] g
 
 -- a refused event ends nothing and changes nothing

@@ -13,7 +13,7 @@ use Rattle.wire.specs.Line.{letterOf, markedOf}
 use Rattle.wire.specs.Table.{bytesOf}
 use Rattle.wire.specs.Holds.{carried}
 use Rattle.wire.specs.Reading.{reportOf}
-use Rattle.wire.specs.Messages.{Latched, Message, report, bytesIn, HeldBy, SoundIn, SoundEnd, finishedReports}
+use Rattle.wire.specs.Messages.{Latched, Message, report, messageBytes, HeldBy, SoundIn, SoundEnd, finishedReports}
 use Rattle.wire.specs.declared.Format.{Format}
 use Rattle.wire.proofs.Front.{size-between}
 use Rattle.wire.proofs.Codec.{bytes-length, there}
@@ -30,18 +30,18 @@ module _ (f : Format) (passages : List (Passage Message)) (going : UnderWay Mess
     (before : List (Passage Message)) (r : Latched) (after : List (Passage Message)) (is : passages ≡ before ++ (finished (report r) ∷ after))
     (i : ℕ) (place : EndsAt f before given old new i) where
   abbrev rest : List ℕ
-  rest = passageWords bytesIn after ++ partWords bytesIn going
+  rest = passageWords messageBytes after ++ partWords messageBytes going
 
-  as-sent : passageWords bytesIn before ++ (bytesIn (report r) ++ rest) ≡ pre ++ (old ++ post)
+  as-sent : passageWords messageBytes before ++ (messageBytes (report r) ++ rest) ≡ pre ++ (old ++ post)
   as-sent = simp (is, passages-append, append-assoc) at (l .as-sent)
 
   all-sound : SoundIn f (before ++ (finished (report r) ∷ after))
   all-sound = rw is at (l .sound)
 
   held : HeldBy f (report r)
-  held = sound-right bytesIn (HeldBy f) before (finished (report r) ∷ after) all-sound .0
+  held = sound-right messageBytes (HeldBy f) before (finished (report r) ∷ after) all-sound .0
 
-  size-is : length (bytesIn (report r)) ≡ length (bytesOf f (r .report))
+  size-is : length (messageBytes (report r)) ≡ length (bytesOf f (r .report))
   size-is = rw (held .0)
 
   all-sent : asSent f (pre ++ (old ++ post)) ≡ true
@@ -51,12 +51,12 @@ module _ (f : Format) (passages : List (Passage Message)) (going : UnderWay Mess
   abbrev entering : List ℕ
   entering = enteredAll (letterOf f) new
 
-  carried-is : reportOf f (bytesIn (report r)) ≡ carried f (r .report)
+  carried-is : reportOf f (messageBytes (report r)) ≡ carried f (r .report)
   carried-is = rw (held .0, there f (r .report) (held .1))
 
   handed : Within before pre old
-      → ((j : ℕ) → suc j + length old ≡ length (passageWords bytesIn before) + length (bytesIn (report r)) + length entering
-      → replaced.Handed (frameOf f) (pre ++ (entering ++ post)) j (reportOf f (bytesIn (report r))))
+      → ((j : ℕ) → suc j + length old ≡ length (passageWords messageBytes before) + length (messageBytes (report r)) + length entering
+      → replaced.Handed (frameOf f) (pre ++ (entering ++ post)) j (reportOf f (messageBytes (report r))))
       → HandsOutAt f (given ++ (pre ++ (new ++ post))) i (carried f (r .report))
   handed h k =
       let size = size-between f .0 in
@@ -66,23 +66,23 @@ module _ (f : Format) (passages : List (Passage Message)) (going : UnderWay Mess
       (replaced-legal f given pre old post new (given-sent f (l .in-front)) all-sent (l .legal)) (replaced-enters f given pre old post new (given-sent f (l .in-front)) all-sent)
       i (carried f (r .report))
       (rw (split, carried-is) at
-      (behind-given f (l .in-front) (pre ++ (entering ++ post)) j (reportOf f (bytesIn (report r))) (k j (rw (size-is, bytes-length f (r .report), length-map) (omega arith)))))
+      (behind-given f (l .in-front) (pre ++ (entering ++ post)) j (reportOf f (messageBytes (report r))) (k j (rw (size-is, bytes-length f (r .report), length-map) (omega arith)))))
 
   -- "In the four formats with a marked first byte, each finished report that begins after the stretch is handed out as the box sent it."
   pub marked : markedOf f ≡ true → Within before pre old → HandsOutAt f (given ++ (pre ++ (new ++ post))) i (carried f (r .report))
   marked m h =
-      handed h (λ j at. replaced.marked (frameOf f) bytesIn before (report r) (held-framed f (report r) held) rest pre old post entering as-sent j at (is-marked f m) h)
+      handed h (λ j at. replaced.marked (frameOf f) messageBytes before (report r) (held-framed f (report r) held) rest pre old post entering as-sent j at (is-marked f m) h)
 
   -- "In the other three this holds for each finished report that begins after a silence following the stretch, with no broken-off report between."
   pub unmarked : (front quiet : List (Passage Message)) → before ≡ front ++ (silent ∷ quiet) → Unbroken quiet → Within front pre old
       → HandsOutAt f (given ++ (pre ++ (new ++ post))) i (carried f (r .report))
   unmarked front quiet e u h =
-      let before-sound : SoundIn f (front ++ (silent ∷ quiet)) = rw e at (sound-left bytesIn (HeldBy f) before (finished (report r) ∷ after) all-sound) in
-      let quiet-sound = sound-right bytesIn (HeldBy f) front (silent ∷ quiet) before-sound .1 in
-      let longer : length (passageWords bytesIn front) ≤ length (passageWords bytesIn before) = rw (e, passages-append bytesIn, length-append) (omega arith) in
+      let before-sound : SoundIn f (front ++ (silent ∷ quiet)) = rw e at (sound-left messageBytes (HeldBy f) before (finished (report r) ∷ after) all-sound) in
+      let quiet-sound = sound-right messageBytes (HeldBy f) front (silent ∷ quiet) before-sound .1 in
+      let longer : length (passageWords messageBytes front) ≤ length (passageWords messageBytes before) = rw (e, passages-append messageBytes, length-append) (omega arith) in
       handed (omega arith)
       (λ j at.
-      replaced.unmarked (frameOf f) bytesIn before (report r) (held-framed f (report r) held) rest pre old post entering as-sent j at (laws f)
+      replaced.unmarked (frameOf f) messageBytes before (report r) (held-framed f (report r) held) rest pre old post entering as-sent j at (laws f)
       front quiet e (framed-line f quiet quiet-sound) u h)
 
 -- "If the stretch only removed bytes of a single report of a marked format, exactly the finished reports other than that one are handed out, in
@@ -92,9 +92,9 @@ pub exactly : (f : Format) {passages others : List (Passage Message)} {going : U
     → SoundIn f passages
     → SoundEnd f going
     → Given given
-    → Lost bytesIn passages going words others
+    → Lost messageBytes passages going words others
     → HandsOut f (given ++ words) (finishedReports f others)
 exactly f {passages} {others} {going} {given} {words} m s g v d =
     let all = passing-append (plain f) given words (given-sent f v) (lost-sent f s g d) in
     hands-out f (given ++ words) (given ++ words) (sent-legal f (given ++ words) all) (sent-enters f (given ++ words) all) (finishedReports f others)
-    (read-given f v words ∙ (replaced.exactly (frameOf f) (is-marked f m) bytesIn (framed-line f passages s) (framed-going f going g) d ∙ carried-line f others (others-sound bytesIn (HeldBy f) s d)))
+    (read-given f v words ∙ (replaced.exactly (frameOf f) (is-marked f m) messageBytes (framed-line f passages s) (framed-going f going g) d ∙ carried-line f others (others-sound messageBytes (HeldBy f) s d)))

@@ -16,7 +16,7 @@ use Rattle.wire.specs.Fits.{like, fitsFirst, fitsLater, fitsAt, fitsBy}
 use Rattle.wire.specs.Reading.{readS, readT, readU, reportBy}
 use Rattle.wire.specs.Reading as reading
 use Rattle.wire.specs.Numbers.{success}
-use Rattle.wire.specs.Messages.{latchedIn, bytesIn, SoundIn}
+use Rattle.wire.specs.Messages.{latchedIn, messageBytes, SoundIn}
 use Rattle.wire.specs.declared.Report.{Report}
 use Rattle.wire.specs.declared.Format.{Format}
 use Rattle.wire.specs.declared.Format.the-variants.{Mm, FiveByte, ThreeByte}

@@ -15,7 +15,7 @@ use Rattle.wire.specs.Line.{sizeOf}
 use Rattle.wire.specs.Table.{bytesOf}
 use Rattle.wire.specs.Fits.{fitsAt}
 use Rattle.wire.specs.Holds.{accepted}
-use Rattle.wire.specs.Messages.{Message, report, reply, bytesIn, HeldBy, carriedIn, SoundIn, SoundEnd, finishedReports}
+use Rattle.wire.specs.Messages.{Message, report, reply, messageBytes, HeldBy, carriedIn, SoundIn, SoundEnd, finishedReports}
 use Rattle.wire.specs.declared.Report.{Report}
 use Rattle.wire.specs.declared.Format.{Format}
 use Rattle.wire.proofs.Front.{size-between}
@@ -43,29 +43,29 @@ module _ (f : Format) where
       let size = bytes-length f r in
       (fits-from [] (bytesOf f r) (λ i l. rw zero-add (bytes-fit f r a i (omega arith))), full (bytesOf f r) size (omega (arith, size-between f .0)))
 
-  pub held-framed : (m : Message) → HeldBy f m → Framed (frameOf f) bytesIn m
+  pub held-framed : (m : Message) → HeldBy f m → Framed (frameOf f) messageBytes m
   held-framed (report l) h = rw (h .0) (whole-report (l .report) (h .1))
   held-framed (reply bytes) h = absurd h
 
-  held-carried : (m : Message) → HeldBy f m → decoded (frameOf f) bytesIn m ≡ carriedIn f m
+  held-carried : (m : Message) → HeldBy f m → decoded (frameOf f) messageBytes m ≡ carriedIn f m
   held-carried (report l) h = rw (h .0, there f (l .report) (h .1))
   held-carried (reply bytes) h = absurd h
 
   -- so that a sound line is one of the frame, with the same finished reports
-  pub framed-line : (l : List (Passage Message)) → SoundIn f l → Sound bytesIn (Framed (frameOf f) bytesIn) l
-  framed-line = sound-by bytesIn (HeldBy f) (Framed (frameOf f) bytesIn) held-framed
+  pub framed-line : (l : List (Passage Message)) → SoundIn f l → Sound messageBytes (Framed (frameOf f) messageBytes) l
+  framed-line = sound-by messageBytes (HeldBy f) (Framed (frameOf f) messageBytes) held-framed
 
-  pub framed-going : (g : UnderWay Message) → SoundEnd f g → SoundPart bytesIn (Framed (frameOf f) bytesIn) g
-  framed-going = part-by bytesIn (HeldBy f) (Framed (frameOf f) bytesIn) held-framed
+  pub framed-going : (g : UnderWay Message) → SoundEnd f g → SoundPart messageBytes (Framed (frameOf f) messageBytes) g
+  framed-going = part-by messageBytes (HeldBy f) (Framed (frameOf f) messageBytes) held-framed
 
-  pub carried-line : (l : List (Passage Message)) → SoundIn f l → finishedBy (decoded (frameOf f) bytesIn) l ≡ finishedReports f l
-  carried-line = same-finished bytesIn (HeldBy f) (decoded (frameOf f) bytesIn) (carriedIn f) held-carried
+  pub carried-line : (l : List (Passage Message)) → SoundIn f l → finishedBy (decoded (frameOf f) messageBytes) l ≡ finishedReports f l
+  carried-line = same-finished messageBytes (HeldBy f) (decoded (frameOf f) messageBytes) (carriedIn f) held-carried
 
   -- and its words, or what is left of them, enter as they are
-  pub line-sent : (l : List (Passage Message)) (g : UnderWay Message) → SoundIn f l → SoundEnd f g → asSent f (passageWords bytesIn l ++ partWords bytesIn g) ≡ true
+  pub line-sent : (l : List (Passage Message)) (g : UnderWay Message) → SoundIn f l → SoundEnd f g → asSent f (passageWords messageBytes l ++ partWords messageBytes g) ≡ true
   line-sent l g s e =
-      line-passes (plain f) (frameOf f) bytesIn (break-plain f) (silence-plain f) (λ k b h. fit-plain f (length k) b h) l g (framed-line l s) (framed-going g e)
+      line-passes (plain f) (frameOf f) messageBytes (break-plain f) (silence-plain f) (λ k b h. fit-plain f (length k) b h) l g (framed-line l s) (framed-going g e)
 
-  pub lost-sent : {l others : List (Passage Message)} {g : UnderWay Message} {words : List ℕ} → SoundIn f l → SoundEnd f g → Lost bytesIn l g words others → asSent f words ≡ true
+  pub lost-sent : {l others : List (Passage Message)} {g : UnderWay Message} {words : List ℕ} → SoundIn f l → SoundEnd f g → Lost messageBytes l g words others → asSent f words ≡ true
   lost-sent {l} {others} {g} s e d =
-      lost-passes (plain f) (frameOf f) bytesIn (break-plain f) (silence-plain f) (λ k b h. fit-plain f (length k) b h) (framed-line l s) (framed-going g e) d
+      lost-passes (plain f) (frameOf f) messageBytes (break-plain f) (silence-plain f) (λ k b h. fit-plain f (length k) b h) (framed-line l s) (framed-going g e) d

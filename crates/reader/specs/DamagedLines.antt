@@ -8,7 +8,7 @@ use lib.IntN.{ℤ}
 use Rattle.frames.specs.Passages.{Passage, UnderWay, passageWords, partWords}
 use Rattle.frames.specs.Words.{break, lineWords}
 use Rattle.wire.specs.Line.{letterOf, sizeOf}
-use Rattle.wire.specs.Messages.{Message, bytesIn, SoundIn, SoundEnd}
+use Rattle.wire.specs.Messages.{Message, messageBytes, SoundIn, SoundEnd}
 use Rattle.wire.specs.Numbers.{success}
 use Rattle.wire.specs.declared.Report.{Report}
 use Rattle.wire.specs.declared.Format.{Format}
@@ -69,13 +69,13 @@ pub record Replaced (f : Format) (passages : List (Passage Message)) (going : Un
   pub sound : SoundIn f passages
   pub sound-going : SoundEnd f going
   pub in-front : Given given
-  pub as-sent : passageWords bytesIn passages ++ partWords bytesIn going ≡ pre ++ (old ++ post)
+  pub as-sent : passageWords messageBytes passages ++ partWords messageBytes going ≡ pre ++ (old ++ post)
   pub legal : lineWords new ≡ true
 
 -- the stretch `old`, behind `pre`, ends before the words of what stands behind these passages
 abbrev pub Within : List (Passage Message) → List ℕ → List ℕ → Type 0
-Within before pre old = length pre + length old ≤ length (passageWords bytesIn before)
+Within before pre old = length pre + length old ≤ length (passageWords messageBytes before)
 
 -- i is the place of the word that ends a report of f behind these passages, when `old` was replaced by `new`, with `given` in front of all
 abbrev pub EndsAt : Format → List (Passage Message) → List ℕ → List ℕ → List ℕ → ℕ → Type 0
-EndsAt f before given old new i = suc i + length old ≡ length given + length (passageWords bytesIn before) + sizeOf f + length new
+EndsAt f before given old new i = suc i + length old ≡ length given + length (passageWords messageBytes before) + sizeOf f + length new

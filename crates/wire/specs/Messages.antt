@@ -22,9 +22,9 @@ abbrev pub latchedIn : Format → Report → Message
 latchedIn f r = report (record { format = f; report = r })
 
 -- "each report has the manual's bytes"
-abbrev pub bytesIn : Message → List ℕ
-bytesIn (report l) = bytesOf (l .format) (l .report)
-bytesIn (reply bytes) = bytes
+abbrev pub messageBytes : Message → List ℕ
+messageBytes (report l) = bytesOf (l .format) (l .report)
+messageBytes (reply bytes) = bytes
 
 -- a report that the format f holds
 abbrev pub HeldBy : Format → Message → Type 0
@@ -38,10 +38,10 @@ carriedIn f (reply bytes) = []
 
 -- passages of the format f, and what is under way behind them: silences and reports that f holds, no replies
 abbrev pub SoundIn : Format → List (Passage Message) → Type 0
-SoundIn f passages = Sound bytesIn (HeldBy f) passages
+SoundIn f passages = Sound messageBytes (HeldBy f) passages
 
 abbrev pub SoundEnd : Format → UnderWay Message → Type 0
-SoundEnd f going = SoundPart bytesIn (HeldBy f) going
+SoundEnd f going = SoundPart messageBytes (HeldBy f) going
 
 -- the finished reports of passages, in the order sent, each as the format carries it
 abbrev pub finishedReports : Format → List (Passage Message) → List Report
