@@ -52,6 +52,15 @@ pub struct Range {
     pub high: i16,
 }
 
+// Which movement of a report a format does not hold: none, or the first in this order.
+pub enum Unheld {
+    None,
+    FirstX,
+    FirstY,
+    SecondX,
+    SecondY,
+}
+
 // The format of a letter.
 fn format_of(letter: u8) -> Named
     ensures { λ r. ⌜ r ≡ namedBy letter ⌝ }
@@ -146,7 +155,7 @@ pub fn encode(letter: u8, report: Report, buffer: &mut [u8]) -> Encoded
         return Encoded::NoSuchLetter;
     };
     let pressable = report.buttons <= 7;
-    let held = holds::holds(f, report);
+    let held = holds::unheld(f, report).is_none();
     if !pressable {
         return Encoded::ButtonsAboveSeven;
     }
