@@ -93,7 +93,7 @@ carried FiveByte r = r
 carried ThreeByte r = r
 carried Hexadecimal r = r
 
--- the same by letter
+-- the same by letter: one that is not in the table asks nothing of a report, and its own refusal, 1, comes before any other
 unfoldable pub acceptedBy : ℕ → Report → Bool
 acceptedBy letter r = ofNamed true (λ f. accepted f r) (namedBy letter)
 

@@ -1,7 +1,7 @@
 // The seven formats of the old mice: a report and its bytes.
 ghost use mathlib.Core.Path.{_≡_};
 ghost use Rattle.wire.specs.Line.{namedBy, sizeOf, markedOf};
-ghost use Rattle.wire.specs.Promises.{SizePromise, MarkedPromise, FitsPromise, ReportPromise, EncodePromise, RefusalPromise, LengthPromise};
+ghost use Rattle.wire.specs.Promises.{KnownPromise, SizePromise, MarkedPromise, FitsPromise, ReportPromise, EncodePromise, RefusalPromise, LengthPromise};
 
 mod bytes;
 mod digits;
@@ -104,6 +104,16 @@ fn marked_of(f: Format) -> bool
         Format::FiveByte => false,
         Format::ThreeByte => false,
         Format::Hexadecimal => false,
+    }
+}
+
+// Whether a letter is in the table.
+pub fn known(letter: u8) -> bool
+    ensures { λ r. ⌜ KnownPromise letter r ⌝ }
+{
+    match format_of(letter) {
+        Named::Known(_) => true,
+        Named::Unknown => false,
     }
 }
 
