@@ -1,12 +1,13 @@
 -- Which bytes are valid at the first place of a report, and which at a later one.
 use Prim.Native.Nat.{ℕ}
-use mathlib.Core.Bool.{Bool, true, false, not, cond, _&&_, _||_}
+use mathlib.Core.Bool.{Bool, true, false, not, cond, _&&_}
 use mathlib.Core.List.{List, [], _∷_}
 use lib.ListN.{length}
-use lib.Dec.{leb, eqb}
+use lib.Dec.{eqb}
 use Rattle.numbers.specs.Bits.{bit}
 use Rattle.numbers.specs.Parity.{even}
 use Rattle.wire.specs.Line.{isByte, namedBy, ofNamed, sizeOf}
+use Rattle.wire.specs.Digits.{between, isDigit}
 use Rattle.wire.specs.declared.Format.{Format}
 use Rattle.wire.specs.declared.Format.the-variants.{Mm, Microsoft, Absolute, Relative, FiveByte, ThreeByte, Hexadecimal}
 
@@ -25,13 +26,6 @@ agrees · b = true
 unfoldable pub like : List Cell → ℕ → Bool
 like [] b = isByte b
 like (c ∷ cells) b = agrees c (bit (length cells) b) && like cells b
-
-abbrev pub between : ℕ → ℕ → ℕ → Bool
-between low high b = leb low b && leb b high
-
--- "digits 0-9, A-F"
-abbrev pub isDigit : ℕ → Bool
-isDigit b = between 0x30 0x39 b || between 0x41 0x46 b
 
 -- the first byte of a report
 unfoldable pub fitsFirst : Format → ℕ → Bool

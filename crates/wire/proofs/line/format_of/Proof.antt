@@ -1,8 +1,8 @@
 -- `format_of`: the letter of each arm, tested in the order of the definition.
 use borrow.Author.Tests.{ne-eqb}
 use Rattle.wire.specs.Line.{namedBy}
-use Rattle.wire.proofs.format_of.Statement.{statement}
-use Rattle.wire.proofs.format_of.Tie as tie
+use Rattle.wire.proofs.line.format_of.Statement.{statement}
+use Rattle.wire.proofs.line.format_of.Tie as tie
 
 returns : tie.Need-returns
 unfolding namedBy

@@ -11,8 +11,8 @@ use Rattle.numbers.proofs.Twos.{mag-magnitude}
 use Rattle.numbers.specs.Bits.{value}
 use Rattle.wire.proofs.Sums.{sum-S}
 use Rattle.wire.specs.Table.{bytesS}
-use Rattle.wire.proofs.bytes.rows_s.Statement.{statement}
-use Rattle.wire.proofs.bytes.rows_s.Tie as tie
+use Rattle.wire.proofs.table.rows_s.Statement.{statement}
+use Rattle.wire.proofs.table.rows_s.Tie as tie
 
 signed-x : (c : tie.After-sign-bit) → c .sign-bit .result ≡ value (nonNeg (c .before .args .x))
 signed-x c = rw (toZ-ofZ (c .before .fits .x)) at (c .sign-bit .ensures)

@@ -1,7 +1,8 @@
 -- `bytes_of`: an accepted report keeps to what each row asks.
 use borrow.Author.Needs.{needs}
 use lib.IntN.{pos, negℤ, _-ℤ_}
-use mathlib.Core.Path.{_≡_, sym}
+use lib.Signed.{mag}
+use mathlib.Core.Path.{_≡_, sym, ap}
 use mir.Syntax.{w16}
 use mir.Val.{toZ, ofZ}
 use native.Mathlib.Omega.{arith}
@@ -13,8 +14,8 @@ use Rattle.wire.proofs.Sums.{sum-U, sum-T}
 use Rattle.wire.specs.Table.{bytesS, bytesV, bytesA, rowsA, bytesB, bytesU, bytesT, bytesW, rowsW}
 use Rattle.wire.specs.declared.Format.the-variants.{Mm, Microsoft, Absolute, Relative, FiveByte, ThreeByte, Hexadecimal}
 use Rattle.wire.specs.declared.Format.{Format}
-use Rattle.wire.proofs.bytes.bytes_of.Statement.{statement}
-use Rattle.wire.proofs.bytes.bytes_of.Tie as tie
+use Rattle.wire.proofs.table.bytes_of.Statement.{statement}
+use Rattle.wire.proofs.table.bytes_of.Tie as tie
 
 of : (f : Format) (c : tie.Start) → c .args .f ≡ f → Parts f (c .args .r)
 of f c e = parts f (c .args .r) (rw e at (c .pre))
@@ -45,14 +46,14 @@ rows-s-requires c κs = let s = c .before .before .before .before in let p = of 
 enum-told-2 : tie.Need-enum-told-2
 enum-told-2 c = search needs
 
-byte-of-requires : tie.Need-byte-of-requires
-byte-of-requires c κs = let s = c .before .before .before .before in let p = of Microsoft s (c .enum-told2 .given .1) in rw (x-is s) (within-near 127 (s .args .r .x1) (p .moved .x))
+sub-south : tie.Need-sub-south
+sub-south c = let s = c .before .before .before .before in let p = of Microsoft s (c .enum-told2 .given .1) in rw (y-is s) (minus-fits w16 (s .args .r .y1) (omega (arith, near-neg (s .args .r .y1), south 126 (s .args .r .y1) (p .moved .y))))
 
-sub-byte-of : tie.Need-sub-byte-of
-sub-byte-of c = let s = c .before .before .before .before .before in let p = of Microsoft s (c .before .enum-told2 .given .1) in rw (y-is s) (minus-fits w16 (s .args .r .y1) (omega (arith, near-neg (s .args .r .y1), south 126 (s .args .r .y1) (p .moved .y))))
+wrapped-byte-requires : tie.Need-wrapped-byte-requires
+wrapped-byte-requires c κs = let s = c .before .before .before .before in let p = of Microsoft s (c .enum-told2 .given .1) in rw (x-is s) (within-near 127 (s .args .r .x1) (p .moved .x))
 
-byte-of-requires-2 : tie.Need-byte-of-requires-2
-byte-of-requires-2 c κs = let s = c .before .before .before .before .before in let p = of Microsoft s (c .before .enum-told2 .given .1) in rw (minus-y s p) (south 126 (s .args .r .y1) (p .moved .y))
+wrapped-byte-requires-2 : tie.Need-wrapped-byte-requires-2
+wrapped-byte-requires-2 c κs = let s = c .before .before .before .before .before in let p = of Microsoft s (c .before .enum-told2 .given .1) in omega (arith, ap mag (minus-y s p), south 126 (s .args .r .y1) (p .moved .y))
 
 rows-v-requires : tie.Need-rows-v-requires
 rows-v-requires c κs = let s = c .before .before .before .before .before .before in let p = of Microsoft s (c .before .before .enum-told2 .given .1) in omega arith
@@ -92,35 +93,35 @@ sub-t14 c = let s = c .before .before .before .before in let p = of FiveByte s (
 add-t15 : tie.Need-add-t15
 add-t15 c = search needs
 
-byte-of-requires-3 : tie.Need-byte-of-requires-3
-byte-of-requires-3 c κs = let s = c .before .before .before .before in let p = of FiveByte s (c .enum-told5 .given .1) in rw (x-is s) (within-near 127 (s .args .r .x1) (p .moved .x))
+wrapped-byte-requires-3 : tie.Need-wrapped-byte-requires-3
+wrapped-byte-requires-3 c κs = let s = c .before .before .before .before in let p = of FiveByte s (c .enum-told5 .given .1) in rw (x-is s) (within-near 127 (s .args .r .x1) (p .moved .x))
 
-byte-of-requires-4 : tie.Need-byte-of-requires-4
-byte-of-requires-4 c κs = let s = c .before .before .before .before .before in let p = of FiveByte s (c .before .enum-told5 .given .1) in rw (y-is s) (within-near 127 (s .args .r .y1) (p .moved .y))
+wrapped-byte-requires-4 : tie.Need-wrapped-byte-requires-4
+wrapped-byte-requires-4 c κs = let s = c .before .before .before .before .before in let p = of FiveByte s (c .before .enum-told5 .given .1) in rw (y-is s) (within-near 127 (s .args .r .y1) (p .moved .y))
 
-byte-of-requires-5 : tie.Need-byte-of-requires-5
-byte-of-requires-5 c κs = let s = c .before .before .before .before .before .before .before in let p = of FiveByte s (c .before .before .before .enum-told5 .given .1) in rw (second-x-is s) (within-near 127 (s .args .r .x2) (p .moved .second-x))
+wrapped-byte-requires-5 : tie.Need-wrapped-byte-requires-5
+wrapped-byte-requires-5 c κs = let s = c .before .before .before .before .before .before .before in let p = of FiveByte s (c .before .before .before .enum-told5 .given .1) in rw (second-x-is s) (within-near 127 (s .args .r .x2) (p .moved .second-x))
 
-byte-of-requires-6 : tie.Need-byte-of-requires-6
-byte-of-requires-6 c κs = let s = c .before .before .before .before .before .before .before .before .before in let p = of FiveByte s (c .before .before .before .before .before .enum-told5 .given .1) in rw (second-y-is s) (within-near 127 (s .args .r .y2) (p .moved .second-y))
+wrapped-byte-requires-6 : tie.Need-wrapped-byte-requires-6
+wrapped-byte-requires-6 c κs = let s = c .before .before .before .before .before .before .before .before .before in let p = of FiveByte s (c .before .before .before .before .before .enum-told5 .given .1) in rw (second-y-is s) (within-near 127 (s .args .r .y2) (p .moved .second-y))
 
 enum-told-6 : tie.Need-enum-told-6
 enum-told-6 c = search needs
 
-byte-of-requires-7 : tie.Need-byte-of-requires-7
-byte-of-requires-7 c κs = let s = c .before .before .before .before in let p = of ThreeByte s (c .enum-told6 .given .1) in rw (x-is s) (within-near 127 (s .args .r .x1) (p .moved .x))
+wrapped-byte-requires-7 : tie.Need-wrapped-byte-requires-7
+wrapped-byte-requires-7 c κs = let s = c .before .before .before .before in let p = of ThreeByte s (c .enum-told6 .given .1) in rw (x-is s) (within-near 127 (s .args .r .x1) (p .moved .x))
 
-byte-of-requires-8 : tie.Need-byte-of-requires-8
-byte-of-requires-8 c κs = let s = c .before .before .before .before .before in let p = of ThreeByte s (c .before .enum-told6 .given .1) in rw (y-is s) (within-near 127 (s .args .r .y1) (p .moved .y))
+wrapped-byte-requires-8 : tie.Need-wrapped-byte-requires-8
+wrapped-byte-requires-8 c κs = let s = c .before .before .before .before .before in let p = of ThreeByte s (c .before .enum-told6 .given .1) in rw (y-is s) (within-near 127 (s .args .r .y1) (p .moved .y))
 
 enum-told-7 : tie.Need-enum-told-7
 enum-told-7 c = search needs
 
-byte-of-requires-9 : tie.Need-byte-of-requires-9
-byte-of-requires-9 c κs = let s = c .before .before .before .before in let p = of Hexadecimal s (c .enum-told7 .given .1) in rw (x-is s) (within-near 127 (s .args .r .x1) (p .moved .x))
+wrapped-byte-requires-9 : tie.Need-wrapped-byte-requires-9
+wrapped-byte-requires-9 c κs = let s = c .before .before .before .before in let p = of Hexadecimal s (c .enum-told7 .given .1) in rw (x-is s) (within-near 127 (s .args .r .x1) (p .moved .x))
 
-byte-of-requires-10 : tie.Need-byte-of-requires-10
-byte-of-requires-10 c κs = let s = c .before .before .before .before .before in let p = of Hexadecimal s (c .before .enum-told7 .given .1) in rw (y-is s) (within-near 127 (s .args .r .y1) (p .moved .y))
+wrapped-byte-requires-10 : tie.Need-wrapped-byte-requires-10
+wrapped-byte-requires-10 c κs = let s = c .before .before .before .before .before in let p = of Hexadecimal s (c .before .enum-told7 .given .1) in rw (y-is s) (within-near 127 (s .args .r .y1) (p .moved .y))
 
 rows-w-requires : tie.Need-rows-w-requires
 rows-w-requires c κs = let s = c .before .before .before .before .before .before in let p = of Hexadecimal s (c .before .before .enum-told7 .given .1) in omega arith
@@ -134,7 +135,7 @@ unfolding bytesV
 returns-2 c = let s = c .before .before .before .before .before .before .before in
     let p = of Microsoft s (c .before .before .before .enum-told2 .given .1) in
     rw (c .before .before .before .enum-told2 .given .1)
-    (rw (c .before .before .byte-of .ensures, c .before .byte-of2 .ensures, x-is s, minus-y s p) at (c .rows-v .ensures))
+    (rw (c .before .before .wrapped-byte .ensures, c .before .wrapped-byte2 .ensures, x-is s, minus-y s p) at (c .rows-v .ensures))
 
 returns-3 : tie.Need-returns-3
 unfolding bytesA rowsA
@@ -154,20 +155,20 @@ returns-5 c = let s = c .before .before .before .before .before .before .before 
     let p = of FiveByte s (c .before .before .before .before .before .before .enum-told5 .given .1) in
     rw (c .before .before .before .before .before .before .enum-told5 .given .1)
     (simp
-    (sum-U (s .args .r .buttons) (omega arith), c .before .before .before .before .before .byte-of3 .ensures, c .before .before .before .before .byte-of4 .ensures, c .before .before .byte-of5 .ensures, c .byte-of6 .ensures, x-is s, y-is s, second-x-is s, second-y-is s))
+    (sum-U (s .args .r .buttons) (omega arith), c .before .before .before .before .before .wrapped-byte3 .ensures, c .before .before .before .before .wrapped-byte4 .ensures, c .before .before .wrapped-byte5 .ensures, c .wrapped-byte6 .ensures, x-is s, y-is s, second-x-is s, second-y-is s))
 
 returns-6 : tie.Need-returns-6
 unfolding bytesT
 returns-6 c = let s = c .before .before .before .before .before .before in
     let p = of ThreeByte s (c .before .before .enum-told6 .given .1) in
     rw (c .before .before .enum-told6 .given .1)
-    (simp (sym (sum-T (s .args .r .buttons) (omega arith)), c .before .byte-of7 .ensures, c .byte-of8 .ensures, x-is s, y-is s))
+    (simp (sym (sum-T (s .args .r .buttons) (omega arith)), c .before .wrapped-byte7 .ensures, c .wrapped-byte8 .ensures, x-is s, y-is s))
 
 returns-7 : tie.Need-returns-7
 unfolding bytesW rowsW
 returns-7 c = let s = c .before .before .before .before .before .before .before in
     rw (c .before .before .before .enum-told7 .given .1)
-    (rw (c .before .before .byte-of9 .ensures, c .before .byte-of10 .ensures, x-is s, y-is s) at (c .rows-w .ensures))
+    (rw (c .before .before .wrapped-byte9 .ensures, c .before .wrapped-byte10 .ensures, x-is s, y-is s) at (c .rows-w .ensures))
 
 pub bytes-of-spec : {M : Type 1} → statement M
 bytes-of-spec =
@@ -176,9 +177,9 @@ bytes-of-spec =
     enum-told
     rows-s-requires
     enum-told-2
-    byte-of-requires
-    sub-byte-of
-    byte-of-requires-2
+    sub-south
+    wrapped-byte-requires
+    wrapped-byte-requires-2
     rows-v-requires
     enum-told-3
     magnitude-requires
@@ -191,16 +192,16 @@ bytes-of-spec =
     enum-told-5
     sub-t14
     add-t15
-    byte-of-requires-3
-    byte-of-requires-4
-    byte-of-requires-5
-    byte-of-requires-6
+    wrapped-byte-requires-3
+    wrapped-byte-requires-4
+    wrapped-byte-requires-5
+    wrapped-byte-requires-6
     enum-told-6
-    byte-of-requires-7
-    byte-of-requires-8
+    wrapped-byte-requires-7
+    wrapped-byte-requires-8
     enum-told-7
-    byte-of-requires-9
-    byte-of-requires-10
+    wrapped-byte-requires-9
+    wrapped-byte-requires-10
     rows-w-requires
     returns
     returns-2

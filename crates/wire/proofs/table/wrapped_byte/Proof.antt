@@ -1,11 +1,11 @@
--- `byte_of`: two's complement at 128 is a byte.
+-- `wrapped_byte`: two's complement at 128 is a byte.
 use borrow.Author.Needs.{needs}
 use mathlib.Core.Path.{_≡_}
 use mir.Facts.{toZ-ofZ}
 use Rattle.numbers.proofs.Twos.{twos-below}
 use Rattle.numbers.specs.Signed.{twos}
-use Rattle.wire.proofs.bytes.byte_of.Statement.{statement}
-use Rattle.wire.proofs.bytes.byte_of.Tie as tie
+use Rattle.wire.proofs.table.wrapped_byte.Statement.{statement}
+use Rattle.wire.proofs.table.wrapped_byte.Tie as tie
 
 wire : (c : tie.After-wrapped) → c .wrapped .result ≡ twos 128 (c .before .args .v)
 wire c = rw (toZ-ofZ (c .before .fits .v)) at (c .wrapped .ensures)
@@ -19,5 +19,5 @@ cast-result c = record { fits = rw (wire c) (twos-below 128 (c .before .args .v)
 returns : tie.Need-returns
 returns c = wire c
 
-pub byte-of-spec : {M : Type 1} → statement M
-byte-of-spec = tie.close (tie.spec wrapped-requires cast-result returns)
+pub wrapped-byte-spec : {M : Type 1} → statement M
+wrapped-byte-spec = tie.close (tie.spec wrapped-requires cast-result returns)

@@ -10,8 +10,8 @@ use Rattle.numbers.specs.Bits.{number, bits}
 use Rattle.numbers.specs.Parity.{withParity, evened}
 use Rattle.wire.proofs.Sums.{sum-A, sum-low, sum-high}
 use Rattle.wire.specs.Table.{rowsA}
-use Rattle.wire.proofs.bytes.rows_a.Statement.{statement}
-use Rattle.wire.proofs.bytes.rows_a.Tie as tie
+use Rattle.wire.proofs.table.rows_a.Statement.{statement}
+use Rattle.wire.proofs.table.rows_a.Tie as tie
 
 -- seven bits under their parity, from the number that they make
 bits-of : {n : ℕ} (row : List Bool) → n ≡ number row → length row ≡ 7 → evened n ≡ number (withParity row)

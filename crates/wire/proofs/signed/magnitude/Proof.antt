@@ -9,8 +9,8 @@ use native.Mathlib.Omega.{arith}
 use Rattle.numbers.proofs.Machine.{minus-fits, minus-kept}
 use Rattle.numbers.proofs.Tested.{holds}
 use Rattle.numbers.proofs.Twos.{neg-magnitude, below-neg, above-nonNeg, magnitude-near}
-use Rattle.wire.proofs.signs.magnitude.Statement.{statement}
-use Rattle.wire.proofs.signs.magnitude.Tie as tie
+use Rattle.wire.proofs.signed.magnitude.Statement.{statement}
+use Rattle.wire.proofs.signed.magnitude.Tie as tie
 
 -- the negated movement, as the machine has it
 negated : (c : tie.Then1) → toZ w16 (ofZ w16 (pos 0 -ℤ toZ w16 (ofZ w16 (c .before .args .v)))) ≡ negℤ (c .before .args .v)

@@ -1,8 +1,8 @@
 -- `sign_bit`: the sign decides.
 use mir.Facts.{toZ-ofZ}
 use Rattle.numbers.proofs.Twos.{below-nonNeg, above-nonNeg}
-use Rattle.wire.proofs.bytes.sign_bit.Statement.{statement}
-use Rattle.wire.proofs.bytes.sign_bit.Tie as tie
+use Rattle.wire.proofs.table.sign_bit.Statement.{statement}
+use Rattle.wire.proofs.table.sign_bit.Tie as tie
 
 returns : tie.Need-returns
 returns c = rw (below-nonNeg (c .before .args .v) (rw (toZ-ofZ (c .before .fits .v)) at (c .if1 .taken)))

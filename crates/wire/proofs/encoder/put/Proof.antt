@@ -8,8 +8,8 @@ use native.Mathlib.Numerals.{add-one}
 use borrow.Author.Needs.{needs}
 use lib.ListN.{length, take, drop, getD, set}
 use lib.Seq.{paste, paste-zero, paste-suc, length-paste}
-use Rattle.wire.proofs.bytes.put.Statement.{statement}
-use Rattle.wire.proofs.bytes.put.Tie as tie
+use Rattle.wire.proofs.encoder.put.Statement.{statement}
+use Rattle.wire.proofs.encoder.put.Tie as tie
 
 abbrev Inv-loop : tie.InvT-loop
 Inv-loop buffer₀ count bytes i₀ buffer i = (i ≤ count) × (buffer ≡ paste buffer₀ 0 bytes i)

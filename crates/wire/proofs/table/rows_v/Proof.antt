@@ -3,8 +3,8 @@ use borrow.Author.Needs.{needs}
 use mathlib.Core.Path.{ap}
 use Rattle.wire.proofs.Sums.{rows-V}
 use Rattle.wire.specs.Table.{five}
-use Rattle.wire.proofs.bytes.rows_v.Statement.{statement}
-use Rattle.wire.proofs.bytes.rows_v.Tie as tie
+use Rattle.wire.proofs.table.rows_v.Statement.{statement}
+use Rattle.wire.proofs.table.rows_v.Tie as tie
 
 add-first : tie.Need-add-first
 add-first c = search needs

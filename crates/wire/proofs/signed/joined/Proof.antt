@@ -8,8 +8,8 @@ use mir.Val.{toZ}
 use native.Mathlib.Omega.{arith}
 use Rattle.numbers.proofs.Machine.{minus-fits, minus-kept}
 use Rattle.numbers.specs.Signed.{signed}
-use Rattle.wire.proofs.signs.joined.Statement.{statement}
-use Rattle.wire.proofs.signs.joined.Tie as tie
+use Rattle.wire.proofs.signed.joined.Statement.{statement}
+use Rattle.wire.proofs.signed.joined.Tie as tie
 
 plain : (c : tie.Start) → toZ w16 (c .args .magnitude) ≡ pos (c .args .magnitude)
 plain c = toZ-pos w16 (omega arith)

@@ -2,8 +2,8 @@
 use borrow.Author.Needs.{needs}
 use Rattle.wire.proofs.Sums.{low-four, high-four}
 use Rattle.wire.specs.Table.{rowsW}
-use Rattle.wire.proofs.bytes.rows_w.Statement.{statement}
-use Rattle.wire.proofs.bytes.rows_w.Tie as tie
+use Rattle.wire.proofs.table.rows_w.Statement.{statement}
+use Rattle.wire.proofs.table.rows_w.Tie as tie
 
 digit-of-requires : tie.Need-digit-of-requires
 digit-of-requires c κs = search needs

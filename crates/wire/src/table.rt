@@ -1,9 +1,7 @@
 // The bytes of a report in a format, which holds it.
 ghost use mathlib.Core.Path.{_≡_};
 ghost use mathlib.Core.Bool.{true};
-ghost use mathlib.Core.List.{_++_};
 ghost use Prim.Native.Nat.{_≤_, _<_};
-ghost use lib.ListN.{length, take, drop};
 ghost use lib.IntN.{natAbs};
 ghost use lib.Signed.{mag, nonNeg};
 ghost use Rattle.numbers.specs.Bits.{value, bit};
@@ -15,8 +13,8 @@ use crate::Format;
 use crate::Report;
 use crate::digits::digit_of;
 use crate::parity::with_parity;
-use crate::signs::magnitude;
-use crate::signs::wrapped;
+use crate::signed::magnitude;
+use crate::signed::wrapped;
 
 // The sign bit of S: 1 is positive, and zero is sent so.
 fn sign_bit(v: i16) -> u8
@@ -26,7 +24,7 @@ fn sign_bit(v: i16) -> u8
 }
 
 // A two's complement byte.
-fn byte_of(v: i16) -> u8
+fn wrapped_byte(v: i16) -> u8
     requires { ⌜ mag v < 128 ⌝ }
     ensures { λ r. ⌜ r ≡ twos 128 v ⌝ }
 {
@@ -87,29 +85,20 @@ pub(crate) fn bytes_of(f: Format, r: Report) -> [u8; 5]
     let y = r.y1;
     match f {
         Format::Mm => rows_s(b, x, y),
-        Format::Microsoft => rows_v(b, byte_of(x), byte_of(-y)),
+        Format::Microsoft => {
+            let south = -y;
+            rows_v(b, wrapped_byte(x), wrapped_byte(south))
+        }
         Format::Absolute => rows_a(r, magnitude(x), magnitude(y)),
         Format::Relative => rows_a(r, wrapped(x, 2048), wrapped(y, 2048)),
         Format::FiveByte => [
             128 + (7 - b),
-            byte_of(x),
-            byte_of(y),
-            byte_of(r.x2),
-            byte_of(r.y2),
+            wrapped_byte(x),
+            wrapped_byte(y),
+            wrapped_byte(r.x2),
+            wrapped_byte(r.y2),
         ],
-        Format::ThreeByte => [b, byte_of(x), byte_of(y), 0, 0],
-        Format::Hexadecimal => rows_w(b, byte_of(x), byte_of(y)),
-    }
-}
-
-// The first bytes of five to the front of a buffer, which has room for them.
-pub(crate) fn put(buffer: &mut [u8], bytes: [u8; 5], count: usize)
-    requires { ⌜ (count ≤ 5) × (count ≤ length (now buffer)) ⌝ }
-    ensures { λ _. ⌜ now (buffer .exit) ≡ take count bytes ++ drop count (now (buffer .entry)) ⌝ }
-{
-    let mut i = 0;
-    while i < count {
-        buffer[i] = bytes[i];
-        i += 1;
+        Format::ThreeByte => [b, wrapped_byte(x), wrapped_byte(y), 0, 0],
+        Format::Hexadecimal => rows_w(b, wrapped_byte(x), wrapped_byte(y)),
     }
 }

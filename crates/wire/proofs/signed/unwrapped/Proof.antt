@@ -4,8 +4,8 @@ use mathlib.Core.Path.{_∙_, sym}
 use mir.Syntax.{w16}
 use Rattle.numbers.proofs.Machine.{kept}
 use Rattle.numbers.proofs.Twos.{untwos-low, untwos-high}
-use Rattle.wire.proofs.signs.unwrapped.Statement.{statement}
-use Rattle.wire.proofs.signs.unwrapped.Tie as tie
+use Rattle.wire.proofs.signed.unwrapped.Statement.{statement}
+use Rattle.wire.proofs.signed.unwrapped.Tie as tie
 
 joined-requires : tie.Need-joined-requires
 joined-requires c κs = search needs

@@ -6,8 +6,8 @@ use mathlib.Core.Path.{_≡_, _∙_, sym}
 use mir.Facts.{toZ-ofZ}
 use native.Mathlib.Omega.{arith}
 use Rattle.numbers.proofs.Twos.{twos-minus, twos-plus, magnitude-near}
-use Rattle.wire.proofs.signs.wrapped.Statement.{statement}
-use Rattle.wire.proofs.signs.wrapped.Tie as tie
+use Rattle.wire.proofs.signed.wrapped.Statement.{statement}
+use Rattle.wire.proofs.signed.wrapped.Tie as tie
 
 size : (c : tie.After-magnitude) → c .magnitude .result ≡ natAbs (c .before .before .args .v)
 size c = rw (toZ-ofZ (c .before .before .fits .v)) at (c .magnitude .ensures)
