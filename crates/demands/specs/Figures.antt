@@ -12,7 +12,7 @@ use Rattle.wire.specs.Line.{letterOf, namedBy, sizeBy, markedBy, known}
 use Rattle.wire.specs.Table.{bytesS, bytesV, rowsV, bytesB, rowsA, bytesU, bytesT, bytesW, rowsW}
 use Rattle.wire.specs.Digits.{digit, undigit}
 use Rattle.wire.specs.Holds.{holds, accepted}
-use Rattle.wire.specs.Fits.{𝟏, 𝟎, ·, like, fitsFirst, fitsLater, fitsAt, fitsBy}
+use Rattle.wire.specs.Places.{𝟏, 𝟎, ·, like, fitsFirst, fitsLater, fitsAt, fitsBy}
 use Rattle.wire.specs.Reading.{report, reportBy, readS, readW}
 use Rattle.wire.specs.Encoder.{refusalOf}
 use Rattle.wire.specs.declared.Format.the-variants.{Mm, Microsoft, Relative, FiveByte, ThreeByte, Hexadecimal}

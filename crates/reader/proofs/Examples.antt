@@ -7,7 +7,7 @@ use lib.IntN.{ℤ, pos}
 use Rattle.numbers.specs.Bits.{bit, bits, number}
 use Rattle.numbers.specs.Signed.{signed, untwos, minus}
 use Rattle.wire.specs.Line.{break, silence, namedBy, sizeBy, markedBy, known}
-use Rattle.wire.specs.Fits.{like, fitsFirst, fitsLater, fitsAt, fitsBy}
+use Rattle.wire.specs.Places.{like, fitsFirst, fitsLater, fitsAt, fitsBy}
 use Rattle.wire.specs.Reading.{readS, readU, reportBy, plusZero, settledBy}
 use Rattle.reader.specs.State.{reader, fresh, ready}
 use Rattle.reader.specs.Good.{placed, good}

@@ -12,7 +12,7 @@ use borrow.Author.Tests.{leb-true, leb-false, eqb-true, eqb-false, ne-eqb}
 use Rattle.reader.proofs.Sentences.{awaits-only-unmarked}
 use Rattle.numbers.proofs.Tested.{left, right}
 use Rattle.wire.specs.Line.{isByte, letterOf, namedBy, sizeOf, markedOf, sizeBy, markedBy, known, lineWords}
-use Rattle.wire.specs.Fits.{fitsAt}
+use Rattle.wire.specs.Places.{fitsAt}
 use Rattle.wire.specs.Reading.{reportOf, reportBy}
 use Rattle.wire.specs.Numbers.{success}
 use Rattle.wire.specs.declared.Report.{Report}

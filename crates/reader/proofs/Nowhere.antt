@@ -10,7 +10,7 @@ use Rattle.numbers.specs.Bits.{bit}
 use Rattle.numbers.specs.Parity.{even}
 use Rattle.numbers.proofs.Tested.{agree-if}
 use Rattle.wire.specs.Line.{namedBy, markedOf, markedBy}
-use Rattle.wire.specs.Fits.{like, fitsAt, fitsFirst, fitsLater, fitsBy}
+use Rattle.wire.specs.Places.{like, fitsAt, fitsFirst, fitsLater, fitsBy}
 use Rattle.wire.specs.Digits.{isDigit}
 use Rattle.wire.specs.declared.Format.{Format}
 use Rattle.wire.specs.declared.Format.the-variants.{Mm, Microsoft, Absolute, Relative, Hexadecimal}

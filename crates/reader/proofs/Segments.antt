@@ -15,7 +15,7 @@ use Rattle.numbers.proofs.Tested.{left, right}
 use Rattle.wire.specs.Line.{sizeOf, lineWords}
 use Rattle.wire.specs.Table.{bytesOf}
 use Rattle.wire.specs.Holds.{accepted}
-use Rattle.wire.specs.Fits.{fitsAt}
+use Rattle.wire.specs.Places.{fitsAt}
 use Rattle.wire.specs.Passages.{Passage, silent, finished, broken, reply, brokenReply, wordsOf, passageWords, Going, nothing, report, replying, goingWords, SoundOf, Sound, SoundGoing, Unbroken, finishedIn, finishedReports}
 use Rattle.wire.specs.declared.Report.{Report}
 use Rattle.wire.specs.declared.Format.{Format}

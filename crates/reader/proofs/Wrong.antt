@@ -8,7 +8,7 @@ use lib.IntN.{ℤ, pos, natAbs}
 use Rattle.numbers.specs.Bits.{bit, bits, number}
 use Rattle.numbers.specs.Signed.{signed}
 use Rattle.wire.specs.Line.{break, namedBy, sizeBy, markedBy, known}
-use Rattle.wire.specs.Fits.{like, fitsFirst, fitsLater, fitsAt, fitsBy}
+use Rattle.wire.specs.Places.{like, fitsFirst, fitsLater, fitsAt, fitsBy}
 use Rattle.wire.specs.Reading.{readS, reportBy}
 use Rattle.reader.specs.State.{reader, fresh, ready}
 use Rattle.reader.specs.Good.{placed, good}

@@ -26,7 +26,7 @@ use Rattle.numbers.proofs.Tested.{same, agree-if, refused, holds as so}
 use Rattle.wire.specs.Line.{sizeOf, markedOf}
 use Rattle.wire.specs.Table.{bytesOf, bytesS, bytesV, bytesA, bytesB, bytesU, bytesT, bytesW, rowsV, rowsA, rowsW}
 use Rattle.wire.specs.Holds.{holds, accepted, carried}
-use Rattle.wire.specs.Fits.{like, fitsAt, fitsFirst, fitsLater, valid}
+use Rattle.wire.specs.Places.{like, fitsAt, fitsFirst, fitsLater, valid}
 use Rattle.wire.specs.Reading.{at, reportOf, settled}
 use Rattle.wire.specs.declared.Report.{Report}
 use Rattle.wire.specs.declared.Format.{Format}

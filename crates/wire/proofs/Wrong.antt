@@ -10,7 +10,7 @@ use Rattle.numbers.specs.Bits.{bit, number}
 use Rattle.numbers.specs.Signed.{minus, untwos}
 use Rattle.wire.specs.Line.{letterOf, namedBy, known, sizeBy, markedBy}
 use Rattle.wire.specs.Holds.{holds}
-use Rattle.wire.specs.Fits.{like, fitsFirst, fitsAt, fitsBy}
+use Rattle.wire.specs.Places.{like, fitsFirst, fitsAt, fitsBy}
 use Rattle.wire.specs.Reading.{report, readU, reportBy}
 use Rattle.wire.specs.Encoder.{Encoding, encodeIn}
 use Rattle.wire.specs.Promises.{KnownPromise, SizePromise, MarkedPromise, FitsPromise, ReportPromise, EncodePromise, RefusalPromise, LengthPromise}

@@ -5,7 +5,7 @@ use mathlib.Core.Bool.{Bool, true, _||_}
 use mathlib.Core.List.{List}
 use lib.Dec.{eqb}
 use Rattle.wire.specs.Line.{known, sizeBy, markedBy}
-use Rattle.wire.specs.Fits.{fitsBy}
+use Rattle.wire.specs.Places.{fitsBy}
 use Rattle.wire.specs.Reading.{reportBy}
 use Rattle.wire.specs.Numbers.{success, badLetter, badButtons, badMovement, shortBuffer}
 use Rattle.wire.specs.Encoder.{Encoding, refusalOf, lengthOf, outcome, refused, encodeOf}

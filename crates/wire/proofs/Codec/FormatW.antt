@@ -16,7 +16,7 @@ use Rattle.numbers.proofs.Twos.{twos-untwos}
 use Rattle.wire.specs.Table.{rowsW, bytesW}
 use Rattle.wire.specs.Digits.{between, digit, undigit}
 use Rattle.wire.specs.Holds.{within, xRange}
-use Rattle.wire.specs.Fits.{fitsFirst, fitsLater, allLater, valid}
+use Rattle.wire.specs.Places.{fitsFirst, fitsLater, allLater, valid}
 use Rattle.wire.specs.Reading.{pair, readW, reportOf}
 use Rattle.wire.specs.declared.Report.{Report}
 use Rattle.wire.specs.declared.Format.the-variants.{Hexadecimal}
