@@ -9,10 +9,11 @@ use Rattle.numbers.specs.Bits.{number, bit, bits}
 use Rattle.numbers.specs.Signed.{minus, twos, untwos, signed}
 use Rattle.numbers.specs.Parity.{even, withParity}
 use Rattle.wire.specs.Line.{letterOf, namedBy, sizeBy, markedBy, known}
-use Rattle.wire.specs.Table.{bytesS, bytesV, rowsV, bytesB, rowsA, bytesU, bytesT, digit, bytesW, rowsW}
+use Rattle.wire.specs.Table.{bytesS, bytesV, rowsV, bytesB, rowsA, bytesU, bytesT, bytesW, rowsW}
+use Rattle.wire.specs.Digits.{digit, undigit}
 use Rattle.wire.specs.Holds.{holds, accepted}
-use Rattle.wire.specs.Fits.{𝟏, 𝟎, ·, like, fitsFirst, fitsLater, fitsAt, fitsBy}
-use Rattle.wire.specs.Reading.{report, reportBy, readS, readW, undigit}
+use Rattle.wire.specs.Places.{𝟏, 𝟎, ·, like, fitsFirst, fitsLater, fitsAt, fitsBy}
+use Rattle.wire.specs.Reading.{report, reportBy, readS, readW}
 use Rattle.wire.specs.Encoder.{refusalOf}
 use Rattle.wire.specs.declared.Format.the-variants.{Mm, Microsoft, Relative, FiveByte, ThreeByte, Hexadecimal}
 use Rattle.wire.proofs.Answers.{movement-refused}

@@ -11,7 +11,7 @@ use Rattle.numbers.proofs.Tested.{left, right}
 use Rattle.frames.specs.Words.{break, silence, lineWords}
 use Rattle.frames.proofs.Words.{passing, passing-left, passing-right}
 use Rattle.wire.specs.Line.{letterOf}
-use Rattle.wire.specs.Fits.{fitsAt}
+use Rattle.wire.specs.Places.{fitsAt}
 use Rattle.wire.specs.declared.Format.{Format}
 use Rattle.wire.proofs.Letters.{letter-named, fits-named}
 use Rattle.wire.proofs.Codec.{fits-byte}

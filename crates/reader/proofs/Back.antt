@@ -12,7 +12,7 @@ use borrow.Author.Tests.{lt-ltb, eqb-true, eqb-false}
 use Rattle.wire.proofs.Codec.Shapes.{fits-valid}
 use Rattle.numbers.proofs.Tested.{holds}
 use Rattle.wire.specs.Line.{namedBy, sizeOf, sizeBy, known}
-use Rattle.wire.specs.Fits.{fitsAt, fitsBy, valid}
+use Rattle.wire.specs.Places.{fitsAt, fitsBy, valid}
 use Rattle.wire.specs.Reading.{reportOf, reportBy, settledBy}
 use Rattle.wire.specs.Numbers.{success}
 use Rattle.wire.specs.Encoder.{Encoding, refusalOf, lengthOf, encodeIn}

@@ -12,7 +12,7 @@ use Rattle.frames.specs.Words.{lineWords}
 use Rattle.wire.specs.Line.{letterOf, namedBy, sizeBy, markedBy, known}
 use Rattle.wire.specs.Table.{bytesOf, bytesS, bytesT, bytesU}
 use Rattle.wire.specs.Holds.{holds, accepted}
-use Rattle.wire.specs.Fits.{like, fitsFirst, fitsLater, fitsAt, fitsBy}
+use Rattle.wire.specs.Places.{like, fitsFirst, fitsLater, fitsAt, fitsBy}
 use Rattle.wire.specs.Reading.{readS, readT, readU, reportBy}
 use Rattle.wire.specs.Reading as reading
 use Rattle.wire.specs.Numbers.{success}

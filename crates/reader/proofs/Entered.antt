@@ -6,7 +6,7 @@ use mathlib.Core.List.{List, map}
 use lib.Dec.{eqb}
 use Rattle.frames.specs.Words.{isByte}
 use Rattle.wire.specs.Line.{letterOf}
-use Rattle.wire.specs.Fits.{fitsBy}
+use Rattle.wire.specs.Places.{fitsBy}
 use Rattle.wire.specs.declared.Format.the-variants.{Microsoft}
 use Rattle.reader.specs.Rules.{entered}
 

@@ -13,7 +13,7 @@ use Rattle.reader.proofs.Sentences.{awaits-only-unmarked}
 use Rattle.numbers.proofs.Tested.{left, right}
 use Rattle.frames.specs.Words.{isByte, lineWords}
 use Rattle.wire.specs.Line.{letterOf, namedBy, sizeOf, markedOf, sizeBy, markedBy, known}
-use Rattle.wire.specs.Fits.{fitsAt}
+use Rattle.wire.specs.Places.{fitsAt}
 use Rattle.wire.specs.Reading.{reportOf, reportBy}
 use Rattle.wire.specs.Numbers.{success}
 use Rattle.wire.specs.declared.Report.{Report}

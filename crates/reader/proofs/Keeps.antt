@@ -10,7 +10,7 @@ use lib.Dec.{ltb, eqb}
 use borrow.Author.Tests.{lt-ltb, le-ltb, ltb-true, ltb-false, eqb-true, eqb-false}
 use Rattle.numbers.proofs.Tested.{right}
 use Rattle.wire.specs.Line.{sizeBy, markedBy, known}
-use Rattle.wire.specs.Fits.{fitsBy}
+use Rattle.wire.specs.Places.{fitsBy}
 use Rattle.reader.specs.State.{reader, unmarked, noBytes, fresh, ready}
 use Rattle.reader.specs.Good.{placed, good}
 use Rattle.reader.specs.Rules.{entered, fitting, more, finishes, keep, start, lose, byteOf, breakOf, silenceOf, wordOf}

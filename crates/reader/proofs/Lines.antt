@@ -13,7 +13,7 @@ use Rattle.frames.proofs.Passages.{sound-by, part-by, same-finished}
 use Rattle.frames.proofs.Words.{line-passes, lost-passes}
 use Rattle.wire.specs.Line.{sizeOf}
 use Rattle.wire.specs.Table.{bytesOf}
-use Rattle.wire.specs.Fits.{fitsAt}
+use Rattle.wire.specs.Places.{fitsAt}
 use Rattle.wire.specs.Holds.{accepted}
 use Rattle.wire.specs.Messages.{Message, report, reply, messageBytes, HeldBy, carriedIn, SoundIn, SoundEnd, finishedReports}
 use Rattle.wire.specs.declared.Report.{Report}

@@ -13,7 +13,8 @@ use Rattle.numbers.specs.Tests.{each}
 use Rattle.numbers.proofs.Choices.{cases, neither}
 use Rattle.numbers.proofs.Tested.{same, agree-if}
 use Rattle.wire.specs.Line.{letterOf, namedBy, markedOf}
-use Rattle.wire.specs.Fits.{like, between, isDigit, fitsAt, fitsFirst, fitsLater}
+use Rattle.wire.specs.Digits.{between, isDigit}
+use Rattle.wire.specs.Places.{like, fitsAt, fitsFirst, fitsLater}
 use Rattle.wire.specs.declared.Format.{Format}
 use Rattle.wire.specs.declared.Format.the-variants.{Mm, Microsoft, Absolute, Relative, FiveByte, ThreeByte, Hexadecimal}
 use Rattle.wire.specs.declared.Named.the-variants.{Known}

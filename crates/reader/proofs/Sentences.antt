@@ -10,7 +10,7 @@ use lib.Dec.{eqb, eqb·suc-zero}
 use borrow.Author.Tests.{le-leb, le-ltb, eqb-true, ne-eqb}
 use Rattle.numbers.proofs.Tested.{refused, holds}
 use Rattle.wire.specs.Line.{namedBy, ofNamed, sizeBy, markedOf, markedBy}
-use Rattle.wire.specs.Fits.{fitsAt, fitsBy}
+use Rattle.wire.specs.Places.{fitsAt, fitsBy}
 use Rattle.wire.specs.declared.Named.{Named}
 use Rattle.wire.specs.declared.Named.the-variants.{Known, Unknown}
 use Rattle.wire.proofs.Letters.{at-most-five, at-least-three}

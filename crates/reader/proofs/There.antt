@@ -17,7 +17,7 @@ use Rattle.numbers.proofs.Tested.{left, holds}
 use Rattle.wire.specs.Line.{namedBy, sizeOf, sizeBy, known}
 use Rattle.wire.specs.Table.{bytesOf}
 use Rattle.wire.specs.Holds.{accepted, carriedBy}
-use Rattle.wire.specs.Fits.{fitsAt, fitsFirst, fitsBy, allLater, valid}
+use Rattle.wire.specs.Places.{fitsAt, fitsFirst, fitsBy, allLater, valid}
 use Rattle.wire.specs.Reading.{reportOf, reportBy}
 use Rattle.wire.specs.Numbers.{success}
 use Rattle.wire.specs.Encoder.{Encoding, refusalOf, lengthOf, outcome, encodeIn}

@@ -7,7 +7,7 @@ use lib.ListN.{replicate}
 use lib.IntN.{ℤ, pos}
 use Rattle.numbers.specs.Bits.{bit}
 use Rattle.wire.specs.Line.{namedBy, sizeBy, markedBy, known}
-use Rattle.wire.specs.Fits.{like, fitsFirst, fitsLater, fitsAt, fitsBy}
+use Rattle.wire.specs.Places.{like, fitsFirst, fitsLater, fitsAt, fitsBy}
 use Rattle.reader.specs.State.{ready}
 use Rattle.reader.specs.Good.{placed, good}
 use Rattle.reader.specs.Rules.{entered, keep, byteOf, wordOf}

@@ -9,7 +9,7 @@ use borrow.Author.Tests.{eqb-true, eqb-false, leb-false}
 use Rattle.numbers.proofs.Tested.{left, right, holds}
 use Rattle.frames.specs.Words.{isByte, break, silence}
 use Rattle.wire.specs.Line.{sizeBy, markedBy}
-use Rattle.wire.specs.Fits.{fitsBy}
+use Rattle.wire.specs.Places.{fitsBy}
 use Rattle.wire.specs.Numbers.{success, badWord}
 use Rattle.reader.specs.Rules.{entered, refusing, dropping, alone, fitting, finishes, starting, straying, keep, start, stray, lose, byteOf, breakOf, silenceOf, wordOf}
 use Rattle.reader.specs.Counts.{byteIn, reportsIn, droppedIn}

@@ -9,7 +9,7 @@ use Rattle.numbers.specs.Bits.{bit, bits, number}
 use Rattle.numbers.specs.Signed.{signed}
 use Rattle.frames.specs.Words.{break}
 use Rattle.wire.specs.Line.{namedBy, sizeBy, markedBy, known}
-use Rattle.wire.specs.Fits.{like, fitsFirst, fitsLater, fitsAt, fitsBy}
+use Rattle.wire.specs.Places.{like, fitsFirst, fitsLater, fitsAt, fitsBy}
 use Rattle.wire.specs.Reading.{readS, reportBy}
 use Rattle.reader.specs.State.{reader, fresh, ready}
 use Rattle.reader.specs.Good.{placed, good}

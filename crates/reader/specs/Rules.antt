@@ -6,7 +6,7 @@ use lib.ListN.{set}
 use lib.Dec.{eqb}
 use Rattle.frames.specs.Words.{isByte, break, silence}
 use Rattle.wire.specs.Line.{sizeBy, markedBy}
-use Rattle.wire.specs.Fits.{fitsBy}
+use Rattle.wire.specs.Places.{fitsBy}
 use Rattle.wire.specs.Reading.{reportBy}
 use Rattle.wire.specs.Numbers.{success, badWord}
 use Rattle.reader.specs.State.{reader, unmarked, noBytes, ready}

@@ -1,6 +1,8 @@
--- The laws of the seven formats (Codec), their letters (Letters), the encoder (Accepts), what follows from the promises (Answers),
+-- The laws of the seven formats (Codec), their letters (Letters), the encoder (Accepts), what follows from the promises (Answers, Refusals, Wrong),
 -- and what the functions' proofs share.
 pub mod Answers
+pub mod Refusals
+pub mod Wrong
 pub mod Codec
 pub mod Accepts
 pub mod Fields
