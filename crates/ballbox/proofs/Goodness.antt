@@ -20,7 +20,7 @@ use Rattle.wire.specs.declared.Format.{Format}
 use Rattle.wire.specs.declared.Format.the-variants.{FiveByte}
 use Rattle.wire.proofs.Letters.{letter-named}
 use Rattle.wire.proofs.Front.{size-between}
-use Rattle.ballbox.specs.Box.{modeD, goingFrom, nothing, freshBox, Answer}
+use Rattle.ballbox.specs.Box.{modeD, goingFrom, nothing, freshBox, Step}
 use Rattle.ballbox.specs.Motion.{placedAt, placed, movedBy}
 use Rattle.ballbox.specs.Latching.{cleared, latchedReport, latched, withSecond, secondLatched}
 use Rattle.ballbox.specs.Commands.{letterP, space, letterf, lettert, byte05, letterd, isFormat, isStream, commandOf, ack, obeyed}
@@ -37,7 +37,7 @@ use Rattle.ballbox.specs.declared.Event.the-variants.{Motion, Buttons, H
 use Rattle.ballbox.specs.declared.Stepped.{Stepped}
 use Rattle.ballbox.proofs.Letters.{Lettered, known, unknown, lettered}
 use Rattle.ballbox.proofs.Accepting.{bytes-by-length}
-use Rattle.ballbox.proofs.Good.{letter-known, mode-known, few, GoodGoing, Good, parts, whole}
+use Rattle.ballbox.proofs.Parts.{letter-known, mode-known, few, GoodGoing, Good, parts, good-again}
 
 pub fresh-is-good : (b : BallBox) → FreshPromise b → good b ≡ true
 unfolding freshBox good goodSettings goodTrack goodGoing
@@ -210,7 +210,7 @@ unfolding latching sending
 slot-good b a g =
     cases (λ (x : BallBox). Good (sending x .next)) (not (bytesLeft b) && wanted b)
     (λ e. rw (latched-left b g) (first-good b a g))
-    (λ e. cases (λ (x : Answer). Good (x .next)) (bytesLeft b) (λ l. ready-good b a l g) (λ l. g))
+    (λ e. cases (λ (x : Step). Good (x .next)) (bytesLeft b) (λ l. ready-good b a l g) (λ l. g))
 
 -- a box with nothing going, ready to obey
 record Ready (b : BallBox) : Type 0 where
@@ -327,8 +327,8 @@ unfolding stepOf
 stepped-good b e g =
     let p = parts b g in
     rw g
-    (cases (λ (x : Answer). good (x .next) ≡ true) (aboveSeven e) (λ l. g)
-    (λ l. cases (λ (x : Answer). good (x .next) ≡ true) (b .dormant) (λ d. whole _ (asleep-good b e p)) (λ d. whole _ (awake-good b e l d p))))
+    (cases (λ (x : Step). good (x .next) ≡ true) (aboveSeven e) (λ l. g)
+    (λ l. cases (λ (x : Step). good (x .next) ≡ true) (b .dormant) (λ d. good-again _ (asleep-good b e p)) (λ d. good-again _ (awake-good b e l d p))))
 
 pub step-stays-good : (b : BallBox) (e : Event) (r : Stepped) → StepPromise b e r → good b ≡ true → good (r .next) ≡ true
-step-stays-good b e r s g = ap (λ (x : Answer). good (x .next)) s ∙ stepped-good b e g
+step-stays-good b e r s g = ap (λ (x : Step). good (x .next)) s ∙ stepped-good b e g

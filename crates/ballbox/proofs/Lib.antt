@@ -1,10 +1,10 @@
 -- The laws of the ball box: its one answer (Answers), the refusals and else the rules (Refusals), good boxes (Goodness), the words (Words),
 -- what moved means (Moving), what is latched (Latches), the host's bytes (Obeying), the dormant box (Dormancy) and the useless box (Useless).
 -- What these and the functions' proofs share: the letters (Letters), that what is latched is accepted (Accepting), a good box part by part
--- (Good), and a slot case by case (Slots).
+-- (Parts), and a slot case by case (Slots).
 pub mod Letters
 pub mod Accepting
-pub mod Good
+pub mod Parts
 pub mod Slots
 pub mod Goodness
 pub mod Answers

@@ -8,18 +8,18 @@ use borrow.Author.Tests.{eqb-true}
 use Rattle.numbers.proofs.Choices.{other, neither, cases}
 use Rattle.wire.specs.Line.{break, letterOf, namedBy}
 use Rattle.wire.specs.declared.Format.{Format}
-use Rattle.ballbox.specs.Box.{modeD, nothing, goingFrom, withGoing, Answer, gives, quietly}
+use Rattle.ballbox.specs.Box.{modeD, nothing, goingFrom, withGoing, Step}
 use Rattle.ballbox.specs.Commands.{letterP, space, letterf, lettert, byte05, letterd, isFormat, isStream, commandOf, isCommand, ack, codeOf, codeByte, obeyed}
-use Rattle.ballbox.specs.Events.{bytesLeft, brokenOff, dropped, onHost, awake}
+use Rattle.ballbox.specs.Events.{gives, quietly, bytesLeft, brokenOff, dropped, onHost, awake}
 use Rattle.ballbox.specs.Good.{good}
-use Rattle.ballbox.specs.Promises.{answerOf, StepPromise}
+use Rattle.ballbox.specs.Promises.{outcome, StepPromise}
 use Rattle.ballbox.specs.declared.Settings.{Settings}
 use Rattle.ballbox.specs.declared.BallBox.{BallBox}
 use Rattle.ballbox.specs.declared.Command.the-variants.{Ignored}
 use Rattle.ballbox.specs.declared.Event.the-variants.{Host}
 use Rattle.ballbox.specs.declared.Stepped.{Stepped}
 use Rattle.wire.proofs.Letters.{letter-named}
-use Rattle.ballbox.proofs.Good.{mode-known, parts}
+use Rattle.ballbox.proofs.Parts.{mode-known, parts}
 use Rattle.ballbox.proofs.Refusals.{awake-step}
 
 pub rest-ignored : (n : ℕ) → isCommand n ≡ false → commandOf n ≡ Ignored
@@ -44,19 +44,19 @@ rest-ignored n h =
 
 -- a byte heard awake
 module _ (b : BallBox) (n : ℕ) (r : Stepped) (s : StepPromise b (Host n) r) (g : good b ≡ true) (d : b .dormant ≡ false) where
-  pub heard : answerOf r ≡ gives (brokenOff b) (obeyed (commandOf n) (dropped b))
+  pub heard : outcome r ≡ gives (brokenOff b) (obeyed (commandOf n) (dropped b))
   unfolding awake onHost
   heard = awake-step b (Host n) r s g refl d
 
   next-is : r .next ≡ obeyed (commandOf n) (dropped b)
-  next-is = ap (λ (a : Answer). a .next) heard
+  next-is = ap (λ (a : Step). a .next) heard
 
   -- an ignored byte breaks off and changes nothing else
-  pub ignored-breaks : isCommand n ≡ false → bytesLeft b ≡ true → answerOf r ≡ gives (break ∷ []) (withGoing nothing b)
+  pub ignored-breaks : isCommand n ≡ false → bytesLeft b ≡ true → outcome r ≡ gives (break ∷ []) (withGoing nothing b)
   unfolding obeyed dropped
   ignored-breaks h l = rw (rest-ignored n h) at heard ∙ ap (λ (t : Bool). gives (cond t (break ∷ []) []) (cond t (withGoing nothing b) b)) l
 
-  pub ignored-idle : isCommand n ≡ false → bytesLeft b ≡ false → answerOf r ≡ quietly b
+  pub ignored-idle : isCommand n ≡ false → bytesLeft b ≡ false → outcome r ≡ quietly b
   unfolding obeyed dropped
   ignored-idle h l = rw (rest-ignored n h) at heard ∙ ap (λ (t : Bool). gives (cond t (break ∷ []) []) (cond t (withGoing nothing b) b)) l
 

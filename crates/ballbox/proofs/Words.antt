@@ -19,12 +19,12 @@ use Rattle.wire.specs.declared.Format.the-variants.{Mm, Microsoft, Absolute, Re
 use Rattle.wire.specs.declared.Report.{Report}
 use Rattle.wire.proofs.Letters.{letter-named}
 use Rattle.wire.proofs.Codec.{bytes-below}
-use Rattle.ballbox.specs.Box.{freshBox, modeO, modeD, Answer, nothing, goingFrom, Bytes, FiveBytes, withGoing}
+use Rattle.ballbox.specs.Box.{freshBox, modeO, modeD, Step, nothing, goingFrom, Bytes, FiveBytes, withGoing}
 use Rattle.ballbox.specs.Latching.{taken, latchedReport, latched, secondOnly, withSecond, secondLatched}
 use Rattle.ballbox.specs.Commands.{letterP, space, letterf, lettert, byte05, letterd, isFormat, isStream, codeOf, codeByte, commandOf, obeyed}
 use Rattle.ballbox.specs.Events.{Speaks, onButtons, onPeriod, bytesLeft, wanted, latching, secondNow, withByteReady, after, nextByte, sending, onSlot, dropped, onHost, woken, awake, asleep}
 use Rattle.ballbox.specs.Good.{good, goodSettings}
-use Rattle.ballbox.specs.Promises.{wordsOf, aboveSeven, stepOf, FreshPromise, StepPromise}
+use Rattle.ballbox.specs.Promises.{sentWords, aboveSeven, stepOf, FreshPromise, StepPromise}
 use Rattle.ballbox.specs.declared.Going.{Going}
 use Rattle.ballbox.specs.declared.BallBox.{BallBox}
 use Rattle.ballbox.specs.declared.Command.{Command}
@@ -33,7 +33,7 @@ use Rattle.ballbox.specs.declared.Event.the-variants.{Motion, Buttons, H
 use Rattle.ballbox.specs.declared.Stepped.{Stepped}
 use Rattle.ballbox.proofs.Letters.{Lettered, known, unknown, lettered}
 use Rattle.ballbox.proofs.Accepting.{latched-accepted, second-accepted}
-use Rattle.ballbox.proofs.Good.{letter-known, mode-known, few, parts, good-buttons}
+use Rattle.ballbox.proofs.Parts.{letter-known, mode-known, few, parts, good-buttons}
 
 no-word : {X : Type 0} (w : ℕ) (ws : List ℕ) → [] ≡ w ∷ ws → X
 no-word w ws e = let z : _≡_ {A = ℕ} 0 1 = cc in absurd (omega arith)
@@ -47,31 +47,31 @@ unfolding stepOf awake asleep
 speaks b (Motion dx dy) w ws =
     cases (Says (Motion dx dy)) (not (good b)) (λ g. no-word w ws) (λ g. cases (Says (Motion dx dy)) (b .dormant) (λ d. no-word w ws) (λ d. no-word w ws))
   where
-    Says : Event → Answer → Type 0
+    Says : Event → Step → Type 0
     Says e x = x .words ≡ w ∷ ws → Speaks b e
 speaks b (Buttons n) w ws =
     cases (Says (Buttons n)) (not (good b)) (λ g. no-word w ws)
     (λ g. cases (Says (Buttons n)) (ltb 7 n) (λ l. no-word w ws)
     (λ l. cases (Says (Buttons n)) (b .dormant) (λ d. no-word w ws) (λ d. no-word w ws)))
   where
-    Says : Event → Answer → Type 0
+    Says : Event → Step → Type 0
     Says e x = x .words ≡ w ∷ ws → Speaks b e
 speaks b (Host n) w ws =
     cases (Says (Host n)) (not (good b)) (λ g. no-word w ws)
     (λ g. cases (Says (Host n)) (b .dormant) (λ d. no-word w ws) (λ d e. (d, breaks n b w ws e)))
   where
-    Says : Event → Answer → Type 0
+    Says : Event → Step → Type 0
     Says e x = x .words ≡ w ∷ ws → Speaks b e
 speaks b Slot w ws = λ e. tt
 speaks b Period w ws =
     cases (Says Period) (not (good b)) (λ g. no-word w ws) (λ g. cases (Says Period) (b .dormant) (λ d. no-word w ws) (λ d. no-word w ws))
   where
-    Says : Event → Answer → Type 0
+    Says : Event → Step → Type 0
     Says e x = x .words ≡ w ∷ ws → Speaks b e
 
 -- "Only Slot, and Host when it breaks off, give a word; the other steps give none."
-pub only-slot-and-host : (b : BallBox) (e : Event) (r : Stepped) (w : ℕ) (ws : List ℕ) → StepPromise b e r → wordsOf (r .sent) ≡ w ∷ ws → Speaks b e
-only-slot-and-host b e r w ws s h = speaks b e w ws (sym (ap (λ (x : Answer). x .words) s) ∙ h)
+pub only-slot-and-host : (b : BallBox) (e : Event) (r : Stepped) (w : ℕ) (ws : List ℕ) → StepPromise b e r → sentWords (r .sent) ≡ w ∷ ws → Speaks b e
+only-slot-and-host b e r w ws s h = speaks b e w ws (sym (ap (λ (x : Step). x .words) s) ∙ h)
 
 -- bytes, place by place and part by part
 bytes-at : (bs : List ℕ) (i : ℕ) → Bytes bs → at i bs < 256
@@ -217,7 +217,7 @@ obeyed-five n b s h =
     (λ _. cases (Replies b) (eqb n letterd) (λ e. h) (λ _. h)))))))))
 
 -- what a step is to keep and to say
-record Sound (a : Answer) : Type 0 where
+record Sound (a : Step) : Type 0 where
   bytes : FiveBytes (a .next .going)
   legal : lineWords (a .words) ≡ true
 
@@ -279,7 +279,7 @@ unfolding freshBox
 fresh-bytes b e = subst (λ (x : BallBox). FiveBytes (x .going)) (sym e) nothing-five
 
 pub step-bytes : (b : BallBox) (e : Event) (r : Stepped) → StepPromise b e r → FiveBytes (b .going) → FiveBytes (r .next .going)
-step-bytes b e r s h = subst (λ (a : Answer). FiveBytes (a .next .going)) (sym s) (step-sound b e h .bytes)
+step-bytes b e r s h = subst (λ (a : Step). FiveBytes (a .next .going)) (sym s) (step-sound b e h .bytes)
 
-pub words-legal : (b : BallBox) (e : Event) (r : Stepped) → StepPromise b e r → FiveBytes (b .going) → lineWords (wordsOf (r .sent)) ≡ true
-words-legal b e r s h = ap (λ (a : Answer). lineWords (a .words)) s ∙ step-sound b e h .legal
+pub words-legal : (b : BallBox) (e : Event) (r : Stepped) → StepPromise b e r → FiveBytes (b .going) → lineWords (sentWords (r .sent)) ≡ true
+words-legal b e r s h = ap (λ (a : Step). lineWords (a .words)) s ∙ step-sound b e h .legal

@@ -112,7 +112,7 @@ no-refusing-reader p k n =
     omega arith
 
 -- "a box that sends only silence (2, Slot)"
-pub no-silent-box : (step : BallBox → Event → Stepped) → ((b : BallBox) (e : Event) → box.StepPromise b e (step b e)) → ((b : BallBox) → box.wordsOf (step b Slot .sent) ≡ silence ∷ []) → ⊥
+pub no-silent-box : (step : BallBox → Event → Stepped) → ((b : BallBox) (e : Event) → box.StepPromise b e (step b e)) → ((b : BallBox) → box.sentWords (step b Slot .sent) ≡ silence ∷ []) → ⊥
 no-silent-box = not-only-silence
 
 -- "a long read that reads its first report and skips the rest (2, since every word's answer is fixed)"

@@ -107,8 +107,8 @@ permitted b [] [] p = refl
 permitted b [] (a ∷ answers) p = absurd p
 permitted b (e ∷ events) [] p = absurd p
 permitted b (e ∷ events) (a ∷ answers) p =
-    let n : a .next ≡ nextBox b e = ap (λ (x : box.Answer). x .next) (p .0) in
-    ap₂ _++_ (ap (λ (x : box.Answer). x .words) (p .0))
+    let n : a .next ≡ nextBox b e = ap (λ (x : box.Step). x .next) (p .0) in
+    ap₂ _++_ (ap (λ (x : box.Step). x .words) (p .0))
     (permitted (a .next) events answers (p .1) ∙ rw n)
 
 -- The words of a run are the words of its passages and of what is going after them: dormancy, format commands and replies included.

@@ -10,7 +10,7 @@ use Rattle.ballbox.specs.Box as box
 use Rattle.ballbox.specs.Commands.{commandOf, obeyed}
 use Rattle.ballbox.specs.Events.{bytesLeft, dropped, onHost, awake}
 use Rattle.ballbox.specs.Good.{good}
-use Rattle.ballbox.specs.Promises.{wordsOf, stepOf, StepPromise}
+use Rattle.ballbox.specs.Promises.{sentWords, stepOf, StepPromise}
 use Rattle.ballbox.specs.declared.BallBox.{BallBox}
 use Rattle.ballbox.specs.declared.Stepped.{Stepped}
 use Rattle.ballbox.specs.declared.Command.the-variants.{SetFormat}
@@ -46,10 +46,10 @@ set-by f b k d = ruled b (Host (letterOf f)) false k refl d ∙ rw (sets-format 
 pub set-to : (f : Format) (b : BallBox) (a : Stepped) → good b ≡ true → b .dormant ≡ false → StepPromise b (Host (letterOf f)) a → SetTo f (a .next) nothing
 unfolding obeyed
 set-to f b a k d p =
-    let e : a .next ≡ obeyed (SetFormat (letterOf f)) (dropped b) = ap (λ (x : box.Answer). x .next) (p ∙ set-by f b k d) in
+    let e : a .next ≡ obeyed (SetFormat (letterOf f)) (dropped b) = ap (λ (x : box.Step). x .next) (p ∙ set-by f b k d) in
     rw e
     (record {
-      good = rw (← e) (ap (λ (x : box.Answer). good (x .next)) p ∙ stepped-good b (Host (letterOf f)) k);
+      good = rw (← e) (ap (λ (x : box.Step). good (x .next)) p ∙ stepped-good b (Host (letterOf f)) k);
       awake = dropped-alike b .dormant ∙ d;
       format = refl;
       carries = record { line = none-left b; rightly = tt };
@@ -57,5 +57,5 @@ set-to f b a k d p =
     })
 
 -- and the word that it gave: 256 where bytes were left, or none
-pub set-words : (f : Format) (b : BallBox) (a : Stepped) → good b ≡ true → b .dormant ≡ false → StepPromise b (Host (letterOf f)) a → wordsOf (a .sent) ≡ cond (bytesLeft b) (break ∷ []) []
-set-words f b a k d p = ap (λ (x : box.Answer). x .words) (p ∙ set-by f b k d)
+pub set-words : (f : Format) (b : BallBox) (a : Stepped) → good b ≡ true → b .dormant ≡ false → StepPromise b (Host (letterOf f)) a → sentWords (a .sent) ≡ cond (bytesLeft b) (break ∷ []) []
+set-words f b a k d p = ap (λ (x : box.Step). x .words) (p ∙ set-by f b k d)

@@ -33,7 +33,7 @@ use Rattle.ballbox.specs.Good.{good}
 use Rattle.ballbox.proofs.Letters.{Lettered, known, unknown, lettered}
 use Rattle.ballbox.proofs.Accepting.{second-within, latched-accepted}
 use Rattle.ballbox.proofs.Slots.{latching-busy, latching-wanted, latching-idle, sending-byte, sending-silence}
-use Rattle.ballbox.proofs.Good.{letter-known, parts as good-parts, good-buttons}
+use Rattle.ballbox.proofs.Parts.{letter-known, parts as good-parts, good-buttons}
 use Rattle.ballbox.proofs.Latches.{latched-bytes}
 use Rattle.history.specs.History.{begun, formatOf, paired, withPair, isFive}
 use Rattle.history.proofs.Carries.{onLine, OnLine, Rightly, Carries, to-line, at-five, Sends}

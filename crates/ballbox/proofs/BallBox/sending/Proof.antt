@@ -3,7 +3,7 @@ use borrow.Author.Needs.{needs}
 use borrow.Author.Tests.{ltb-true}
 use mathlib.Core.Path.{sym, _∙_}
 use native.Mathlib.Omega.{arith}
-use Rattle.ballbox.proofs.Good.{ready-sent}
+use Rattle.ballbox.proofs.Parts.{ready-sent}
 use Rattle.ballbox.specs.Events.{sending}
 use Rattle.ballbox.proofs.BallBox.sending.Statement.{statement}
 use Rattle.ballbox.proofs.BallBox.sending.Tie as tie

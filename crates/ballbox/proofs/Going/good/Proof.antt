@@ -10,8 +10,8 @@ sent-below-requires c κs = search needs
 length-known-requires : tie.Need-length-known-requires
 length-known-requires c κs = search needs
 
-begun-requires : tie.Need-begun-requires
-begun-requires c κs = search needs
+five-begun-requires : tie.Need-five-begun-requires
+five-begun-requires c κs = search needs
 
 second-held-requires : tie.Need-second-held-requires
 second-held-requires c κs = search needs
@@ -21,7 +21,7 @@ rest-zero-requires c κs = search needs
 
 returns : tie.Need-returns
 unfolding goodGoing
-returns c = simp (c .rest-zero .ensures, c .before .second-held .ensures, c .before .before .begun .ensures, c .before .before .before .length-known .ensures, c .before .before .before .before .sent-below .ensures)
+returns c = simp (c .rest-zero .ensures, c .before .second-held .ensures, c .before .before .five-begun .ensures, c .before .before .before .length-known .ensures, c .before .before .before .before .sent-below .ensures)
 
 pub good-spec : {M : Type 1} → statement M
 good-spec =
@@ -29,7 +29,7 @@ good-spec =
     (tie.spec
     sent-below-requires
     length-known-requires
-    begun-requires
+    five-begun-requires
     second-held-requires
     rest-zero-requires
     returns)

@@ -14,7 +14,7 @@ use Rattle.ballbox.specs.Box.{modeD, goingFrom}
 use Rattle.ballbox.specs.Latching.{latched, secondLatched, withSecond}
 use Rattle.ballbox.specs.Commands.{isFormat, isStream}
 use Rattle.ballbox.specs.Events.{bytesLeft, wanted, latching, secondNow, withByteReady}
-use Rattle.ballbox.specs.Good.{good, goodSettings, goodTrack, sentBelow, lengthKnown, begun, secondHeld, zeroFrom, restZero, goodGoing, dormantRightly}
+use Rattle.ballbox.specs.Good.{good, goodSettings, goodTrack, sentBelow, lengthKnown, fiveBegun, secondHeld, zeroFrom, restZero, goodGoing, dormantRightly}
 use Rattle.ballbox.specs.declared.Settings.{Settings}
 use Rattle.ballbox.specs.declared.Going.{Going}
 use Rattle.ballbox.specs.declared.BallBox.{BallBox}
@@ -82,7 +82,7 @@ module _ (letter : ℕ) (g : Going) where
   going-parts e =
       let a = sentBelow g in
       let b = lengthKnown letter g in
-      let c = begun g in
+      let c = fiveBegun g in
       let d = secondHeld letter g in
       let four = left (a && b && c && d) (restZero g) e in
       let three = left (a && b && c) d four in
@@ -148,9 +148,9 @@ parts b g =
       sleep = right (s && t && o) (dormantRightly b) g;
     }
 
-pub whole : (b : BallBox) → Good b → good b ≡ true
+pub good-again : (b : BallBox) → Good b → good b ≡ true
 unfolding good
-whole b p = rw (p .settings, p .track, going-whole (b .settings .format) (b .going) (p .going), p .sleep)
+good-again b p = rw (p .settings, p .track, going-whole (b .settings .format) (b .going) (p .going), p .sleep)
 
 pub good-buttons : (b : BallBox) → good b ≡ true → b .settings .buttons ≤ 7
 good-buttons b g = leb-true (b .settings .buttons) 7 (few (b .settings) (parts b g .settings))
