@@ -6,30 +6,12 @@ use Rattle.ballbox.proofs.Slots.{host-busy, host-idle}
 use Rattle.ballbox.proofs.BallBox.on_host.Statement.{statement}
 use Rattle.ballbox.proofs.BallBox.on_host.Tie as tie
 
-dropped-requires : tie.Need-dropped-requires
-dropped-requires c κs = search needs
-
-heard-requires : tie.Need-heard-requires
-heard-requires c κs = search needs
-
-obeyed-requires : tie.Need-obeyed-requires
-obeyed-requires c κs = search needs
-
-bytes-left-requires : tie.Need-bytes-left-requires
-bytes-left-requires c κs = search needs
-
-quietly-requires : tie.Need-quietly-requires
-quietly-requires c κs = search needs
-
 returns : tie.Need-returns
 returns c =
     let o = c .before .before .before in
     let a = o .before .before .before .args in
     let l = sym (c .before .before .bytes-left .ensures) ∙ not-true _ (c .before .if1 .taken) in
     (simp (o .obeyed .ensures, o .before .heard .ensures, o .before .before .dropped .ensures) at (c .quietly .ensures)) ∙ sym (host-idle (a .self) (a .byte) l)
-
-gives-requires : tie.Need-gives-requires
-gives-requires c κs = search needs
 
 returns-2 : tie.Need-returns-2
 returns-2 c =
@@ -42,11 +24,11 @@ pub on-host-spec : {M : Type 1} → statement M
 on-host-spec =
     tie.close
     (tie.spec
-    dropped-requires
-    heard-requires
-    obeyed-requires
-    bytes-left-requires
-    quietly-requires
+    (λ c κs. search needs)
+    (λ c κs. search needs)
+    (λ c κs. search needs)
+    (λ c κs. search needs)
+    (λ c κs. search needs)
     returns
-    gives-requires
+    (λ c κs. search needs)
     returns-2)

@@ -11,15 +11,6 @@ use Rattle.wire.specs.declared.Range.{Range}
 use Rattle.ballbox.proofs.latching.limited.Statement.{statement}
 use Rattle.ballbox.proofs.latching.limited.Tie as tie
 
-limits-requires : tie.Need-limits-requires
-limits-requires c κs = search needs
-
-cast-held : tie.Need-cast-held
-cast-held c = search (needs, sfits-widen)
-
-held-requires : tie.Need-held-requires
-held-requires c κs = search needs
-
 returns : tie.Need-returns
 unfolding limited
 returns c =
@@ -31,4 +22,4 @@ returns c =
     kept w16 (c .held .ok) (simp (low, high, v) at (c .held .ensures) ∙ ap (λ (x : Range). held (x .low) (x .high) (s .args .v)) (r .ensures))
 
 pub limited-spec : {M : Type 1} → statement M
-limited-spec = tie.close (tie.spec limits-requires cast-held held-requires returns)
+limited-spec = tie.close (tie.spec (λ c κs. search needs) (λ c. search (needs, sfits-widen)) (λ c κs. search needs) returns)
