@@ -34,7 +34,7 @@ use Rattle.reader.proofs.Goodness as goodness
 use Rattle.ballbox.specs.Box.{refused}
 use Rattle.ballbox.specs.Good as boxes
 use Rattle.ballbox.specs.Promises as box
-use Rattle.ballbox.specs.Promises.{answerOf}
+use Rattle.ballbox.specs.Promises.{outcome}
 use Rattle.ballbox.specs.declared.BallBox.{BallBox}
 use Rattle.ballbox.specs.declared.Event.{Event}
 use Rattle.ballbox.specs.declared.Event.the-variants.{Buttons}
@@ -118,10 +118,10 @@ fresh-box-one = box-answers.one-fresh
 pub box-step-one : (b : BallBox) (e : Event) (r s : Stepped) → box.StepPromise b e r → box.StepPromise b e s → r ≡ s
 box-step-one = box-answers.one-step
 
-pub box-step-bad-state : (b : BallBox) (e : Event) (r : Stepped) → box.StepPromise b e r → boxes.good b ≡ false → answerOf r ≡ refused badState b
+pub box-step-bad-state : (b : BallBox) (e : Event) (r : Stepped) → box.StepPromise b e r → boxes.good b ≡ false → outcome r ≡ refused badState b
 box-step-bad-state = box-refusals.bad-state
 
-pub box-step-bad-buttons : (b : BallBox) (n : ℕ) (r : Stepped) → box.StepPromise b (Buttons n) r → boxes.good b ≡ true → 7 < n → answerOf r ≡ refused badButtons b
+pub box-step-bad-buttons : (b : BallBox) (n : ℕ) (r : Stepped) → box.StepPromise b (Buttons n) r → boxes.good b ≡ true → 7 < n → outcome r ≡ refused badButtons b
 box-step-bad-buttons = box-refusals.bad-buttons
 
 -- `Lister::fresh`, `Lister::feed`, `Lister::finish`: one answer, every byte of the slice with it; 6 hands back the old lister, with counts of 0, and

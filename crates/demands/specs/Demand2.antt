@@ -37,7 +37,7 @@ use Rattle.reader.proofs.Back as back
 use Rattle.reader.proofs.Counting as counting
 use Rattle.ballbox.specs.Good.{good}
 use Rattle.ballbox.specs.Events.{bytesLeft, awake, asleep}
-use Rattle.ballbox.specs.Promises.{StepPromise, answerOf, aboveSeven}
+use Rattle.ballbox.specs.Promises.{StepPromise, outcome, aboveSeven}
 use Rattle.ballbox.specs.declared.BallBox.{BallBox}
 use Rattle.ballbox.specs.declared.Event.{Event}
 use Rattle.ballbox.specs.declared.Stepped.{Stepped}
@@ -47,10 +47,10 @@ use Rattle.history.specs.History.{passagesOf, goingAfter}
 use Rattle.history.proofs.Bridge.{run-passages}
 
 -- "each event moves the box as the rules say": `awake` and `asleep` are the rules of crates/ballbox/specs/Events.antt
-pub box-awake : (b : BallBox) (e : Event) (r : Stepped) → StepPromise b e r → good b ≡ true → aboveSeven e ≡ false → b .dormant ≡ false → answerOf r ≡ awake b e
+pub box-awake : (b : BallBox) (e : Event) (r : Stepped) → StepPromise b e r → good b ≡ true → aboveSeven e ≡ false → b .dormant ≡ false → outcome r ≡ awake b e
 box-awake = awake-step
 
-pub box-asleep : (b : BallBox) (e : Event) (r : Stepped) → StepPromise b e r → good b ≡ true → aboveSeven e ≡ false → b .dormant ≡ true → answerOf r ≡ asleep b e
+pub box-asleep : (b : BallBox) (e : Event) (r : Stepped) → StepPromise b e r → good b ≡ true → aboveSeven e ≡ false → b .dormant ≡ true → outcome r ≡ asleep b e
 box-asleep = asleep-step
 
 -- "each report has the manual's bytes": those of the table, from the encoder, and in a run of the box those of what was latched

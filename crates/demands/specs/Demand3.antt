@@ -16,7 +16,7 @@ use Rattle.reader.specs.DamagedLines.{Given, no-word, a-break, Within, EndsAt, 
 use Rattle.reader.proofs.Damaged as damaged
 use Rattle.ballbox.specs.Good.{good}
 use Rattle.ballbox.specs.Events.{bytesLeft}
-use Rattle.ballbox.specs.Promises.{wordsOf, StepPromise}
+use Rattle.ballbox.specs.Promises.{sentWords, StepPromise}
 use Rattle.ballbox.specs.declared.BallBox.{BallBox}
 use Rattle.ballbox.specs.declared.Stepped.{Stepped}
 use Rattle.ballbox.specs.declared.Event.{Event}
@@ -47,7 +47,7 @@ stillGoing a events = goingAfter (a .next) nothing events
 -- "its words from then on": those of the events; or, in front of them, the word too that the letter itself gave, 256 or none
 pub data Front (a : Stepped) : List ℕ → Type 0 where
   from-then-on : Front a []
-  from-the-letter-on : Front a (wordsOf (a .sent))
+  from-the-letter-on : Front a (sentWords (a .sent))
 
 given-by : (t : Bool) → Given (cond t (break ∷ []) [])
 given-by true = a-break

@@ -27,12 +27,12 @@ use Rattle.reader.specs.declared.NewReader.{NewReader}
 use Rattle.reader.specs.declared.Read.{Read}
 use Rattle.reader.specs.declared.Answer.the-variants.{Nothing, Report, Dropped}
 use Rattle.reader.proofs.Permitted.{step-is, steps-are}
-use Rattle.ballbox.specs.Box.{Answer, freshBox, goingFrom}
+use Rattle.ballbox.specs.Box.{Step, freshBox, goingFrom}
 use Rattle.ballbox.specs.Motion.{apart, hasMoved}
 use Rattle.ballbox.specs.Commands.{commandOf, obeyed}
 use Rattle.ballbox.specs.Events.{latching, withByteReady, after, nextByte, sending, dropped, onHost, awake}
 use Rattle.ballbox.specs.Good.{good, goodSettings, goodTrack, goodGoing}
-use Rattle.ballbox.specs.Promises.{wordsOf, stepOf, FreshPromise, StepPromise}
+use Rattle.ballbox.specs.Promises.{sentWords, stepOf, FreshPromise, StepPromise}
 use Rattle.ballbox.specs.declared.BallBox.{BallBox}
 use Rattle.ballbox.specs.declared.Event.the-variants.{Host, Slot}
 use Rattle.ballbox.specs.declared.Stepped.{Stepped}
@@ -42,17 +42,17 @@ use Rattle.ballbox.proofs.Latches.{first-sent}
 use Rattle.demands.specs.Said.{Encodes, Refuses, StandFor, FitsNot, encodes}
 
 -- p1 `f` in S: 1A
-pub p1 : (b : BallBox) (r s : Stepped) → good b ≡ true → b .dormant ≡ false → b .settings .format ≡ letterOf Mm → StepPromise b (Host 0x66) r → StepPromise (r .next) Slot s → wordsOf (s .sent) ≡ 0x1A ∷ []
+pub p1 : (b : BallBox) (r s : Stepped) → good b ≡ true → b .dormant ≡ false → b .settings .format ≡ letterOf Mm → StepPromise b (Host 0x66) r → StepPromise (r .next) Slot s → sentWords (s .sent) ≡ 0x1A ∷ []
 p1 b r s g d f p q = first-sent (r .next) s 0x1A [] (step-stays-good b (Host 0x66) r p g) (awake-after-f b r g d p) (reply-to-f b r g d Mm f p) q
 
 -- p2 `t` when fresh: 55 4F
-pub p2 : (b : BallBox) (r s t : Stepped) → FreshPromise b → StepPromise b (Host 0x74) r → StepPromise (r .next) Slot s → StepPromise (s .next) Slot t → wordsOf (s .sent) ++ wordsOf (t .sent) ≡ 0x55 ∷ 0x4F ∷ []
+pub p2 : (b : BallBox) (r s t : Stepped) → FreshPromise b → StepPromise b (Host 0x74) r → StepPromise (r .next) Slot s → StepPromise (s .next) Slot t → sentWords (s .sent) ++ sentWords (t .sent) ≡ 0x55 ∷ 0x4F ∷ []
 unfolding stepOf good goodSettings goodTrack goodGoing freshBox awake onHost commandOf obeyed dropped sending latching withByteReady nextByte after hasMoved apart goingFrom sizeBy namedBy
 p2 b r s t f p q u =
-    let e : r .next ≡ stepOf freshBox (Host 0x74) .next = ap (λ (a : Answer). a .next) p ∙ ap (λ (x : BallBox). stepOf x (Host 0x74) .next) f in
-    let k : s .next ≡ stepOf (stepOf freshBox (Host 0x74) .next) Slot .next = ap (λ (a : Answer). a .next) q ∙ ap (λ (x : BallBox). stepOf x Slot .next) e in
-    let v : wordsOf (s .sent) ≡ 0x55 ∷ [] = ap (λ (a : Answer). a .words) q ∙ ap (λ (x : BallBox). stepOf x Slot .words) e in
-    let w : wordsOf (t .sent) ≡ 0x4F ∷ [] = ap (λ (a : Answer). a .words) u ∙ ap (λ (x : BallBox). stepOf x Slot .words) k in
+    let e : r .next ≡ stepOf freshBox (Host 0x74) .next = ap (λ (a : Step). a .next) p ∙ ap (λ (x : BallBox). stepOf x (Host 0x74) .next) f in
+    let k : s .next ≡ stepOf (stepOf freshBox (Host 0x74) .next) Slot .next = ap (λ (a : Step). a .next) q ∙ ap (λ (x : BallBox). stepOf x Slot .next) e in
+    let v : sentWords (s .sent) ≡ 0x55 ∷ [] = ap (λ (a : Step). a .words) q ∙ ap (λ (x : BallBox). stepOf x Slot .words) e in
+    let w : sentWords (t .sent) ≡ 0x4F ∷ [] = ap (λ (a : Step). a .words) u ∙ ap (λ (x : BallBox). stepOf x Slot .words) k in
     rw (v, w)
 
 -- p3 W 36 33 45 35 32: L and M, -29, 37 (000)

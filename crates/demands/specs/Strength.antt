@@ -29,6 +29,7 @@ use Rattle.reader.specs.declared.Reading.{Reading}
 use Rattle.reader.specs.declared.Answer.the-variants as answer
 use Rattle.reader.proofs.Refusals.{bad-state, bad-word, takes-line-words}
 use Rattle.reader.proofs.Useless.{skipping-the-rest}
+use Rattle.ballbox.specs.Good as boxes
 use Rattle.ballbox.specs.Promises as box
 use Rattle.ballbox.specs.declared.BallBox.{BallBox}
 use Rattle.ballbox.specs.declared.Event.{Event}
@@ -113,7 +114,7 @@ no-refusing-reader p k n =
     omega arith
 
 -- "a box that sends only silence (2, Slot)"
-pub no-silent-box : (step : BallBox → Event → Stepped) → ((b : BallBox) (e : Event) → box.StepPromise b e (step b e)) → ((b : BallBox) → box.wordsOf (step b Slot .sent) ≡ silence ∷ []) → ⊥
+pub no-silent-box : (step : BallBox → Event → Stepped) → ((b : BallBox) (e : Event) → box.StepPromise b e (step b e)) → ((b : BallBox) → boxes.good b ≡ true → box.sentWords (step b Slot .sent) ≡ silence ∷ []) → ⊥
 no-silent-box = not-only-silence
 
 -- "a long read that reads its first report and skips the rest (2, since every word's answer is fixed)"

@@ -19,7 +19,7 @@ use Rattle.wire.specs.declared.Format.the-variants.{FiveByte}
 use Rattle.wire.proofs.Letters.{letter-named}
 use Rattle.ballbox.specs.Box.{modeO, modeD}
 use Rattle.ballbox.specs.Latching.{latched, secondLatched}
-use Rattle.ballbox.specs.Commands.{letterP, commandOf, asksForReports, obeyed}
+use Rattle.ballbox.specs.Commands.{letterP, commandOf, asksForReports, replyTo, obeyed}
 use Rattle.ballbox.specs.Events.{bytesLeft, wanted, latching, secondNow, withByteReady, nextByte, sending, dropped, onHost, onPeriod, awake}
 use Rattle.ballbox.specs.Good.{good}
 use Rattle.ballbox.specs.Promises.{aboveSeven, stepOf}
@@ -32,7 +32,7 @@ use Rattle.ballbox.specs.declared.Event.the-variants.{Motion, Buttons, Host, Sl
 use Rattle.ballbox.proofs.Goodness.{stepped-good}
 use Rattle.ballbox.proofs.Refusals.{ruled}
 use Rattle.ballbox.proofs.Obeying.{dropped-settings, dropped-awake}
-use Rattle.history.specs.History.{formatOf, latchedNow, begun, pairedAt, paired, isFive, replyBytes, whenAwake, toldBy, nextBox, passagesOf, goingAfter}
+use Rattle.history.specs.History.{formatOf, latchedNow, begun, pairedAt, paired, isFive, whenAwake, toldBy, nextBox, passagesOf, goingAfter}
 use Rattle.history.specs.Asked.{asks, onlyAsks}
 use Rattle.history.proofs.Carries.{Alike, Carries}
 use Rattle.history.proofs.Slots.{latched-carries, not-yet, five-is, pair-accepted, pairs}
@@ -152,7 +152,7 @@ asking-alike b AskButtons h = absurd h
 asking-alike b Sleep h = absurd h
 asking-alike b Ignored h = absurd h
 
-asking-reply : (b : BallBox) (c : Command) → Asking c → replyBytes b c ≡ []
+asking-reply : (b : BallBox) (c : Command) → Asking c → replyTo b c ≡ []
 asking-reply b (SetFormat f) h = absurd h
 asking-reply b (SetStream m) h = refl
 asking-reply b SetPrompt h = refl

@@ -12,7 +12,7 @@ use Rattle.frames.proofs.Sender.{givenOver, bridge}
 use Rattle.wire.specs.Messages.{Message, messageBytes}
 use Rattle.ballbox.specs.Box as box
 use Rattle.ballbox.specs.Box.{goingFrom}
-use Rattle.ballbox.specs.Events.{bytesLeft, onButtons, onPeriod, awake, asleep, woken}
+use Rattle.ballbox.specs.Events.{quietly, bytesLeft, onButtons, onPeriod, awake, asleep, woken}
 use Rattle.ballbox.specs.Good.{good}
 use Rattle.ballbox.specs.Promises.{aboveSeven, stepOf}
 use Rattle.ballbox.specs.declared.BallBox.{BallBox}
@@ -28,7 +28,7 @@ use Rattle.history.proofs.Slots.{slot-busy, slot-idle}
 use Rattle.history.proofs.Hosts.{host-busy, host-idle}
 
 -- a step without a word, which leaves the line, the format and the sleep as they are
-quiet : (b c : BallBox) (g : UnderWay Message) → c .going ≡ b .going → Alike b c → Carries b g → Sends (box.quietly c) g (told [] g)
+quiet : (b c : BallBox) (g : UnderWay Message) → c .going ≡ b .going → Alike b c → Carries b g → Sends (quietly c) g (told [] g)
 quiet b c g l a h = record { words = append-nil (partWords messageBytes g); carries = same-line g b c l a h }
 
 alike : {b c : BallBox} → c .settings .format ≡ b .settings .format → c .dormant ≡ b .dormant → Alike b c
@@ -105,8 +105,8 @@ permitted b [] [] p = refl
 permitted b [] (a ∷ answers) p = absurd p
 permitted b (e ∷ events) [] p = absurd p
 permitted b (e ∷ events) (a ∷ answers) p =
-    let n : a .next ≡ nextBox b e = ap (λ (x : box.Answer). x .next) (p .0) in
-    ap₂ _++_ (ap (λ (x : box.Answer). x .words) (p .0))
+    let n : a .next ≡ nextBox b e = ap (λ (x : box.Step). x .next) (p .0) in
+    ap₂ _++_ (ap (λ (x : box.Step). x .words) (p .0))
     (permitted (a .next) events answers (p .1) ∙ rw n)
 
 -- The words of a run are the words of its passages and of what is going after them: dormancy, format commands and replies included.

@@ -69,6 +69,6 @@ at-five bytes n h k =
     rw (getD-take 5 (bytes ++ (0 ∷ 0 ∷ 0 ∷ 0 ∷ 0 ∷ [])) n 0) (List·getD-append bytes (0 ∷ 0 ∷ 0 ∷ 0 ∷ 0 ∷ []) 0 n h)
 
 -- what an answer of the box does to the line
-pub record Sends (a : box.Answer) (g : UnderWay Message) (t : Told Message) : Type 0 where
+pub record Sends (a : box.Step) (g : UnderWay Message) (t : Told Message) : Type 0 where
   pub words : partWords messageBytes g ++ a .words ≡ passageWords messageBytes (t .passages) ++ partWords messageBytes (t .going)
   pub carries : Carries (a .next) (t .going)

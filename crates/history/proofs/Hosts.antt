@@ -10,13 +10,14 @@ use Rattle.frames.proofs.Sender.{breaks}
 use Rattle.wire.specs.Messages.{Message, messageBytes}
 use Rattle.ballbox.specs.Box as box
 use Rattle.ballbox.specs.Box.{goingFrom, withGoing}
-use Rattle.ballbox.specs.Commands.{commandOf, obeyed}
+use Rattle.ballbox.specs.Commands.{commandOf, replyTo, obeyed}
 use Rattle.ballbox.specs.Events.{bytesLeft, dropped, onHost}
 use Rattle.ballbox.specs.declared.BallBox.{BallBox}
 use Rattle.ballbox.specs.declared.Going.{Going}
 use Rattle.ballbox.specs.declared.Command.{Command}
 use Rattle.ballbox.specs.declared.Command.the-variants.{SetFormat, SetStream, SetPrompt, AskReport, AskAck, AskCode, AskLetters, AskButtons, Sleep, Ignored}
-use Rattle.history.specs.History.{replyBytes, replying}
+use Rattle.ballbox.proofs.Slots.{dropped-busy, dropped-idle}
+use Rattle.history.specs.History.{replying}
 use Rattle.history.proofs.Carries.{Carries, Sends}
 use Rattle.history.proofs.Slots.{bytes-left}
 
@@ -26,7 +27,7 @@ reply-words [] = refl
 reply-words (b ∷ bytes) = refl
 
 -- what a command leaves, where no bytes are left
-obeyed-carries : (b : BallBox) (k : Going) (c : Command) → bytesLeft (withGoing k b) ≡ false → b .dormant ≡ false → Carries (obeyed c (withGoing k b)) (replying (replyBytes b c))
+obeyed-carries : (b : BallBox) (k : Going) (c : Command) → bytesLeft (withGoing k b) ≡ false → b .dormant ≡ false → Carries (obeyed c (withGoing k b)) (replying (replyTo b c))
 unfolding obeyed goingFrom
 obeyed-carries b k (SetFormat f) e d = e
 obeyed-carries b k (SetStream m) e d = e
@@ -39,29 +40,20 @@ obeyed-carries b k AskButtons e d = (refl, record { left = lit< tt; sendable = l
 obeyed-carries b k Sleep e d = e
 obeyed-carries b k Ignored e d = e
 
--- the box without what was going
-dropped-busy : (b : BallBox) → bytesLeft b ≡ true → dropped b ≡ withGoing box.nothing b
-unfolding dropped
-dropped-busy b e = rw e
-
-pub dropped-idle : (b : BallBox) → bytesLeft b ≡ false → dropped b ≡ b
-unfolding dropped
-dropped-idle b e = rw e
-
-pub host-idle : (b : BallBox) (byte : ℕ) → b .dormant ≡ false → bytesLeft b ≡ false → Sends (onHost byte b) nothing (told [] (replying (replyBytes b (commandOf byte))))
+pub host-idle : (b : BallBox) (byte : ℕ) → b .dormant ≡ false → bytesLeft b ≡ false → Sends (onHost byte b) nothing (told [] (replying (replyTo b (commandOf byte))))
 unfolding onHost
 host-idle b byte d e =
     record {
-      words = rw (e, reply-words (replyBytes b (commandOf byte)));
+      words = rw (e, reply-words (replyTo b (commandOf byte)));
       carries = rw (dropped-idle b e) (obeyed-carries b (b .going) (commandOf byte) e d);
     }
 
 pub host-busy : (b : BallBox) (byte n : ℕ) (m : Message) → b .dormant ≡ false → Carries b (first n m)
-    → Sends (onHost byte b) (first n m) (told (brokenOff (first n m)) (replying (replyBytes b (commandOf byte))))
+    → Sends (onHost byte b) (first n m) (told (brokenOff (first n m)) (replying (replyTo b (commandOf byte))))
 unfolding onHost
 host-busy b byte n m d h =
     let e = bytes-left b n m h in
     record {
-      words = rw (e, reply-words (replyBytes b (commandOf byte)), append-nil) (breaks messageBytes n m);
+      words = rw (e, reply-words (replyTo b (commandOf byte)), append-nil) (breaks messageBytes n m);
       carries = rw (dropped-busy b e) (obeyed-carries b box.nothing (commandOf byte) refl d);
     }

@@ -22,7 +22,7 @@ use Rattle.wire.specs.declared.Format.the-variants.{Mm, Microsoft, Absolute, Re
 use Rattle.wire.proofs.Letters.{letter-named}
 use Rattle.wire.proofs.Front.{size-between}
 use Rattle.wire.proofs.Codec.{bytes-length}
-use Rattle.wire.proofs.Codec.Accepted.{parts, whole}
+use Rattle.wire.proofs.Codec.Accepted.{parts, parts-accepted}
 use Rattle.ballbox.specs.Box.{goingFrom}
 use Rattle.ballbox.specs.Latching.{movement, taken, secondOnly, withSecond, secondLatched, latched, latchedReport}
 use Rattle.ballbox.specs.Commands.{isFormat}
@@ -35,7 +35,7 @@ use Rattle.ballbox.specs.declared.Pair.{Pair}
 use Rattle.ballbox.proofs.Letters.{Lettered, known, unknown, lettered}
 use Rattle.ballbox.proofs.Accepting.{second-within, latched-accepted}
 use Rattle.ballbox.proofs.Slots.{latching-busy, latching-wanted, latching-idle, sending-byte, sending-silence}
-use Rattle.ballbox.proofs.Good.{letter-known, parts as good-parts, good-buttons}
+use Rattle.ballbox.proofs.Parts.{letter-known, parts as good-parts, good-buttons}
 use Rattle.ballbox.proofs.Latches.{latched-bytes}
 use Rattle.history.specs.History.{latchedNow, begun, formatOf, pairedAt, paired, withPair, isFive}
 use Rattle.history.proofs.Carries.{onLine, Alike, Carries, at-most-five, still-rightly, at-five, Sends}
@@ -82,7 +82,7 @@ unfolding taken
 pair-accepted t r a =
     let p = parts FiveByte r a in
     let v = movement (letterOf FiveByte) t in
-    whole FiveByte (withPair (taken (letterOf FiveByte) t) r)
+    parts-accepted FiveByte (withPair (taken (letterOf FiveByte) t) r)
     (record {
       pressed = p .pressed;
       moved = record { x = p .moved .x; y = p .moved .y; second-x = second-within (v .x); second-y = second-within (v .y) };

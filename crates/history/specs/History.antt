@@ -11,15 +11,13 @@ use Rattle.wire.specs.declared.Report.{Report}
 use Rattle.wire.specs.declared.Format.{Format}
 use Rattle.wire.specs.declared.Format.the-variants.{FiveByte}
 use Rattle.ballbox.specs.Latching.{taken, latchedReport}
-use Rattle.ballbox.specs.Commands.{commandOf, ack, codeByte}
+use Rattle.ballbox.specs.Commands.{commandOf, ack, replyTo}
 use Rattle.ballbox.specs.Events.{wanted}
 use Rattle.ballbox.specs.Promises.{aboveSeven, stepOf}
 use Rattle.ballbox.specs.declared.BallBox.{BallBox}
 use Rattle.ballbox.specs.declared.Pair.{Pair}
 use Rattle.ballbox.specs.declared.Event.{Event}
 use Rattle.ballbox.specs.declared.Event.the-variants.{Motion, Buttons, Host, Slot, Period}
-use Rattle.ballbox.specs.declared.Command.{Command}
-use Rattle.ballbox.specs.declared.Command.the-variants.{SetFormat, SetStream, SetPrompt, AskReport, AskAck, AskCode, AskLetters, AskButtons, Sleep, Ignored}
 
 -- the format that is set
 abbrev pub formatOf : BallBox → Format
@@ -53,19 +51,7 @@ abbrev pub paired : BallBox → UnderWay Message → UnderWay Message
 paired b nothing = nothing
 paired b (first n m) = first n (pairedAt b n m)
 
--- the bytes of the reply to a command, and that reply, of which none has gone
-abbrev pub replyBytes : BallBox → Command → List ℕ
-replyBytes b (SetFormat f) = []
-replyBytes b (SetStream m) = []
-replyBytes b SetPrompt = []
-replyBytes b AskReport = []
-replyBytes b AskAck = ack
-replyBytes b AskCode = codeByte (b .settings .format) ∷ []
-replyBytes b AskLetters = b .settings .format ∷ b .settings .mode ∷ []
-replyBytes b AskButtons = b .settings .buttons ∷ 0 ∷ 0 ∷ []
-replyBytes b Sleep = []
-replyBytes b Ignored = []
-
+-- a reply of which no byte has gone; none where it has no bytes
 abbrev pub replying : List ℕ → UnderWay Message
 replying [] = nothing
 replying (byte ∷ bytes) = first 0 (reply (byte ∷ bytes))
@@ -74,7 +60,7 @@ replying (byte ∷ bytes) = first 0 (reply (byte ∷ bytes))
 abbrev pub whenAwake : BallBox → Event → UnderWay Message → Told Message
 whenAwake b (Motion dx dy) g = told [] g
 whenAwake b (Buttons n) g = told [] g
-whenAwake b (Host byte) g = told (brokenOff g) (replying (replyBytes b (commandOf byte)))
+whenAwake b (Host byte) g = told (brokenOff g) (replying (replyTo b (commandOf byte)))
 whenAwake b Slot g = sentOne messageBytes (paired b (begun b g))
 whenAwake b Period g = told [] g
 

@@ -1,32 +1,25 @@
 // The good box, rule by rule.
 ghost use mathlib.Core.Path.{_≡_};
-ghost use Rattle.ballbox.specs.Commands.{isFormat};
-ghost use Rattle.ballbox.specs.Good.{goodSettings, onPad, goodTrack, sentBelow, lengthKnown, begun, secondHeld, restZero, goodGoing, dormantRightly, good};
+ghost use Rattle.ballbox.specs.Good.{goodSettings, onPad, goodTrack, sentBelow, lengthKnown, fiveBegun, secondHeld, restZero, goodGoing, dormantRightly, good};
 use crate::BallBox;
+use crate::FORMAT_U;
 use crate::Going;
+use crate::MODE_D;
+use crate::MOST_BUTTONS;
 use crate::Pair;
 use crate::Settings;
 use crate::Track;
+use crate::commands::is_format;
 use crate::commands::is_stream;
-
-fn is_format(letter: u8) -> bool
-    ensures { λ r. ⌜ r ≡ isFormat letter ⌝ }
-{
-    (letter == b'A')
-        | (letter == b'B')
-        | (letter == b'S')
-        | (letter == b'T')
-        | (letter == b'U')
-        | (letter == b'V')
-        | (letter == b'W')
-}
 
 impl Settings {
     // Known letters, and buttons 0 to 7.
     fn good(self) -> bool
         ensures { λ r. ⌜ r ≡ goodSettings self ⌝ }
     {
-        is_format(self.format) & (is_stream(self.mode) | (self.mode == b'D')) & (self.buttons <= 7)
+        is_format(self.format)
+            & (is_stream(self.mode) | (self.mode == MODE_D))
+            & (self.buttons <= MOST_BUTTONS)
     }
 }
 
@@ -63,8 +56,8 @@ impl Going {
         (self.length <= 3) | (self.length as usize == wire::size(letter))
     }
 
-    fn begun(self) -> bool
-        ensures { λ r. ⌜ r ≡ begun self ⌝ }
+    fn five_begun(self) -> bool
+        ensures { λ r. ⌜ r ≡ fiveBegun self ⌝ }
     {
         !(self.length == 5) | (1 <= self.sent)
     }
@@ -74,7 +67,7 @@ impl Going {
         ensures { λ r. ⌜ r ≡ secondHeld letter self ⌝ }
     {
         let bytes = self.bytes;
-        !(letter == b'U') | (4 <= self.sent) | ((bytes[3] == 0) & (bytes[4] == 0))
+        !(letter == FORMAT_U) | (4 <= self.sent) | ((bytes[3] == 0) & (bytes[4] == 0))
     }
 
     fn rest_zero(self) -> bool
@@ -93,7 +86,7 @@ impl Going {
     {
         self.sent_below()
             & self.length_known(letter)
-            & self.begun()
+            & self.five_begun()
             & self.second_held(letter)
             & self.rest_zero()
     }
