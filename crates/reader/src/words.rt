@@ -62,15 +62,11 @@ fn dropping(k: u8) -> Answer
 }
 
 impl Reader {
-    // Whether a byte fits the place that is next: the first, or a later one.
+    // Whether a byte fits the place that is next.
     fn fits(self, byte: u8) -> bool
         ensures { λ r. ⌜ r ≡ fitting self byte ⌝ }
     {
-        if self.count == 0 {
-            wire::fits(self.format, 0, byte)
-        } else {
-            wire::fits(self.format, 1, byte)
-        }
+        wire::fits(self.format, self.count, byte)
     }
 
     // A byte that fits its place is kept; the last gives the report.
