@@ -23,6 +23,7 @@ use Rattle.frames.specs.Line.{Sub, none, gone, stays}
 use Rattle.reader.specs.State.{fresh}
 use Rattle.reader.specs.Good.{placed, good}
 use Rattle.reader.specs.Rules.{entered, dropping, keep, start, stray, lose, byteOf, breakOf, silenceOf, wordOf}
+use Rattle.reader.specs.Counts.{handedOut}
 use Rattle.reader.specs.Promises.{FreshPromise, ReadPromise, freshOf, stepOf}
 use Rattle.reader.specs.Runs.{stepsOf, StepsPromise, answers}
 use Rattle.reader.specs.declared.NewReader.{NewReader}
@@ -33,7 +34,7 @@ use Rattle.reader.specs.declared.Answer.the-variants.{Nothing, Dropped}
 use Rattle.reader.specs.declared.Answer.the-variants as answer
 use Rattle.reader.proofs.Permitted.{steps-are}
 use Rattle.reader.proofs.Framed.{fresh-named}
-use Rattle.reader.specs.DamagedLines.{no-word, a-break, HandsOut, HandsOutAt, Replaced, Within, EndsAt, of-finished, of-broken, of-going, handedOut}
+use Rattle.reader.specs.DamagedLines.{no-word, a-break, HandsOut, HandsOutAt, Replaced, Within, EndsAt, of-finished, of-broken, of-going}
 use Rattle.reader.proofs.Handed.{permitted}
 use Rattle.reader.proofs.Damaged.{marked, unmarked, exactly}
 
