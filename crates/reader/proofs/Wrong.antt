@@ -1,15 +1,16 @@
 -- Wrong answers, two for each promise, that it does not permit.
-use mathlib.Core.Path.{ap}
-use mathlib.Core.Bool.{false}
+use mathlib.Core.Path.{ap, sym}
+use mathlib.Core.Bool.{true, false}
 use mathlib.Core.List.{List, [], _∷_}
 use native.Mathlib.Omega.{arith}
 use lib.ListN.{length, getD, replicate}
 use lib.IntN.{ℤ, pos, natAbs}
+use Rattle.numbers.proofs.Tested.{holds}
 use Rattle.wire.specs.Line.{break}
 use Rattle.reader.specs.State.{reader, fresh, ready}
 use Rattle.reader.specs.Rules.{answered}
 use Rattle.reader.specs.Line.{Long}
-use Rattle.reader.specs.Promises.{Step, FreshPromise, StepPromise, ReadPromise, newReader}
+use Rattle.reader.specs.Promises.{Step, FreshPromise, GoodPromise, StepPromise, ReadPromise, newReader}
 use Rattle.reader.specs.declared.NewReader.{NewReader}
 use Rattle.reader.specs.declared.Answer.the-variants.{Nothing, Dropped}
 use Rattle.reader.proofs.Computing.{computing}
@@ -22,6 +23,15 @@ fresh-other-letter e = omega (arith, ap (λ (n : NewReader). n .reader .format) 
 pub fresh-not-refused : FreshPromise 0x58 (newReader 0 (fresh 0x55)) → ⊥
 unfolding computing
 fresh-not-refused e = omega (arith, ap (λ (n : NewReader). n .refusal) e)
+
+-- a reader of S that awaits a silence called good; and a fresh one of U not
+pub good-awaiting-S : GoodPromise (reader 0x53 (replicate 5 0) 0 true) true → ⊥
+unfolding computing
+good-awaiting-S e = holds (sym e)
+
+pub good-refuses-fresh : GoodPromise (fresh 0x55) false → ⊥
+unfolding computing
+good-refuses-fresh e = holds e
 
 -- a fresh reader of U that keeps a header; and a break told as a byte
 pub step-without-silence : StepPromise (fresh 0x55) 0x85 (answered (reader 0x55 (0x85 ∷ 0 ∷ 0 ∷ 0 ∷ 0 ∷ []) 1 false) Nothing) → ⊥

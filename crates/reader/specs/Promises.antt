@@ -1,7 +1,7 @@
--- What is promised of `Reader::fresh`, `Reader::step` and `Reader::read`. "Tested in that order, where they apply; 0 is success."
+-- What is promised of `Reader::fresh`, `Reader::good`, `Reader::step` and `Reader::read`. "Tested in that order, where they apply; 0 is success."
 use Prim.Native.Nat.{ℕ}
 use mathlib.Core.Path.{_≡_}
-use mathlib.Core.Bool.{cond}
+use mathlib.Core.Bool.{Bool, cond}
 use mathlib.Core.List.{List, [], _∷_, List·Memᴰ}
 use lib.ListN.{take}
 use lib.IntN.{ℤ}
@@ -34,6 +34,10 @@ FreshRefusal answer = RefusesRightly (λ (n : NewReader). n .refusal) (newReader
 
 abbrev pub FreshPromise : ℕ → NewReader → Type 0
 FreshPromise letter answer = answer ≡ freshOf letter
+
+-- `good(self)`
+abbrev pub GoodPromise : Reader → Bool → Type 0
+GoodPromise r answer = answer ≡ good r
 
 -- "a state that breaks the rules below", 6, before "a line word above 257", 4
 unfoldable pub stepOf : Reader → ℕ → Read
