@@ -16,7 +16,7 @@ use Rattle.reader.specs.State.{fresh}
 use Rattle.reader.specs.Good.{good}
 use Rattle.reader.specs.Rules.{dropping, byteOf, breakOf, wordOf}
 use Rattle.reader.specs.Line.{Long, lineOf}
-use Rattle.reader.specs.Counts.{reportsIn, reportsAmong}
+use Rattle.reader.specs.Counts.{reportsIn, handedOut}
 use Rattle.reader.specs.Promises.{FreshPromise, ReadPromise, freshOf}
 use Rattle.reader.specs.Runs.{stepsOf, StepsPromise, answers, hasSilence}
 use Rattle.reader.specs.declared.Reader.{Reader}
@@ -29,6 +29,7 @@ use Rattle.reader.proofs.Word.{by-kind, word-format}
 use Rattle.reader.proofs.Keeps.{word-good}
 use Rattle.reader.proofs.View.{Stops, Takes, view}
 use Rattle.reader.proofs.Permitted.{steps-are}
+use Rattle.reader.proofs.Steps.{reports-first}
 use Rattle.reader.proofs.Goodness.{step-word, read-line, fresh-is-good}
 
 -- an awaiting reader of an unmarked format
@@ -60,19 +61,20 @@ next-waits r w h n =
     record { is-good = word-good r (h .is-good) w; unmarked = rw (word-format r w) (h .unmarked); awaiting = word-waits r w h n .still }
 
 -- over steps
-steps-wait : (words : List ℕ) (r : Reader) → Waits r → hasSilence words ≡ false → reportsAmong (answers (stepsOf r words)) ≡ 0
-unfolding stepsOf reportsAmong hasSilence
+empty : {A : Type 0} (l : List A) → length l ≡ 0 → l ≡ []
+empty [] e = refl
+empty (x ∷ l) e = absurd (omega arith)
+
+steps-wait : (words : List ℕ) (r : Reader) → Waits r → hasSilence words ≡ false → handedOut (answers (stepsOf r words)) ≡ []
+unfolding stepsOf hasSilence
 steps-wait [] r h n = refl
 steps-wait (w ∷ words) r h n =
     let quiet = neither (eqb w silence) (hasSilence words) n .0 in
     let rest = steps-wait words (wordOf r w .next) (next-waits r w h quiet) (neither (eqb w silence) (hasSilence words) n .1) in
-    rw (step-word r w (h .is-good)) (omega (arith, word-waits r w h quiet .none, rest))
+    let s = wordOf r w in
+    rw (step-word r w (h .is-good)) (empty _ (omega (arith, reports-first (s .answer) (answers (stepsOf (s .next) words)), word-waits r w h quiet .none, ap length rest)))
 
 -- and over a line
-empty : (l : List ℤ) → length l ≡ 0 → l ≡ []
-empty [] e = refl
-empty (x ∷ l) e = absurd (omega arith)
-
 abbrev Nothing-out : List ℤ → Long → Type 0
 Nothing-out out l = (l .reading .reports ≡ 0) × (l .out ≡ out)
 
@@ -111,7 +113,7 @@ pub nothing-before-silence : (letter : ℕ) (a : NewReader) (words : List ℕ) (
     → FreshPromise letter a
     → hasSilence words ≡ false
     → StepsPromise (a .reader) words steps
-    → reportsAmong (answers steps) ≡ 0
+    → handedOut (answers steps) ≡ []
 nothing-before-silence letter a words steps m e n p =
     rw (steps-are (a .reader) words steps p) (steps-wait words (a .reader) (fresh-waits letter a m e) n)
 

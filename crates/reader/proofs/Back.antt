@@ -36,7 +36,7 @@ use Rattle.reader.specs.declared.Answer.{Answer}
 use Rattle.reader.specs.declared.Answer.the-variants as answer
 use Rattle.numbers.proofs.Choices.{cases}
 use Rattle.reader.proofs.Entered.{as-it-is}
-use Rattle.reader.proofs.Good.{Parts, parts, one-more}
+use Rattle.reader.proofs.Parts.{Parts, parts, one-more}
 use Rattle.reader.proofs.Word.{by-rules, by-kind}
 use Rattle.reader.proofs.Permitted.{step-is}
 use Rattle.reader.proofs.Goodness.{step-word}

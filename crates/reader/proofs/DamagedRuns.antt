@@ -6,14 +6,9 @@ use mathlib.Core.List.{List, [], _∷_}
 use native.Mathlib.Omega.{arith}
 use lib.ListN.{getD}
 use lib.IntN.{ℤ, pos}
-use Rattle.numbers.specs.Bits.{bit, bits, number}
-use Rattle.numbers.specs.Signed.{minus, twos, untwos, signed}
-use Rattle.frames.specs.Words.{lineWords}
-use Rattle.wire.specs.Line.{letterOf, namedBy, sizeBy, markedBy, known}
-use Rattle.wire.specs.Table.{bytesOf, bytesS, bytesT, bytesU}
-use Rattle.wire.specs.Holds.{holds, accepted}
-use Rattle.wire.specs.Places.{like, fitsFirst, fitsLater, fitsAt, fitsBy}
-use Rattle.wire.specs.Reading.{readS, readT, readU, reportBy}
+use Rattle.numbers.specs.Signed.{minus}
+use Rattle.wire.specs.Line.{letterOf}
+use Rattle.wire.specs.Table.{bytesOf}
 use Rattle.wire.specs.Reading as reading
 use Rattle.wire.specs.Numbers.{success}
 use Rattle.wire.specs.Messages.{latchedIn, messageBytes, SoundIn}
@@ -22,9 +17,8 @@ use Rattle.wire.specs.declared.Format.{Format}
 use Rattle.wire.specs.declared.Format.the-variants.{Mm, FiveByte, ThreeByte}
 use Rattle.frames.specs.Passages.{silent, finished, broken, nothing, first, Unbroken, Sub, none, gone, stays, of-finished, of-broken, of-going}
 use Rattle.reader.specs.State.{fresh}
-use Rattle.reader.specs.Good.{placed, good}
-use Rattle.reader.specs.Rules.{entered, dropping, keep, start, stray, lose, byteOf, breakOf, silenceOf, wordOf}
-use Rattle.reader.specs.Promises.{FreshPromise, ReadPromise, freshOf, stepOf}
+use Rattle.reader.specs.Counts.{handedOut}
+use Rattle.reader.specs.Promises.{FreshPromise, ReadPromise, freshOf}
 use Rattle.reader.specs.Runs.{stepsOf, StepsPromise, answers}
 use Rattle.reader.specs.declared.NewReader.{NewReader}
 use Rattle.reader.specs.declared.Read.{Read}
@@ -34,9 +28,10 @@ use Rattle.reader.specs.declared.Answer.the-variants.{Nothing, Dropped}
 use Rattle.reader.specs.declared.Answer.the-variants as answer
 use Rattle.reader.proofs.Permitted.{steps-are}
 use Rattle.reader.proofs.Framed.{fresh-named}
-use Rattle.reader.specs.DamagedLines.{no-word, a-break, HandsOut, HandsOutAt, Replaced, Within, EndsAt, handedOut}
+use Rattle.reader.specs.DamagedLines.{no-word, a-break, HandsOut, HandsOutAt, Replaced, Within, EndsAt}
 use Rattle.reader.proofs.Handed.{permitted}
 use Rattle.reader.proofs.Damaged.{marked, unmarked, exactly}
+use Rattle.reader.proofs.Computing.{computing}
 
 -- any fresh reader of f, by any steps that are permitted, gives the words these answers
 abbrev Answered : Format → List ℕ → List Answer → Type 0
@@ -56,7 +51,7 @@ pressed = reading.report 4 (minus 2) (pos 7)
 -- 257 8C becomes 9A 7F FF. The report 8C 02 07 begins after it, and is the answer to word 9.
 replaced-S : Replaced Mm (finished (latchedIn Mm moved) ∷ silent ∷ broken 2 (latchedIn Mm pressed) ∷ finished (latchedIn Mm pressed) ∷ []) (first 1 (latchedIn Mm moved))
     (256 ∷ []) (0x90 ∷ []) (0x05 ∷ 0x03 ∷ 257 ∷ 0x8C ∷ []) (0x9A ∷ 0x7F ∷ 0xFF ∷ []) (0x02 ∷ 256 ∷ 0x8C ∷ 0x02 ∷ 0x07 ∷ 0x90 ∷ [])
-unfolding lineWords accepted holds bytesS number bit
+unfolding computing
 replaced-S =
     record {
       sound = ((refl, refl), (tt, (((refl, refl), omega arith), ((refl, refl), tt))));
@@ -67,7 +62,7 @@ replaced-S =
     }
 
 pub marked-run : HandsOutAt Mm (256 ∷ 0x90 ∷ 0x9A ∷ 0x7F ∷ 0xFF ∷ 0x02 ∷ 256 ∷ 0x8C ∷ 0x02 ∷ 0x07 ∷ 0x90 ∷ []) 9 pressed
-unfolding bytesS
+unfolding computing
 marked-run =
     marked Mm (finished (latchedIn Mm moved) ∷ silent ∷ broken 2 (latchedIn Mm pressed) ∷ finished (latchedIn Mm pressed) ∷ []) (first 1 (latchedIn Mm moved))
     (256 ∷ []) (0x90 ∷ []) (0x05 ∷ 0x03 ∷ 257 ∷ 0x8C ∷ []) (0x9A ∷ 0x7F ∷ 0xFF ∷ []) (0x02 ∷ 256 ∷ 0x8C ∷ 0x02 ∷ 0x07 ∷ 0x90 ∷ []) replaced-S
@@ -75,7 +70,7 @@ marked-run =
 
 pub marked-answers : Answered Mm (256 ∷ 0x90 ∷ 0x9A ∷ 0x7F ∷ 0xFF ∷ 0x02 ∷ 256 ∷ 0x8C ∷ 0x02 ∷ 0x07 ∷ 0x90 ∷ [])
     (Nothing ∷ Nothing ∷ Dropped 1 ∷ Nothing ∷ Dropped 3 ∷ Dropped 1 ∷ Nothing ∷ Nothing ∷ Nothing ∷ answer.Report pressed ∷ Nothing ∷ [])
-unfolding stepsOf stepOf good known placed wordOf byteOf keep start stray lose breakOf silenceOf dropping entered namedBy sizeBy markedBy fitsBy fitsAt fitsFirst fitsLater like reportBy readS signed number bits bit
+unfolding computing
 marked-answers = computed Mm _ _ refl
 
 -- reports of U: a fast move to the left, 87 85 00 85 00, and a slow one, 87 01 02 03 04
@@ -89,11 +84,11 @@ slow = record { buttons = 0; x1 = pos 1; y1 = pos 2; x2 = pos 3; y2 = pos 4 }
 -- header with the middle button down: it is dropped, and the report behind the silence is the answer to word 9.
 joined-U : Replaced FiveByte (finished (latchedIn FiveByte fast) ∷ silent ∷ finished (latchedIn FiveByte slow) ∷ []) nothing
     [] [] (0x87 ∷ []) [] (0x85 ∷ 0x00 ∷ 0x85 ∷ 0x00 ∷ 257 ∷ 0x87 ∷ 0x01 ∷ 0x02 ∷ 0x03 ∷ 0x04 ∷ [])
-unfolding lineWords accepted holds bytesU number bit twos
+unfolding computing
 joined-U = record { sound = ((refl, refl), (tt, ((refl, refl), tt))); sound-going = tt; in-front = no-word; as-sent = refl; legal = refl }
 
 pub unmarked-run : HandsOutAt FiveByte (0x85 ∷ 0x00 ∷ 0x85 ∷ 0x00 ∷ 257 ∷ 0x87 ∷ 0x01 ∷ 0x02 ∷ 0x03 ∷ 0x04 ∷ []) 9 slow
-unfolding bytesU
+unfolding computing
 unmarked-run =
     unmarked FiveByte (finished (latchedIn FiveByte fast) ∷ silent ∷ finished (latchedIn FiveByte slow) ∷ []) nothing
     [] [] (0x87 ∷ []) [] (0x85 ∷ 0x00 ∷ 0x85 ∷ 0x00 ∷ 257 ∷ 0x87 ∷ 0x01 ∷ 0x02 ∷ 0x03 ∷ 0x04 ∷ []) joined-U
@@ -101,29 +96,29 @@ unmarked-run =
 
 pub unmarked-answers : Answered FiveByte (0x85 ∷ 0x00 ∷ 0x85 ∷ 0x00 ∷ 257 ∷ 0x87 ∷ 0x01 ∷ 0x02 ∷ 0x03 ∷ 0x04 ∷ [])
     (Dropped 1 ∷ Dropped 1 ∷ Dropped 1 ∷ Dropped 1 ∷ Nothing ∷ Nothing ∷ Nothing ∷ Nothing ∷ Nothing ∷ answer.Report slow ∷ [])
-unfolding stepsOf stepOf good known placed wordOf byteOf keep start stray lose breakOf silenceOf dropping entered namedBy sizeBy markedBy fitsBy fitsAt fitsFirst fitsLater like reportBy readU untwos number bits bit
+unfolding computing
 unmarked-answers = computed FiveByte _ _ refl
 
 -- Exactly: 90 05 03 loses its second byte, and of the two reports the other one is handed out
 pub exactly-run : HandsOut Mm (0x90 ∷ 0x03 ∷ 0x8C ∷ 0x02 ∷ 0x07 ∷ []) (pressed ∷ [])
-unfolding lineWords accepted holds bytesS number bit
+unfolding computing
 exactly-run =
     exactly Mm refl ((refl, refl), ((refl, refl), tt)) tt no-word
     (of-finished [] (finished (latchedIn Mm pressed) ∷ []) nothing (latchedIn Mm moved) (0x90 ∷ 0x03 ∷ []) (stays (gone (stays none))) (omega arith))
 
 pub exactly-answers : Answered Mm (0x90 ∷ 0x03 ∷ 0x8C ∷ 0x02 ∷ 0x07 ∷ []) (Nothing ∷ Nothing ∷ Dropped 2 ∷ Nothing ∷ answer.Report pressed ∷ [])
-unfolding stepsOf stepOf good known placed wordOf byteOf keep start stray lose breakOf silenceOf dropping entered namedBy sizeBy markedBy fitsBy fitsAt fitsFirst fitsLater like reportBy readS signed number bits bit
+unfolding computing
 exactly-answers = computed Mm _ _ refl
 
 -- the broken-off 8C 02, and the same two bytes of a report that is going, lose the first: the finished report is handed out
 pub exactly-broken-run : HandsOut Mm (0x02 ∷ 256 ∷ 0x90 ∷ 0x05 ∷ 0x03 ∷ []) (moved ∷ [])
-unfolding accepted holds bytesS number bit
+unfolding computing
 exactly-broken-run =
     exactly Mm refl (((refl, refl), omega arith), ((refl, refl), tt)) tt no-word
     (of-broken [] (finished (latchedIn Mm moved) ∷ []) nothing 2 (latchedIn Mm pressed) (0x02 ∷ []) (gone (stays none)))
 
 pub exactly-going-run : HandsOut Mm (0x90 ∷ 0x05 ∷ 0x03 ∷ 0x02 ∷ []) (moved ∷ [])
-unfolding accepted holds bytesS number bit
+unfolding computing
 exactly-going-run =
     exactly Mm refl ((refl, refl), tt) ((refl, refl), omega arith) no-word (of-going (finished (latchedIn Mm moved) ∷ []) 2 (latchedIn Mm pressed) (0x02 ∷ []) (gone (stays none)))
 
@@ -153,7 +148,7 @@ three-five = reading.report 4 (pos 3) (pos 5)
 -- reader takes its 04 for the end of another, and waits for a third byte there.
 pub no-mark-answers : Answered ThreeByte (257 ∷ 0x01 ∷ 0x02 ∷ 0x04 ∷ 0x03 ∷ 0x05 ∷ [])
     (Nothing ∷ Nothing ∷ Nothing ∷ answer.Report (reading.report 1 (pos 2) (pos 4)) ∷ Nothing ∷ Nothing ∷ [])
-unfolding stepsOf stepOf good known placed wordOf byteOf keep start stray lose breakOf silenceOf dropping entered namedBy sizeBy markedBy fitsBy fitsAt fitsFirst fitsLater like reportBy readT untwos number bits bit
+unfolding computing
 no-mark-answers = computed ThreeByte _ _ refl
 
 pub mark-needed : Replaced ThreeByte (silent ∷ finished (latchedIn ThreeByte one-two) ∷ finished (latchedIn ThreeByte three-five) ∷ []) nothing
@@ -161,7 +156,7 @@ pub mark-needed : Replaced ThreeByte (silent ∷ finished (latchedIn ThreeByte o
     × EndsAt ThreeByte (silent ∷ finished (latchedIn ThreeByte one-two) ∷ []) [] (0x00 ∷ []) [] 5
     × Within (silent ∷ finished (latchedIn ThreeByte one-two) ∷ []) (257 ∷ []) (0x00 ∷ [])
     × (HandsOutAt ThreeByte (257 ∷ 0x01 ∷ 0x02 ∷ 0x04 ∷ 0x03 ∷ 0x05 ∷ []) 5 three-five → ⊥)
-unfolding lineWords accepted holds bytesT number bit twos
+unfolding computing
 mark-needed = (
   record { sound = (tt, ((refl, refl), ((refl, refl), tt))); sound-going = tt; in-front = no-word; as-sent = refl; legal = refl },
   refl,
@@ -175,7 +170,7 @@ pub no-silence-answers : Answered FiveByte (257 ∷ 0x85 ∷ 0x00 ∷ 0x85 ∷ 0
     (Nothing
     ∷ Nothing ∷ Nothing ∷ Nothing ∷ Nothing ∷ answer.Report (record { buttons = 2; x1 = pos 0; y1 = minus 123; x2 = pos 0; y2 = minus 121 })
     ∷ Dropped 1 ∷ Dropped 1 ∷ Dropped 1 ∷ Dropped 1 ∷ [])
-unfolding stepsOf stepOf good known placed wordOf byteOf keep start stray lose breakOf silenceOf dropping entered namedBy sizeBy markedBy fitsBy fitsAt fitsFirst fitsLater like reportBy readU untwos number bits bit
+unfolding computing
 no-silence-answers = computed FiveByte _ _ refl
 
 pub silence-needed : Replaced FiveByte (silent ∷ finished (latchedIn FiveByte fast) ∷ finished (latchedIn FiveByte slow) ∷ []) nothing
@@ -184,7 +179,7 @@ pub silence-needed : Replaced FiveByte (silent ∷ finished (latchedIn FiveByte 
     × Within (silent ∷ finished (latchedIn FiveByte fast) ∷ []) (257 ∷ []) (0x87 ∷ [])
     × Unbroken (finished (latchedIn FiveByte fast) ∷ [])
     × (HandsOutAt FiveByte (257 ∷ 0x85 ∷ 0x00 ∷ 0x85 ∷ 0x00 ∷ 0x87 ∷ 0x01 ∷ 0x02 ∷ 0x03 ∷ 0x04 ∷ []) 9 slow → ⊥)
-unfolding lineWords accepted holds bytesU number bit twos
+unfolding computing
 silence-needed = (
   record { sound = (tt, ((refl, refl), ((refl, refl), tt))); sound-going = tt; in-front = no-word; as-sent = refl; legal = refl },
   refl,
@@ -197,7 +192,7 @@ silence-needed = (
 -- dropped
 pub broken-answers : Answered ThreeByte (0x09 ∷ 257 ∷ 0x00 ∷ 256 ∷ 0x04 ∷ 0x03 ∷ 0x05 ∷ [])
     (Dropped 1 ∷ Nothing ∷ Nothing ∷ Dropped 1 ∷ Dropped 1 ∷ Dropped 1 ∷ Dropped 1 ∷ [])
-unfolding stepsOf stepOf good known placed wordOf byteOf keep start stray lose breakOf silenceOf dropping entered namedBy sizeBy markedBy fitsBy fitsAt fitsFirst fitsLater like reportBy readT untwos number bits bit
+unfolding computing
 broken-answers = computed ThreeByte _ _ refl
 
 pub unbroken-needed : Replaced ThreeByte (silent ∷ broken 1 (latchedIn ThreeByte one-two) ∷ finished (latchedIn ThreeByte three-five) ∷ []) nothing
@@ -205,7 +200,7 @@ pub unbroken-needed : Replaced ThreeByte (silent ∷ broken 1 (latchedIn ThreeBy
     × EndsAt ThreeByte (silent ∷ broken 1 (latchedIn ThreeByte one-two) ∷ []) [] [] (0x09 ∷ []) 6
     × Within [] [] []
     × (HandsOutAt ThreeByte (0x09 ∷ 257 ∷ 0x00 ∷ 256 ∷ 0x04 ∷ 0x03 ∷ 0x05 ∷ []) 6 three-five → ⊥)
-unfolding lineWords accepted holds bytesT number bit twos
+unfolding computing
 unbroken-needed = (
   record { sound = (tt, (((refl, refl), omega arith), ((refl, refl), tt))); sound-going = tt; in-front = no-word; as-sent = refl; legal = refl },
   refl,
@@ -215,11 +210,11 @@ unbroken-needed = (
 
 -- That a byte is removed is needed: where none is, the report itself is handed out too
 pub none-removed-answers : Answered Mm (0x90 ∷ 0x05 ∷ 0x03 ∷ []) (Nothing ∷ Nothing ∷ answer.Report moved ∷ [])
-unfolding stepsOf stepOf good known placed wordOf byteOf keep start stray lose breakOf silenceOf dropping entered namedBy sizeBy markedBy fitsBy fitsAt fitsFirst fitsLater like reportBy readS signed number bits bit
+unfolding computing
 none-removed-answers = computed Mm _ _ refl
 
 pub removal-needed : SoundIn Mm (finished (latchedIn Mm moved) ∷ []) × Sub (0x90 ∷ 0x05 ∷ 0x03 ∷ []) (bytesOf Mm moved) × (HandsOut Mm (0x90 ∷ 0x05 ∷ 0x03 ∷ []) [] → ⊥)
-unfolding lineWords accepted holds bytesS number bit
+unfolding computing
 removal-needed = (
   ((refl, refl), tt),
   stays (stays (stays none)),

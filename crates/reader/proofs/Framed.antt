@@ -37,7 +37,7 @@ use Rattle.reader.specs.declared.Read.{Read}
 use Rattle.reader.specs.declared.Answer.{Answer}
 use Rattle.reader.specs.declared.Answer.the-variants as answer
 use Rattle.reader.proofs.Entered.{byte-enters, enteredWord, enteredAll}
-use Rattle.reader.proofs.Good.{Parts, parts, one-more}
+use Rattle.reader.proofs.Parts.{Parts, parts, one-more}
 use Rattle.reader.proofs.Word.{by-rules, word-format}
 use Rattle.reader.proofs.Keeps.{word-good}
 use Rattle.reader.proofs.Goodness.{step-word, fresh-is-good}

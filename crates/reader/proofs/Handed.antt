@@ -20,6 +20,7 @@ use Rattle.frames.proofs.Words.{passing}
 use Rattle.frames.proofs.Reading.{on}
 use Rattle.frames.proofs.Replaced as replaced
 use Rattle.reader.specs.State.{fiveOf}
+use Rattle.reader.specs.Counts.{handedOut, numbers}
 use Rattle.reader.specs.Promises.{FreshPromise}
 use Rattle.reader.specs.Runs.{stepsOf, StepsPromise, answers}
 use Rattle.reader.specs.declared.Reader.{Reader}
@@ -27,7 +28,7 @@ use Rattle.reader.specs.declared.NewReader.{NewReader}
 use Rattle.reader.specs.declared.Read.{Read}
 use Rattle.reader.specs.declared.Answer.{Answer}
 use Rattle.reader.specs.declared.Answer.the-variants as answer
-use Rattle.reader.specs.DamagedLines.{Given, no-word, a-break, HandsOut, HandsOutAt, handedOut, numbers}
+use Rattle.reader.specs.DamagedLines.{Given, no-word, a-break, HandsOut, HandsOutAt}
 use Rattle.reader.proofs.Entered.{enteredAll}
 use Rattle.reader.proofs.Framed.{frameOf, told, framed}
 use Rattle.reader.proofs.AsSent.{plain, asSent, break-plain}

@@ -18,7 +18,7 @@ use Rattle.reader.specs.declared.Reader.{Reader}
 use Rattle.reader.specs.declared.Read.{Read}
 use Rattle.numbers.proofs.Choices.{cases}
 use Rattle.wire.proofs.Letters.{at-least-three, size-positive}
-use Rattle.reader.proofs.Good.{Parts, parts, made, one-more}
+use Rattle.reader.proofs.Parts.{Parts, parts, made, one-more}
 use Rattle.reader.proofs.Word.{by-rules, by-kind}
 
 -- a reader that has no bytes

@@ -1,7 +1,9 @@
 -- The laws of the reader: one answer (Permitted), what a refusal leaves (Refusals), Room, how far a long read goes (Bounds), word by word (Steps), good readers
 -- stay good (Goodness), Counting, Joining, There and Back, nothing before a silence (Awaiting), Useless, sentences of the paper (Sentences, Nowhere), demand 3's
--- half of the reader (Damaged) with its worked lines (DamagedRuns), Examples, wrong answers (Wrong); and what their proofs and those of the functions share.
-pub mod Good
+-- half of the reader (Damaged) with its worked lines (DamagedRuns), Examples, wrong answers (Wrong); what enters (Entered); and what their proofs and those of the
+-- functions share.
+pub mod Computing
+pub mod Parts
 pub mod Entered
 pub mod Word
 pub mod Keeps

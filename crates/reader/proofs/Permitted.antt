@@ -1,6 +1,7 @@
 -- "Each public operation's promise determines one answer, and every number in the lent slice after it, refused or not".
 use Prim.Native.Nat.{ℕ}
 use mathlib.Core.Path.{_≡_, refl, sym, _∙_, ap}
+use mathlib.Core.Bool.{Bool}
 use mathlib.Core.List.{List, [], _∷_}
 use native.Mathlib.Omega.{arith}
 use lib.ListN.{length}
@@ -9,7 +10,7 @@ use Rattle.wire.specs.declared.Report.{Report}
 use Rattle.wire.proofs.Codec.Accepted.{same-report}
 use Rattle.reader.specs.State.{fiveOf, numbersOf}
 use Rattle.reader.specs.Line.{Long}
-use Rattle.reader.specs.Promises.{Step, FreshPromise, StepPromise, ReadPromise, stepOf}
+use Rattle.reader.specs.Promises.{Step, FreshPromise, GoodPromise, StepPromise, ReadPromise, stepOf}
 use Rattle.reader.specs.Runs.{stepsOf, StepsPromise}
 use Rattle.reader.specs.declared.Reader.{Reader}
 use Rattle.reader.specs.declared.NewReader.{NewReader}
@@ -55,6 +56,9 @@ steps-are r (w ∷ words) (s ∷ steps) e = let i = step-is r w s (e .0) in let 
 -- one answer
 pub one-fresh : (letter : ℕ) (a b : NewReader) → FreshPromise letter a → FreshPromise letter b → a ≡ b
 one-fresh letter a b e f = e ∙ sym f
+
+pub one-good : (r : Reader) (a b : Bool) → GoodPromise r a → GoodPromise r b → a ≡ b
+one-good r a b e f = e ∙ sym f
 
 pub one-step : (r : Reader) (w : ℕ) (a b : Read) → StepPromise r w a → StepPromise r w b → a ≡ b
 one-step r w a b e f = step-is r w a e ∙ sym (step-is r w b f)

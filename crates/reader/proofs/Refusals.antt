@@ -1,12 +1,12 @@
 -- Refusals: 6 before 4, the old reader, no answer, counts of 0 and an unchanged slice; and 4 in a long read.
-use Prim.Native.Nat.{ℕ, _<_, _≤_, _+_, _*_}
-use mathlib.Core.Path.{_≡_, refl, sym, _∙_, ap}
+use Prim.Native.Nat.{ℕ, _<_, _≤_, _*_}
+use mathlib.Core.Path.{_≡_, refl, sym, _∙_, ap, subst}
 use mathlib.Core.Bool.{Bool, true, false}
 use mathlib.Core.Logic.{_⊎_, inl, inr}
-use mathlib.Core.List.{List, [], _∷_, _++_}
+use mathlib.Core.List.{List, [], _∷_, _++_, List·Memᴰ·head, List·Memᴰ·tail}
 use native.Mathlib.Numerals.{one-add}
 use native.Mathlib.Omega.{arith}
-use lib.ListN.{length, getD, drop}
+use lib.ListN.{length, getD, take, drop}
 use lib.IntN.{ℤ}
 use borrow.Author.Tests.{lt-leb, ne-eqb}
 use Rattle.frames.specs.Words.{break, silence}
@@ -17,11 +17,12 @@ use Rattle.reader.specs.State.{fresh}
 use Rattle.reader.specs.Good.{good}
 use Rattle.reader.specs.Rules.{refusing, wordOf}
 use Rattle.reader.specs.Line.{Long, whole, stopped, joined, lineOf, withRefusal}
-use Rattle.reader.specs.Promises.{FreshPromise, StepPromise, ReadPromise, newReader, freshOf, stepOf, readOf}
+use Rattle.reader.specs.Promises.{FreshPromise, StepPromise, ReadPromise, accepted, refusal, FreshRefusal, StepRefusal, ReadRefusal, newReader, freshOf, stepOf, readOf}
 use Rattle.reader.specs.declared.Reader.{Reader}
 use Rattle.reader.specs.declared.NewReader.{NewReader}
 use Rattle.reader.specs.declared.Read.{Read}
 use Rattle.reader.specs.declared.Reading.{Reading}
+use Rattle.numbers.proofs.Choices.{cases}
 use Rattle.reader.proofs.Word.{Numbered, word-number}
 use Rattle.reader.proofs.View.{Stops, Takes, view}
 use Rattle.reader.proofs.Permitted.{step-is}
@@ -88,29 +89,65 @@ bad-word-read r p q w out a b x y g h f t e =
     let i = f ∙ read-line r p out g in
     e ∙ read-line r (p ++ w ∷ q) out g ∙ line-bad-word p q w r out h (sym (ap (λ (l : Long). l .reading .taken) i) ∙ t) ∙ ap (withRefusal badWord) (sym i)
 
--- a long read of a good reader ends with 0, or with 4 before a word above 257
-abbrev Ends : List ℕ → Reading → Type 0
-Ends words a = (a .refusal ≡ success) ⊎ ((a .refusal ≡ badWord) × (silence < getD words (a .taken) 0))
+-- a long read of a good reader ends with 0, or with 4 before a word above 257: the outcome of the words before it, but for the number
+abbrev Ends : Reader → List ℕ → List ℤ → Long → Type 0
+Ends r words out l =
+    (l .reading .refusal ≡ success)
+    ⊎ ((l ≡ withRefusal badWord (lineOf r (take (l .reading .taken) words) out)) × (silence < getD words (l .reading .taken) 0))
 
-line-ends : (words : List ℕ) (r : Reader) (out : List ℤ) → Ends words (lineOf r words out .reading)
+line-ends : (words : List ℕ) (r : Reader) (out : List ℤ) → Ends r words out (lineOf r words out)
 unfolding lineOf
 line-ends [] r out = inl refl
 line-ends (w ∷ words) r out = go (line-ends words) (view r w out)
   where
-    later : (a : Reading) → Ends words a → (a .refusal ≡ success) ⊎ ((a .refusal ≡ badWord) × (silence < getD (w ∷ words) (1 + a .taken) 0))
-    later a (inl z) = inl z
-    later a (inr b) = inr (b .0, rw (one-add (a .taken)) (b .1))
+    stop : (n : ℕ) → (n ≡ success) ⊎ ((n ≡ badWord) × (silence < w)) → Ends r (w ∷ words) out (stopped n r out)
+    stop n (inl z) = inl z
+    stop n (inr b) = inr (ap (λ (m : ℕ). stopped m r out) (b .0), b .1)
 
-    stop : (s : Stops r w out) → Ends (w ∷ words) (stopped (s .n) r out .reading)
-    stop s = s .why
+    later : (t : Takes r w out) (l : Long) → Ends (wordOf r w .next) words (drop (5 * t .n) out) l → Ends r (w ∷ words) out (joined 1 (t .n) (t .d) (t .front) l)
+    later t l (inl z) = inl z
+    later t l (inr b) =
+        let n = l .reading .taken in
+        let is = ap (joined 1 (t .n) (t .d) (t .front)) (b .0) ∙ ap (withRefusal badWord) (sym (t .is (take n words))) in
+        inr (rw (one-add n) (rw (one-add n) at is, b .1))
 
-    go : ((r : Reader) (out : List ℤ) → Ends words (lineOf r words out .reading)) → Stops r w out ⊎ Takes r w out → Ends (w ∷ words) (lineOf r (w ∷ words) out .reading)
-    go ih (inl s) = rw (s .is words) (stop s)
-    go ih (inr t) = rw (t .is words) (later (lineOf (wordOf r w .next) words (drop (5 * t .n) out) .reading) (ih (wordOf r w .next) (drop (5 * t .n) out)))
+    go : ((r : Reader) (out : List ℤ) → Ends r words out (lineOf r words out)) → Stops r w out ⊎ Takes r w out → Ends r (w ∷ words) out (lineOf r (w ∷ words) out)
+    go ih (inl s) = rw (s .is words) (stop (s .n) (s .why))
+    go ih (inr t) = rw (t .is words) (later t _ (ih (wordOf r w .next) (drop (5 * t .n) out)))
 
 pub read-ends : (r : Reader) (words : List ℕ) (out : List ℤ) (a : Reading) (after : List ℤ) → good r ≡ true → ReadPromise r words out a after
     → (a .refusal ≡ success) ⊎ ((a .refusal ≡ badWord) × (silence < getD words (a .taken) 0))
-read-ends r words out a after g e = rw (ap (λ (l : Long). l .reading) (e ∙ read-line r words out g)) (line-ends words r out)
+read-ends r words out a after g e = go (subst (Ends r words out) (sym (e ∙ read-line r words out g)) (line-ends words r out))
+  where
+    go : Ends r words out (whole a after) → (a .refusal ≡ success) ⊎ ((a .refusal ≡ badWord) × (silence < getD words (a .taken) 0))
+    go (inl z) = inl z
+    go (inr b) = inr (ap (λ (l : Long). l .reading .refusal) (b .0), b .1)
+
+-- every answer is a success, or a refusal with a number from the list and what it leaves
+pub fresh-refusals : (letter : ℕ) (a : NewReader) → FreshPromise letter a → FreshRefusal a
+unfolding freshOf
+fresh-refusals letter a e = rw e (cases FreshRefusal (known letter) (λ _. accepted refl) (λ _. refusal (List·Memᴰ·head refl)))
+
+pub step-refusals : (r : Reader) (w : ℕ) (s : Read) → StepPromise r w s → StepRefusal r s
+unfolding stepOf
+step-refusals r w s e =
+    rw (step-is r w s e) (cases (StepRefusal r) (good r) (λ _. go (word-number r w)) (λ _. refusal (List·Memᴰ·head refl)))
+  where
+    go : Numbered w (wordOf r w) → StepRefusal r (wordOf r w)
+    go (inl z) = accepted z
+    go (inr b) = refusal (List·Memᴰ·tail (List·Memᴰ·head (above r w (b .1))))
+
+pub read-refusals : (r : Reader) (words : List ℕ) (out : List ℤ) (a : Reading) (after : List ℤ) → ReadPromise r words out a after → ReadRefusal r words out a after
+unfolding readOf
+read-refusals r words out a after e = go (good r) refl
+  where
+    ended : Ends r words out (whole a after) → good r ≡ true → ReadRefusal r words out a after
+    ended (inl z) g = accepted z
+    ended (inr b) g = refusal (List·Memᴰ·tail (List·Memᴰ·head (b .0 ∙ ap (withRefusal badWord) (sym (read-line r (take (a .taken) words) out g)))))
+
+    go : (t : Bool) → good r ≡ t → ReadRefusal r words out a after
+    go true g = ended (subst (Ends r words out) (sym (e ∙ read-line r words out g)) (line-ends words r out)) g
+    go false g = refusal (List·Memᴰ·head (rw g at e))
 
 -- "a bad word behind a stop for room is not reached": where words are left, what follows them changes nothing
 line-stopped : (p q : List ℕ) (r : Reader) (out : List ℤ) → lineOf r p out .reading .taken < length p → lineOf r (p ++ q) out ≡ lineOf r p out

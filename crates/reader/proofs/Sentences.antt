@@ -22,7 +22,7 @@ use Rattle.reader.specs.Promises.{StepPromise}
 use Rattle.reader.specs.declared.Reader.{Reader}
 use Rattle.reader.specs.declared.Read.{Read}
 use Rattle.reader.specs.declared.Answer.the-variants.{Dropped}
-use Rattle.reader.proofs.Good.{parts}
+use Rattle.reader.proofs.Parts.{parts}
 use Rattle.reader.proofs.Word.{lost-is}
 use Rattle.reader.proofs.Permitted.{step-is}
 use Rattle.reader.proofs.Goodness.{step-word}

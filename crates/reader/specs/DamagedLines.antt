@@ -13,29 +13,18 @@ use Rattle.wire.specs.Numbers.{success}
 use Rattle.wire.specs.declared.Report.{Report}
 use Rattle.wire.specs.declared.Format.{Format}
 use Rattle.reader.specs.State.{fiveOf}
+use Rattle.reader.specs.Counts.{handedOut, numbers}
 use Rattle.reader.specs.Promises.{FreshPromise, ReadPromise}
 use Rattle.reader.specs.Runs.{StepsPromise, answers}
 use Rattle.reader.specs.declared.NewReader.{NewReader}
 use Rattle.reader.specs.declared.Read.{Read}
 use Rattle.reader.specs.declared.Reading.{Reading}
-use Rattle.reader.specs.declared.Answer.{Answer}
 use Rattle.reader.specs.declared.Answer.the-variants as answer
 
 -- what the command that sets a box's format itself gives, in front of the line: no word, or 256
 pub data Given : List ℕ → Type 0 where
   no-word : Given []
   a-break : Given (break ∷ [])
-
--- the reports among answers, and the numbers of reports, one after the other
-abbrev pub handedOut : List Answer → List Report
-handedOut [] = []
-handedOut (answer.Nothing ∷ l) = handedOut l
-handedOut (answer.Report p ∷ l) = p ∷ handedOut l
-handedOut (answer.Dropped k ∷ l) = handedOut l
-
-abbrev pub numbers : List Report → List ℤ
-numbers [] = []
-numbers (p ∷ reports) = fiveOf p ++ numbers reports
 
 -- a long read that took every word of a line and wrote the reports found: no refusal, the counts, and every number of the lent slice after it,
 -- those of the reports and then its old ones

@@ -6,8 +6,13 @@ ghost use Rattle.wire.specs.Line.{sizeBy, markedBy};
 ghost use Rattle.reader.specs.State.{noBytes};
 ghost use Rattle.reader.specs.Rules.{entered, answered, refusing, dropping, fitting, starting, keep, start, lose, byteOf, wordOf};
 use crate::Answer;
+use crate::BAD_WORD;
+use crate::BREAK;
 use crate::Read;
 use crate::Reader;
+use crate::SILENCE;
+use crate::SUCCESS;
+use crate::state::no_bytes;
 
 // Every byte enters the reader through this, by the letter of the format.
 fn entered(letter: u8, byte: u8) -> u8
@@ -16,24 +21,12 @@ fn entered(letter: u8, byte: u8) -> u8
     byte
 }
 
-// A reader that has no bytes.
-pub(crate) fn no_bytes(letter: u8, awaiting: bool) -> Reader
-    ensures { λ r. ⌜ r ≡ noBytes letter awaiting ⌝ }
-{
-    Reader {
-        format: letter,
-        kept: [0, 0, 0, 0, 0],
-        count: 0,
-        awaiting: awaiting,
-    }
-}
-
 // What a word that is not refused gives.
 fn answered(next: Reader, answer: Answer) -> Read
     ensures { λ r. ⌜ r ≡ answered next answer ⌝ }
 {
     Read {
-        refusal: 0,
+        refusal: SUCCESS,
         next: next,
         answer: answer,
     }
@@ -62,15 +55,11 @@ fn dropping(k: u8) -> Answer
 }
 
 impl Reader {
-    // Whether a byte fits the place that is next: the first, or a later one.
+    // Whether a byte fits the place that is next.
     fn fits(self, byte: u8) -> bool
         ensures { λ r. ⌜ r ≡ fitting self byte ⌝ }
     {
-        if self.count == 0 {
-            wire::fits(self.format, 0, byte)
-        } else {
-            wire::fits(self.format, 1, byte)
-        }
+        wire::fits(self.format, self.count, byte)
     }
 
     // A byte that fits its place is kept; the last gives the report.
@@ -157,9 +146,9 @@ impl Reader {
             return self.byte(size, marked, entered(self.format, word as u8));
         }
         match word {
-            256 => self.pause(!marked),
-            257 => self.pause(false),
-            _ => refusing(4, self),
+            BREAK => self.pause(!marked),
+            SILENCE => self.pause(false),
+            _ => refusing(BAD_WORD, self),
         }
     }
 }

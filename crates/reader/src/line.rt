@@ -9,6 +9,7 @@ ghost use Rattle.reader.specs.Line.{whole, lineOf};
 use crate::Answer;
 use crate::Reader;
 use crate::Reading;
+use crate::SUCCESS;
 use wire::Report;
 
 // The five numbers of a report, to the front of a slice.
@@ -48,20 +49,20 @@ impl Reader {
         ensures { λ r. ⌜ whole r (now (out .exit)) ≡ lineOf self (take 1 (now (words .entry))) (now (out .entry)) ⌝ }
     {
         let s = self.word(size, marked, words[0]);
-        if s.refusal != 0 {
+        if s.refusal != SUCCESS {
             return reading(s.refusal, self, 0, 0, 0);
         }
         let next = s.next;
         let answer = s.answer;
         match answer {
-            Answer::Nothing => reading(0, next, 1, 0, 0),
-            Answer::Dropped(k) => reading(0, next, 1, 0, k as usize),
+            Answer::Nothing => reading(SUCCESS, next, 1, 0, 0),
+            Answer::Dropped(k) => reading(SUCCESS, next, 1, 0, k as usize),
             Answer::Report(report) => {
                 if out.len() < 5 {
-                    return reading(0, self, 0, 0, 0);
+                    return reading(SUCCESS, self, 0, 0, 0);
                 }
                 put(out, report);
-                reading(0, next, 1, 1, 0)
+                reading(SUCCESS, next, 1, 1, 0)
             }
         }
     }
@@ -88,6 +89,6 @@ impl Reader {
             reports = reports + t.reports;
             dropped = dropped + t.dropped;
         }
-        reading(0, r, at, reports, dropped)
+        reading(SUCCESS, r, at, reports, dropped)
     }
 }

@@ -1,8 +1,8 @@
 -- `entered`: today the byte itself.
 use mathlib.Core.Path.{refl}
 use Rattle.reader.specs.Rules.{entered}
-use Rattle.reader.proofs.words.entered.Statement.{statement}
-use Rattle.reader.proofs.words.entered.Tie as tie
+use Rattle.reader.proofs.rules.entered.Statement.{statement}
+use Rattle.reader.proofs.rules.entered.Tie as tie
 
 returns : tie.Need-returns
 unfolding entered

@@ -1,7 +1,7 @@
 // The rules of a good reader.
 ghost use mathlib.Core.Path.{_≡_};
-ghost use Rattle.wire.specs.Line.{sizeBy, markedBy};
-ghost use Rattle.reader.specs.Good.{placed, good};
+ghost use Rattle.reader.specs.Good.{placed};
+ghost use Rattle.reader.specs.Promises.{GoodPromise};
 use crate::Reader;
 
 impl Reader {
@@ -15,18 +15,18 @@ impl Reader {
         byte == 0
     }
 
-    // Whether the reader is good, with the size and the mark of its format.
-    pub(crate) fn good(self, size: usize, marked: bool) -> bool
-        requires { ⌜ (size ≡ sizeBy (self .format)) × (marked ≡ markedBy (self .format)) ⌝ }
-        ensures { λ r. ⌜ r ≡ good self ⌝ }
+    // Whether the reader is good: a step and a long read of any other is refused with 6.
+    pub fn good(self) -> bool
+        ensures { λ r. ⌜ GoodPromise self r ⌝ }
     {
         let k = self.kept;
-        let below = (self.count as usize) < size;
+        let below = (self.count as usize) < wire::size(self.format);
         let placed = self.holds(0, k[0])
             & self.holds(1, k[1])
             & self.holds(2, k[2])
             & self.holds(3, k[3])
             & self.holds(4, k[4]);
+        let marked = wire::marked(self.format);
         below & placed & (!self.awaiting | (!marked & (self.count == 0)))
     }
 }

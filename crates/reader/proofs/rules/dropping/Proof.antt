@@ -1,8 +1,8 @@
 -- `dropping`: nothing where none is dropped.
 use borrow.Author.Tests.{eq-eqb, ne-eqb}
 use Rattle.reader.specs.Rules.{dropping}
-use Rattle.reader.proofs.words.dropping.Statement.{statement}
-use Rattle.reader.proofs.words.dropping.Tie as tie
+use Rattle.reader.proofs.rules.dropping.Statement.{statement}
+use Rattle.reader.proofs.rules.dropping.Tie as tie
 
 returns : tie.Need-returns
 unfolding dropping

@@ -8,8 +8,8 @@ use mir.Syntax.{w16}
 use mir.Val.{toZ, ofZ}
 use mir.ValLaws.{toZ-pos}
 use Rattle.reader.proofs.Turn.{put-is}
-use Rattle.reader.proofs.many.put.Statement.{statement}
-use Rattle.reader.proofs.many.put.Tie as tie
+use Rattle.reader.proofs.line.put.Statement.{statement}
+use Rattle.reader.proofs.line.put.Tie as tie
 
 cast-buttons : tie.Need-cast-buttons
 cast-buttons c = search needs
