@@ -19,7 +19,7 @@ use Rattle.wire.specs.declared.Format.the-variants.{Mm, Microsoft, Absolute, Re
 use Rattle.wire.proofs.Letters.{letter-named}
 use Rattle.wire.proofs.Front.{size-between}
 use Rattle.wire.proofs.Codec.{bytes-length}
-use Rattle.wire.proofs.Codec.Accepted.{parts, whole}
+use Rattle.wire.proofs.Codec.Accepted.{parts, parts-accepted}
 use Rattle.wire.proofs.Sender.{nextWord, Left, sends}
 use Rattle.ballbox.specs.Box.{goingFrom}
 use Rattle.ballbox.specs.Latching.{movement, taken, secondOnly, withSecond, secondLatched, latched, latchedReport}
@@ -110,7 +110,7 @@ unfolding taken
 pair-accepted t r a =
     let p = parts FiveByte r a in
     let v = movement (letterOf FiveByte) t in
-    whole FiveByte (withPair (taken (letterOf FiveByte) t) r)
+    parts-accepted FiveByte (withPair (taken (letterOf FiveByte) t) r)
     (record {
       pressed = p .pressed;
       moved = record { x = p .moved .x; y = p .moved .y; second-x = second-within (v .x); second-y = second-within (v .y) };
