@@ -2,7 +2,6 @@
 use Prim.Native.Nat.{ℕ}
 use mathlib.Core.Path.{_≡_, refl, _∙_, ap}
 use mathlib.Core.Bool.{Bool, true, false}
-use mathlib.Core.Logic.{_⊎_, inl, inr}
 use mathlib.Core.List.{List, [], _∷_}
 use native.Mathlib.Omega.{arith}
 use lib.Dec.{eqb}
@@ -27,7 +26,7 @@ use Rattle.reader.specs.declared.Answer.{Answer}
 use Rattle.numbers.proofs.Choices.{cases, neither}
 use Rattle.reader.proofs.Word.{by-kind, word-format}
 use Rattle.reader.proofs.Keeps.{word-good}
-use Rattle.reader.proofs.View.{Stops, Takes, view}
+use Rattle.reader.proofs.View.{by-words}
 use Rattle.reader.proofs.Permitted.{steps-are}
 use Rattle.reader.proofs.Steps.{reports-first}
 use Rattle.reader.proofs.Goodness.{step-word, read-line, fresh-is-good}
@@ -79,18 +78,15 @@ abbrev Nothing-out : List ℤ → Long → Type 0
 Nothing-out out l = (l .reading .reports ≡ 0) × (l .out ≡ out)
 
 line-waits : (words : List ℕ) (r : Reader) (out : List ℤ) → Waits r → hasSilence words ≡ false → Nothing-out out (lineOf r words out)
-unfolding lineOf hasSilence
-line-waits [] r out h n = (refl, refl)
-line-waits (w ∷ words) r out h n = go (line-waits words) (view r w out)
-  where
-    go : ((r : Reader) (out : List ℤ) → Waits r → hasSilence words ≡ false → Nothing-out out (lineOf r words out)) → Stops r w out ⊎ Takes r w out → Nothing-out out (lineOf r (w ∷ words) out)
-    go ih (inl s) = rw (s .is words) (refl, refl)
-    go ih (inr t) =
-        let quiet = neither (eqb w silence) (hasSilence words) n .0 in
-        let none : t .n ≡ 0 = t .reports ∙ word-waits r w h quiet .none in
-        let front : t .front ≡ [] = empty (t .front) (omega (arith, t .sized)) in
-        let rest = ih (wordOf r w .next) out (next-waits r w h quiet) (neither (eqb w silence) (hasSilence words) n .1) in
-        rw (t .is words, front, none) (omega (arith, rest .0), rest .1)
+unfolding hasSilence
+line-waits =
+    by-words (λ r words out l. Waits r → hasSilence words ≡ false → Nothing-out out l) (λ r out h n. (refl, refl)) (λ r w words out s h n. (refl, refl))
+    (λ r w words out t l ih h n.
+    let quiet = neither (eqb w silence) (hasSilence words) n in
+    let none : t .n ≡ 0 = t .reports ∙ word-waits r w h (quiet .0) .none in
+    let front : t .front ≡ [] = empty (t .front) (omega (arith, t .sized)) in
+    let rest = rw none at (ih (next-waits r w h (quiet .0)) (quiet .1)) in
+    rw (front, none) (omega (arith, rest .0), rest .1))
 
 -- a fresh reader of an unmarked format waits; so does that of U, which comes for a letter that is not in the table
 unmarked-U : markedBy (letterOf FiveByte) ≡ false

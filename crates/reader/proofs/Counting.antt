@@ -3,10 +3,10 @@ use Prim.Native.Nat.{ℕ, _+_, _*_, _<_}
 use mathlib.Core.Path.{_≡_, refl, sym, _∙_, ap, subst}
 use mathlib.Core.Bool.{true}
 use mathlib.Core.Logic.{_⊎_, inl, inr}
-use mathlib.Core.List.{List, [], _∷_}
+use mathlib.Core.List.{List}
 use native.Mathlib.Numerals.{one-add}
 use native.Mathlib.Omega.{arith}
-use lib.ListN.{take, drop}
+use lib.ListN.{take}
 use lib.Dec.{eqb}
 use lib.IntN.{ℤ}
 use borrow.Author.Tests.{eqb-false}
@@ -25,7 +25,7 @@ use Rattle.reader.specs.declared.Answer.{Answer}
 use Rattle.reader.specs.declared.Answer.the-variants.{Nothing, Report, Dropped}
 use Rattle.numbers.proofs.Choices.{cases}
 use Rattle.reader.proofs.Word.{by-rules, by-kind, Kept, dropping-is, word-kept, word-format}
-use Rattle.reader.proofs.View.{Stops, Takes, view}
+use Rattle.reader.proofs.View.{by-words}
 use Rattle.reader.proofs.Permitted.{step-is}
 use Rattle.reader.proofs.Goodness.{step-word}
 
@@ -42,17 +42,12 @@ abbrev Counted : ℕ → Reader → List ℕ → Reading → Type 0
 Counted size r words a = bytesIn (take (a .taken) words) + r .count ≡ size * a .reports + a .dropped + a .next .count
 
 line-counts : (size : ℕ) (words : List ℕ) (r : Reader) (out : List ℤ) → sizeBy (r .format) ≡ size → Counted size r words (lineOf r words out .reading)
-unfolding lineOf bytesIn
-line-counts size [] r out z = omega arith
-line-counts size (w ∷ words) r out z = go (line-counts size words) (view r w out)
-  where
-    go : ((r : Reader) (out : List ℤ) → sizeBy (r .format) ≡ size → Counted size r words (lineOf r words out .reading)) → Stops r w out ⊎ Takes r w out → Counted size r (w ∷ words) (lineOf r (w ∷ words) out .reading)
-    go ih (inl s) = rw (s .is words) (omega arith)
-    go ih (inr t) =
-        let next = wordOf r w .next in
-        let rest = lineOf next words (drop (5 * t .n) out) in
-        let k = rw z at (t .kept) in
-        rw (t .is words, one-add (rest .reading .taken)) (omega (arith, k, ih next (drop (5 * t .n) out) (ap sizeBy (word-format r w) ∙ z)))
+unfolding bytesIn
+line-counts size =
+    by-words (λ r words out l. sizeBy (r .format) ≡ size → Counted size r words (l .reading)) (λ r out z. omega arith) (λ r w words out s z. omega arith)
+    (λ r w words out t l ih z.
+    let k = rw z at (t .kept) in
+    rw (one-add (l .reading .taken)) (omega (arith, k, ih (ap sizeBy (word-format r w) ∙ z))))
 
 -- a long read, also at a stop for room and at a bad word
 pub read-counts : (r : Reader) (words : List ℕ) (out : List ℤ) (a : Reading) (after : List ℤ) → ReadPromise r words out a after

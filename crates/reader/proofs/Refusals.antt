@@ -3,7 +3,7 @@ use Prim.Native.Nat.{ℕ, _<_, _≤_, _*_}
 use mathlib.Core.Path.{_≡_, refl, sym, _∙_, ap, subst}
 use mathlib.Core.Bool.{Bool, true, false}
 use mathlib.Core.Logic.{_⊎_, inl, inr}
-use mathlib.Core.List.{List, [], _∷_, _++_, List·Memᴰ·head, List·Memᴰ·tail}
+use mathlib.Core.List.{List, _∷_, _++_, List·Memᴰ·head, List·Memᴰ·tail}
 use native.Mathlib.Numerals.{one-add}
 use native.Mathlib.Omega.{arith}
 use lib.ListN.{length, getD, take, drop}
@@ -24,7 +24,7 @@ use Rattle.reader.specs.declared.Read.{Read}
 use Rattle.reader.specs.declared.Reading.{Reading}
 use Rattle.numbers.proofs.Choices.{cases}
 use Rattle.reader.proofs.Word.{Numbered, word-number}
-use Rattle.reader.proofs.View.{Stops, Takes, view}
+use Rattle.reader.proofs.View.{Takes, by-words}
 use Rattle.reader.proofs.Permitted.{step-is}
 use Rattle.reader.proofs.Goodness.{step-word, read-line}
 
@@ -63,20 +63,13 @@ word-taken r w h = go (word-number r w)
 pub takes-line-words : (r : Reader) (w : ℕ) (s : Read) → good r ≡ true → w ≤ silence → StepPromise r w s → s .refusal ≡ success
 takes-line-words r w s g h e = rw (step-is r w s e ∙ step-word r w g) (word-taken r w h)
 
-line-bad-word : (p q : List ℕ) (w : ℕ) (r : Reader) (out : List ℤ) → silence < w → lineOf r p out .reading .taken ≡ length p → lineOf r (p ++ w ∷ q) out ≡ withRefusal badWord (lineOf r p out)
+line-bad-word : (q : List ℕ) (w : ℕ) → silence < w → (p : List ℕ) (r : Reader) (out : List ℤ) → lineOf r p out .reading .taken ≡ length p
+    → lineOf r (p ++ w ∷ q) out ≡ withRefusal badWord (lineOf r p out)
 unfolding lineOf
-line-bad-word [] q w r out b h = rw (above r w b)
-line-bad-word (v ∷ p) q w r out b h = go (line-bad-word p q w) (view r v out)
-  where
-    go : ((r : Reader) (out : List ℤ) → silence < w → lineOf r p out .reading .taken ≡ length p → lineOf r (p ++ w ∷ q) out ≡ withRefusal badWord (lineOf r p out)) → Stops r v out ⊎ Takes r v out → lineOf r (v ∷ (p ++ w ∷ q)) out ≡ withRefusal badWord (lineOf r (v ∷ p) out)
-    go ih (inl s) = let z = rw (s .is p) at h in absurd (omega arith)
-    go ih (inr t) =
-        let z = rw (t .is p) at h in
-        let next = wordOf r v .next in
-        let e : lineOf next p (drop (5 * t .n) out) .reading .taken ≡ length p = omega arith in
-        t .is (p ++ w ∷ q)
-        ∙ ap (joined 1 (t .n) (t .d) (t .front)) (ih next (drop (5 * t .n) out) b e)
-        ∙ ap (withRefusal badWord) (sym (t .is p))
+line-bad-word q w b =
+    by-words (λ r p out l. l .reading .taken ≡ length p → lineOf r (p ++ w ∷ q) out ≡ withRefusal badWord l) (λ r out h. rw (above r w b))
+    (λ r v p out s h. absurd (omega arith))
+    (λ r v p out t l ih h. t .is (p ++ w ∷ q) ∙ ap (joined 1 (t .n) (t .d) (t .front)) (ih (omega arith)))
 
 pub bad-word-read : (r : Reader) (p q : List ℕ) (w : ℕ) (out : List ℤ) (a b : Reading) (x y : List ℤ)
     → good r ≡ true
@@ -87,7 +80,7 @@ pub bad-word-read : (r : Reader) (p q : List ℕ) (w : ℕ) (out : List ℤ) (a 
     → whole a x ≡ withRefusal badWord (whole b y)
 bad-word-read r p q w out a b x y g h f t e =
     let i = f ∙ read-line r p out g in
-    e ∙ read-line r (p ++ w ∷ q) out g ∙ line-bad-word p q w r out h (sym (ap (λ (l : Long). l .reading .taken) i) ∙ t) ∙ ap (withRefusal badWord) (sym i)
+    e ∙ read-line r (p ++ w ∷ q) out g ∙ line-bad-word q w h p r out (sym (ap (λ (l : Long). l .reading .taken) i) ∙ t) ∙ ap (withRefusal badWord) (sym i)
 
 -- a long read of a good reader ends with 0, or with 4 before a word above 257: the outcome of the words before it, but for the number
 abbrev Ends : Reader → List ℕ → List ℤ → Long → Type 0
@@ -97,23 +90,19 @@ Ends r words out l =
 
 line-ends : (words : List ℕ) (r : Reader) (out : List ℤ) → Ends r words out (lineOf r words out)
 unfolding lineOf
-line-ends [] r out = inl refl
-line-ends (w ∷ words) r out = go (line-ends words) (view r w out)
+line-ends = by-words Ends (λ r out. inl refl) (λ r w words out s. stop r w words out (s .n) (s .why)) later
   where
-    stop : (n : ℕ) → (n ≡ success) ⊎ ((n ≡ badWord) × (silence < w)) → Ends r (w ∷ words) out (stopped n r out)
-    stop n (inl z) = inl z
-    stop n (inr b) = inr (ap (λ (m : ℕ). stopped m r out) (b .0), b .1)
+    stop : (r : Reader) (w : ℕ) (words : List ℕ) (out : List ℤ) (n : ℕ) → (n ≡ success) ⊎ ((n ≡ badWord) × (silence < w)) → Ends r (w ∷ words) out (stopped n r out)
+    stop r w words out n (inl z) = inl z
+    stop r w words out n (inr b) = inr (ap (λ (m : ℕ). stopped m r out) (b .0), b .1)
 
-    later : (t : Takes r w out) (l : Long) → Ends (wordOf r w .next) words (drop (5 * t .n) out) l → Ends r (w ∷ words) out (joined 1 (t .n) (t .d) (t .front) l)
-    later t l (inl z) = inl z
-    later t l (inr b) =
+    later : (r : Reader) (w : ℕ) (words : List ℕ) (out : List ℤ) (t : Takes r w out) (l : Long) → Ends (wordOf r w .next) words (drop (5 * t .n) out) l
+        → Ends r (w ∷ words) out (joined 1 (t .n) (t .d) (t .front) l)
+    later r w words out t l (inl z) = inl z
+    later r w words out t l (inr b) =
         let n = l .reading .taken in
         let is = ap (joined 1 (t .n) (t .d) (t .front)) (b .0) ∙ ap (withRefusal badWord) (sym (t .is (take n words))) in
         inr (rw (one-add n) (rw (one-add n) at is, b .1))
-
-    go : ((r : Reader) (out : List ℤ) → Ends r words out (lineOf r words out)) → Stops r w out ⊎ Takes r w out → Ends r (w ∷ words) out (lineOf r (w ∷ words) out)
-    go ih (inl s) = rw (s .is words) (stop (s .n) (s .why))
-    go ih (inr t) = rw (t .is words) (later t _ (ih (wordOf r w .next) (drop (5 * t .n) out)))
 
 pub read-ends : (r : Reader) (words : List ℕ) (out : List ℤ) (a : Reading) (after : List ℤ) → good r ≡ true → ReadPromise r words out a after
     → (a .refusal ≡ success) ⊎ ((a .refusal ≡ badWord) × (silence < getD words (a .taken) 0))
@@ -150,18 +139,10 @@ read-refusals r words out a after e = go (good r) refl
     go false g = refusal (List·Memᴰ·head (rw g at e))
 
 -- "a bad word behind a stop for room is not reached": where words are left, what follows them changes nothing
-line-stopped : (p q : List ℕ) (r : Reader) (out : List ℤ) → lineOf r p out .reading .taken < length p → lineOf r (p ++ q) out ≡ lineOf r p out
-unfolding lineOf
-line-stopped [] q r out h = absurd (omega arith)
-line-stopped (v ∷ p) q r out h = go (line-stopped p q) (view r v out)
-  where
-    go : ((r : Reader) (out : List ℤ) → lineOf r p out .reading .taken < length p → lineOf r (p ++ q) out ≡ lineOf r p out) → Stops r v out ⊎ Takes r v out → lineOf r (v ∷ (p ++ q)) out ≡ lineOf r (v ∷ p) out
-    go ih (inl s) = s .is (p ++ q) ∙ sym (s .is p)
-    go ih (inr t) =
-        let z = rw (t .is p) at h in
-        let next = wordOf r v .next in
-        let e : lineOf next p (drop (5 * t .n) out) .reading .taken < length p = omega arith in
-        t .is (p ++ q) ∙ ap (joined 1 (t .n) (t .d) (t .front)) (ih next (drop (5 * t .n) out) e) ∙ sym (t .is p)
+line-stopped : (q p : List ℕ) (r : Reader) (out : List ℤ) → lineOf r p out .reading .taken < length p → lineOf r (p ++ q) out ≡ lineOf r p out
+line-stopped q =
+    by-words (λ r p out l. l .reading .taken < length p → lineOf r (p ++ q) out ≡ l) (λ r out h. absurd (omega arith)) (λ r v p out s h. s .is (p ++ q))
+    (λ r v p out t l ih h. t .is (p ++ q) ∙ ap (joined 1 (t .n) (t .d) (t .front)) (ih (omega arith)))
 
 pub not-reached : (r : Reader) (p q : List ℕ) (out : List ℤ) (a b : Reading) (x y : List ℤ)
     → ReadPromise r p out b y
@@ -174,6 +155,6 @@ not-reached r p q out a b x y f t e = go (good r) refl
     go : (u : Bool) → good r ≡ u → (a ≡ b) × (x ≡ y)
     go true g =
         let i = rw g at f in
-        let j = (rw g at e) ∙ line-stopped p q r out (rw (ap (λ (l : Long). l .reading .taken) i) at t) ∙ sym i in
+        let j = (rw g at e) ∙ line-stopped q p r out (rw (ap (λ (l : Long). l .reading .taken) i) at t) ∙ sym i in
         (ap (λ (l : Long). l .reading) j, ap (λ (l : Long). l .out) j)
     go false g = let i = (rw g at e) ∙ sym (rw g at f) in (ap (λ (l : Long). l .reading) i, ap (λ (l : Long). l .out) i)

@@ -14,7 +14,7 @@ use Rattle.wire.specs.Line.{sizeBy}
 use Rattle.wire.specs.Numbers.{success, badWord}
 use Rattle.reader.specs.State.{fiveOf}
 use Rattle.reader.specs.Rules.{wordOf}
-use Rattle.reader.specs.Line.{stopped, joined, noRoom, lineOf}
+use Rattle.reader.specs.Line.{Long, stopped, joined, noRoom, lineOf}
 use Rattle.reader.specs.Counts.{byteIn, reportsIn}
 use Rattle.reader.specs.declared.Reader.{Reader}
 use Rattle.reader.specs.declared.Answer.{Answer}
@@ -51,3 +51,18 @@ view r w out = go (eqb (wordOf r w .refusal) 0) refl (wordOf r w .answer) refl (
     go true e (Report p) ea true eu = inl (record { n = 0; why = inl refl; is = λ ws. rw (e, ea, eu) })
     go true e (Report p) ea false eu =
         inr (record { n = 1; d = 0; front = fiveOf p; reports = rw ea; sized = refl; room = ltb-false _ _ eu; kept = rw ea at (word-kept r w (eqb-true _ _ e)); is = λ ws. rw (e, ea, eu) })
+
+-- what holds of a line: of no words, of a stop before a word, and of a word that is taken where it holds of what the words behind it give
+module _ (P : Reader → List ℕ → List ℤ → Long → Type 0)
+    (none : (r : Reader) (out : List ℤ) → P r [] out (stopped success r out))
+    (stop : (r : Reader) (w : ℕ) (words : List ℕ) (out : List ℤ) (s : Stops r w out) → P r (w ∷ words) out (stopped (s .n) r out))
+    (take : (r : Reader) (w : ℕ) (words : List ℕ) (out : List ℤ) (t : Takes r w out) (l : Long) → P (wordOf r w .next) words (drop (5 * t .n) out) l
+    → P r (w ∷ words) out (joined 1 (t .n) (t .d) (t .front) l)) where
+  pub by-words : (words : List ℕ) (r : Reader) (out : List ℤ) → P r words out (lineOf r words out)
+  unfolding lineOf
+  by-words [] r out = none r out
+  by-words (w ∷ words) r out = go (by-words words) (view r w out)
+    where
+      go : ((r : Reader) (out : List ℤ) → P r words out (lineOf r words out)) → Stops r w out ⊎ Takes r w out → P r (w ∷ words) out (lineOf r (w ∷ words) out)
+      go ih (inl s) = rw (s .is words) (stop r w words out s)
+      go ih (inr t) = rw (t .is words) (take r w words out t _ (ih _ _))
