@@ -32,12 +32,12 @@ linesIn [] = []
 linesIn (c ∷ cs) = cond (eqb c newline) ([] ∷ linesIn cs) (front c (linesIn cs))
 
 -- "Decimals have no leading zeros"
-abbrev pub isDigit : ℕ → Bool
-isDigit c = leb 0x30 c && leb c 0x39
+abbrev pub isDecimal : ℕ → Bool
+isDecimal c = leb 0x30 c && leb c 0x39
 
 abbrev pub allDigits : List ℕ → Bool
 allDigits [] = true
-allDigits (c ∷ cs) = isDigit c && allDigits cs
+allDigits (c ∷ cs) = isDecimal c && allDigits cs
 
 abbrev pub noLeadingZero : List ℕ → Bool
 noLeadingZero [] = false

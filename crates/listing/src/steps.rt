@@ -2,7 +2,7 @@
 ghost use mathlib.Core.Path.{_≡_};
 ghost use Rattle.text.specs.Growth.{textOf};
 ghost use Rattle.listing.specs.Lines.{saidBy};
-ghost use Rattle.listing.specs.Machine.{endedAt, atLine, formatted, worded, takenOf, endOf, unfinished, frontOf, lineEnds, byteOf, closedOf, lastOf, good};
+ghost use Rattle.listing.specs.Machine.{endedAt, atLine, formatted, worded, takenOf, endOf, unfinished, frontOf, lineEnds, fedByte, closedOf, lastOf, good};
 ghost use Rattle.listing.specs.Texts.{said, turned};
 use crate::Line;
 use crate::Lister;
@@ -168,7 +168,7 @@ impl Lister {
 
     // One byte.
     pub(crate) fn byte(self, b: u8) -> Turn
-        ensures { λ r. ⌜ r ≡ turned (byteOf self b) ⌝ }
+        ensures { λ r. ⌜ r ≡ turned (fedByte self b) ⌝ }
     {
         if b == b'\n' {
             return self.line(self.says());
