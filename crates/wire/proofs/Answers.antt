@@ -10,10 +10,9 @@ use lib.Dec.{eqb, ltb}
 use lib.IntN.{pos}
 use Rattle.wire.proofs.Front.{size-small}
 use Rattle.numbers.proofs.Choices.{cases}
-use Rattle.wire.proofs.Accepts.{accepts}
+use Rattle.wire.proofs.Accepts.{buttons-first, movement-next, room-last, accepts}
 use Rattle.wire.proofs.Refusals.{refusals}
 use Rattle.wire.proofs.Letters.{letter-named}
-use Rattle.numbers.proofs.Tested.{left, right}
 use Rattle.wire.specs.Line.{letterOf, namedBy, sizeOf}
 use Rattle.wire.specs.Table.{bytesOf}
 use Rattle.wire.specs.Holds.{pressable, holds, accepted}
@@ -95,17 +94,13 @@ unfolding encodeIn
 letter-refused letter r before after a e p = one-encoding letter r before p (rw e)
 
 pub buttons-refused : (f : Format) (r : Report) (before after : List ℕ) (a : Encoded) → 7 < r .buttons → EncodePromise (letterOf f) r before a after → (a ≡ ButtonsAboveSeven) × (after ≡ before)
-unfolding encodeIn
-buttons-refused f r before after a h p = told f r before p (simp (lt-leb (r .buttons) 7 h))
+buttons-refused f r before after a h p = told f r before p (sym (buttons-first f r before (lt-leb (r .buttons) 7 h)))
 
 pub movement-refused : (f : Format) (r : Report) (before after : List ℕ) (a : Encoded) → r .buttons ≤ 7 → holds f r ≡ false → EncodePromise (letterOf f) r before a after → (a ≡ MovementNotHeld) × (after ≡ before)
-unfolding encodeIn
-movement-refused f r before after a h e p = told f r before p (simp (le-leb (r .buttons) 7 h, e))
+movement-refused f r before after a h e p = told f r before p (sym (movement-next f r before (le-leb (r .buttons) 7 h) e))
 
 pub room-refused : (f : Format) (r : Report) (before after : List ℕ) (a : Encoded) → accepted f r ≡ true → length before < sizeOf f → EncodePromise (letterOf f) r before a after → (a ≡ BufferTooShort) × (after ≡ before)
-unfolding accepted encodeIn
-room-refused f r before after a e h p =
-    told f r before p (simp (left (pressable r) (holds f r) e, right (pressable r) (holds f r) e, lt-ltb (length before) (sizeOf f) h))
+room-refused f r before after a e h p = told f r before p (sym (room-last f r before e (lt-ltb (length before) (sizeOf f) h)))
 
 -- a second pair outside U is refused
 pub second-refused : (f : Format) (r : Report) (before after : List ℕ) (a : Encoded) → (f ≡ FiveByte → ⊥) → r .buttons ≤ 7 → (r .x2 ≡ pos 0 → ⊥) → EncodePromise (letterOf f) r before a after → (a ≡ MovementNotHeld) × (after ≡ before)

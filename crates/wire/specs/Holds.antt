@@ -1,5 +1,6 @@
 -- What the encoder accepts: "exactly what the wire holds".
 use Prim.Native.Nat.{ℕ}
+use mathlib.Core.Path.{_≡_}
 use mathlib.Core.Bool.{Bool, true, false, not, cond, _&&_}
 use mathlib.Core.List.{[], _∷_}
 use lib.Dec.{leb}
@@ -71,6 +72,16 @@ isNone SecondY = false
 -- the format holds a report's movements: there is none that it does not
 unfoldable pub holds : Format → Report → Bool
 holds f r = isNone (unheld f r)
+
+-- what it says of a report that this movement is the one: it is not held, and those before it in the order are
+abbrev pub Fault : Format → Report → Unheld → Type 0
+Fault f r None =
+    (within (xRange f) (r .x1) ≡ true) × (within (yRange f) (r .y1) ≡ true) × (within (secondRange f) (r .x2) ≡ true) × (within (secondRange f) (r .y2) ≡ true)
+Fault f r FirstX = within (xRange f) (r .x1) ≡ false
+Fault f r FirstY = (within (xRange f) (r .x1) ≡ true) × (within (yRange f) (r .y1) ≡ false)
+Fault f r SecondX = (within (xRange f) (r .x1) ≡ true) × (within (yRange f) (r .y1) ≡ true) × (within (secondRange f) (r .x2) ≡ false)
+Fault f r SecondY =
+    (within (xRange f) (r .x1) ≡ true) × (within (yRange f) (r .y1) ≡ true) × (within (secondRange f) (r .x2) ≡ true) × (within (secondRange f) (r .y2) ≡ false)
 
 -- "Buttons are 4L+2M+R, 0 to 7, handed in as a byte"
 abbrev pub pressable : Report → Bool

@@ -1,10 +1,17 @@
 // What the encoder writes, and the numbers of its answer.
 ghost use mathlib.Core.Path.{_≡_};
+ghost use mathlib.Core.Bool.{true};
 ghost use mathlib.Core.List.{_++_};
 ghost use Prim.Native.Nat.{_≤_};
 ghost use lib.ListN.{length, take, drop};
+ghost use Rattle.wire.specs.Holds.{accepted};
+ghost use Rattle.wire.specs.Encoder.{outcome, writing};
 ghost use Rattle.wire.specs.Promises.{RefusalPromise, LengthPromise};
 use crate::Encoded;
+use crate::Format;
+use crate::Report;
+use crate::line::size_of;
+use crate::table::bytes_of;
 
 // The first bytes of five to the front of a buffer, which has room for them.
 pub(crate) fn put(buffer: &mut [u8], bytes: [u8; 5], count: usize)
@@ -16,6 +23,19 @@ pub(crate) fn put(buffer: &mut [u8], bytes: [u8; 5], count: usize)
         buffer[i] = bytes[i];
         i += 1;
     }
+}
+
+// An accepted report's bytes at the front of a buffer, if they have room there.
+pub(crate) fn write(f: Format, report: Report, buffer: &mut [u8]) -> Encoded
+    requires { ⌜ accepted f report ≡ true ⌝ }
+    ensures { λ r. ⌜ outcome r (now (buffer .exit)) ≡ writing f report (now (buffer .entry)) ⌝ }
+{
+    let length = size_of(f);
+    if buffer.len() < length {
+        return Encoded::BufferTooShort;
+    }
+    put(buffer, bytes_of(f, report), length);
+    Encoded::Written(length)
 }
 
 impl Encoded {

@@ -1,6 +1,6 @@
 // Which movements a format holds.
 ghost use mathlib.Core.Path.{_≡_};
-ghost use Rattle.wire.specs.Holds.{within, xRange, yRange, secondRange, unheld, isNone};
+ghost use Rattle.wire.specs.Holds.{within, xRange, yRange, secondRange, unheld};
 use crate::Format;
 use crate::Range;
 use crate::Report;
@@ -40,20 +40,6 @@ impl Range {
         ensures { λ r. ⌜ r ≡ within self v ⌝ }
     {
         (self.low <= v) & (v <= self.high)
-    }
-}
-
-impl Unheld {
-    pub(crate) fn is_none(self) -> bool
-        ensures { λ r. ⌜ r ≡ isNone self ⌝ }
-    {
-        match self {
-            Unheld::None => true,
-            Unheld::FirstX => false,
-            Unheld::FirstY => false,
-            Unheld::SecondX => false,
-            Unheld::SecondY => false,
-        }
     }
 }
 

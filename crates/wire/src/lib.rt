@@ -118,18 +118,14 @@ pub fn encode(letter: u8, report: Report, buffer: &mut [u8]) -> Encoded
     let Named::Known(f) = line::format_of(letter) else {
         return Encoded::NoSuchLetter;
     };
-    let pressable = report.buttons <= 7;
-    let held = holds::unheld(f, report).is_none();
-    if !pressable {
+    if report.buttons > 7 {
         return Encoded::ButtonsAboveSeven;
     }
-    if !held {
-        return Encoded::MovementNotHeld;
+    match holds::unheld(f, report) {
+        Unheld::None => encoder::write(f, report, buffer),
+        Unheld::FirstX => Encoded::MovementNotHeld,
+        Unheld::FirstY => Encoded::MovementNotHeld,
+        Unheld::SecondX => Encoded::MovementNotHeld,
+        Unheld::SecondY => Encoded::MovementNotHeld,
     }
-    let length = line::size_of(f);
-    if buffer.len() < length {
-        return Encoded::BufferTooShort;
-    }
-    encoder::put(buffer, table::bytes_of(f, report), length);
-    Encoded::Written(length)
 }

@@ -1,5 +1,4 @@
 -- `wrapped`: two's complement by a magnitude and a sign.
-use Prim.Native.Nat.{_-_}
 use borrow.Author.Needs.{needs}
 use lib.IntN.{natAbs}
 use mathlib.Core.Path.{_≡_, _∙_, sym}
