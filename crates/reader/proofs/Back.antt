@@ -24,7 +24,6 @@ use Rattle.wire.specs.declared.Named.the-variants.{Known, Unknown}
 use Rattle.wire.specs.declared.Encoded.{Encoded}
 use Rattle.wire.proofs.Accepts.{accepts}
 use Rattle.wire.proofs.Letters.{size-named}
-use Rattle.wire.proofs.Front.{same-front}
 use Rattle.wire.proofs.Codec as codec
 use Rattle.reader.specs.State.{keptIn}
 use Rattle.reader.specs.Good.{placed, good}
@@ -36,6 +35,7 @@ use Rattle.reader.specs.declared.Read.{Read}
 use Rattle.reader.specs.declared.Answer.{Answer}
 use Rattle.reader.specs.declared.Answer.the-variants as answer
 use Rattle.reader.proofs.Entered.{as-it-is}
+use Rattle.reader.proofs.Framed.{report-like}
 use Rattle.reader.proofs.Parts.{Parts, parts, one-more}
 use Rattle.reader.proofs.Word.{dropping-reports, by-word}
 use Rattle.reader.proofs.Permitted.{step-is}
@@ -102,10 +102,7 @@ module _ (r : Reader) (b : ℕ) (p : Report) (f : Format) (g : good r ≡ true) 
       (λ i h. rw (bytes-at i (omega (arith, bytes-length, size-is, d .last))) (more-fits i (omega (arith, bytes-length, size-is, d .last))))
 
   report-is : p ≡ reportOf f bytes
-  unfolding reportBy
-  report-is =
-      d .is
-      ∙ rw named (same-front f (more r b) bytes (λ i h. sym (bytes-at i (omega (arith, size-is, d .last)))))
+  report-is = d .is ∙ report-like f r g named b (omega (arith, size-is, d .last))
 
   encodes : (buffer : List ℕ) → sizeOf f ≤ length buffer → encodeIn (Known f) p buffer ≡ record { refusal = success; told = sizeOf f; buffer = settledBy (r .format) bytes ++ drop (sizeOf f) buffer }
   unfolding settledBy
