@@ -16,10 +16,9 @@ use Rattle.reader.specs.Counts.{byteIn}
 use Rattle.reader.specs.Line.{Long, whole, stopped, joined, lineOf}
 use Rattle.reader.specs.declared.Reader.{Reader}
 use Rattle.reader.specs.declared.Reading.{Reading}
-use Rattle.reader.proofs.View.{Stops, Takes, view}
+use Rattle.reader.proofs.View.{Stops, Takes, view, joined-joined}
 use Rattle.reader.proofs.Word.{word-format, word-below}
 use Rattle.numbers.proofs.Choices.{cases}
-use Rattle.reader.proofs.Joined.{joined-joined}
 
 -- where the loop stands: what is done, and what is left
 abbrev pub standing : List ℕ → List ℤ → Reader → ℕ → ℕ → ℕ → ℕ → Long

@@ -8,7 +8,7 @@ use borrow.Author.Needs.{needs}
 use Rattle.wire.specs.Line.{sizeBy}
 use Rattle.reader.specs.Line.{whole, lineOf}
 use Rattle.wire.proofs.Letters.{at-most-five}
-use Rattle.reader.proofs.Joined.{joined-none}
+use Rattle.reader.proofs.View.{joined-none}
 use Rattle.reader.proofs.Loop.{Turned, turned, standing, some, said, again, same, ends-before, ends-all, unchanged}
 use Rattle.reader.proofs.Reader.line.Statement.{statement}
 use Rattle.reader.proofs.Reader.line.Tie as tie
