@@ -1,6 +1,6 @@
 -- A fresh reader of U, T or W hands out nothing before the first silence, whatever the words.
 use Prim.Native.Nat.{ℕ}
-use mathlib.Core.Path.{_≡_, refl, _∙_, ap}
+use mathlib.Core.Path.{_≡_, refl, sym, _∙_, ap}
 use mathlib.Core.Bool.{Bool, true, false}
 use mathlib.Core.List.{List, [], _∷_}
 use native.Mathlib.Omega.{arith}
@@ -13,7 +13,7 @@ use Rattle.wire.specs.Line.{letterOf, namedBy, markedBy, known}
 use Rattle.wire.specs.declared.Format.the-variants.{FiveByte}
 use Rattle.reader.specs.State.{fresh}
 use Rattle.reader.specs.Good.{good}
-use Rattle.reader.specs.Rules.{dropping, byteOf, breakOf, wordOf}
+use Rattle.reader.specs.Rules.{wordOf}
 use Rattle.reader.specs.Line.{Long, lineOf}
 use Rattle.reader.specs.Counts.{reportsIn, handedOut}
 use Rattle.reader.specs.Promises.{FreshPromise, ReadPromise, freshOf}
@@ -22,9 +22,9 @@ use Rattle.reader.specs.declared.Reader.{Reader}
 use Rattle.reader.specs.declared.NewReader.{NewReader}
 use Rattle.reader.specs.declared.Read.{Read}
 use Rattle.reader.specs.declared.Reading.{Reading}
-use Rattle.reader.specs.declared.Answer.{Answer}
-use Rattle.numbers.proofs.Choices.{cases, neither}
-use Rattle.reader.proofs.Word.{by-kind, word-format}
+use Rattle.numbers.proofs.Choices.{neither}
+use Rattle.numbers.proofs.Tested.{holds}
+use Rattle.reader.proofs.Word.{dropping-reports, by-word, word-format}
 use Rattle.reader.proofs.Keeps.{word-good}
 use Rattle.reader.proofs.View.{by-words}
 use Rattle.reader.proofs.Permitted.{steps-are}
@@ -42,18 +42,14 @@ record Waited (s : Read) : Type 0 where
   none : reportsIn (s .answer) ≡ 0
   still : s .next .awaiting ≡ true
 
-dropping-reports : (k : ℕ) → reportsIn (dropping k) ≡ 0
-unfolding dropping
-dropping-reports k = cases (λ (a : Answer). reportsIn a ≡ 0) (eqb k 0) (λ _. refl) (λ _. refl)
-
 word-waits : (r : Reader) (w : ℕ) → Waits r → eqb w silence ≡ false → Waited (wordOf r w)
-unfolding byteOf breakOf
 word-waits r w h n =
-    by-kind Waited r w
-    (λ _. rw (h .awaiting) (record { none = refl; still = refl }))
-    (λ _ _. record { none = dropping-reports (r .count); still = rw (h .unmarked) })
-    (λ _ e. absurd (eqb-false w silence n e))
+    by-word Waited r w (λ _ _. record { none = refl; still = h .awaiting }) (λ _ a. no a) (λ _ a. no a) (λ _ a. no a) (λ _ a. no a)
+    (λ _. record { none = dropping-reports (r .count); still = rw (h .unmarked) }) (λ e. absurd (eqb-false w silence n e))
     (λ _. record { none = refl; still = h .awaiting })
+  where
+    no : {A : Type 0} → r .awaiting ≡ false → A
+    no a = absurd (holds (sym a ∙ h .awaiting))
 
 next-waits : (r : Reader) (w : ℕ) → Waits r → eqb w silence ≡ false → Waits (wordOf r w .next)
 next-waits r w h n =

@@ -24,20 +24,20 @@ use Rattle.wire.specs.declared.Named.the-variants.{Known, Unknown}
 use Rattle.wire.specs.declared.Encoded.{Encoded}
 use Rattle.wire.proofs.Accepts.{accepts}
 use Rattle.wire.proofs.Letters.{size-named}
-use Rattle.wire.proofs.Front.{same-front}
 use Rattle.wire.proofs.Codec as codec
 use Rattle.reader.specs.State.{keptIn}
 use Rattle.reader.specs.Good.{placed, good}
-use Rattle.reader.specs.Rules.{entered, dropping, more, finishes, keep, start, lose, breakOf, silenceOf, wordOf}
+use Rattle.reader.specs.Rules.{entered, dropping, more, wordOf}
+use Rattle.reader.specs.Counts.{reportsIn}
 use Rattle.reader.specs.Promises.{StepPromise}
 use Rattle.reader.specs.declared.Reader.{Reader}
 use Rattle.reader.specs.declared.Read.{Read}
 use Rattle.reader.specs.declared.Answer.{Answer}
 use Rattle.reader.specs.declared.Answer.the-variants as answer
-use Rattle.numbers.proofs.Choices.{cases}
 use Rattle.reader.proofs.Entered.{as-it-is}
+use Rattle.reader.proofs.Framed.{report-like}
 use Rattle.reader.proofs.Parts.{Parts, parts, one-more}
-use Rattle.reader.proofs.Word.{by-rules, by-kind}
+use Rattle.reader.proofs.Word.{dropping-reports, by-word}
 use Rattle.reader.proofs.Permitted.{step-is}
 use Rattle.reader.proofs.Goodness.{step-word}
 
@@ -47,31 +47,20 @@ record Finished (r : Reader) (b : ℕ) (p : Report) : Type 0 where
   last : r .count + 1 ≡ sizeBy (r .format)
   is : p ≡ reportBy (r .format) (more r b)
 
-dropped-no-report : (k : ℕ) (p : Report) → dropping k ≡ answer.Report p → ⊥
-unfolding dropping
-dropped-no-report k p =
-    cases (λ (a : Answer). a ≡ answer.Report p → ⊥) (eqb k 0)
-    (λ _ e. let z : _≡_ {A = ℕ} 0 1 = cc in omega arith)
-    (λ _ e. let z : _≡_ {A = ℕ} 0 1 = cc in omega arith)
-
 abbrev Finishing : Reader → ℕ → Report → Read → Type 0
 Finishing r b p s = s .answer ≡ answer.Report p → Finished r b p
 
 finished : (r : Reader) (w : ℕ) (p : Report) → wordOf r w .answer ≡ answer.Report p → Finished r (entered (r .format) w) p
-unfolding keep start lose breakOf silenceOf
 finished r w p =
-    let b = entered (r .format) w in
-    by-kind (Finishing r b p) r w
-    (λ _. by-rules (Finishing r b p) r b
-    (λ _ e. let z : _≡_ {A = ℕ} 0 1 = cc in absurd (omega arith))
-    (λ _ fit. cases (Finishing r b p) (finishes r)
-    (λ last e. record { fit = fit; last = eqb-true (r .count + 1) (sizeBy (r .format)) last; is = cc })
-    (λ _ e. let z : _≡_ {A = ℕ} 0 1 = cc in absurd (omega arith)))
-    (λ _ _ _ e. absurd (dropped-no-report (r .count) p e))
-    (λ _ _ _ e. let z : _≡_ {A = ℕ} 0 1 = cc in absurd (omega arith)))
-    (λ _ _ e. absurd (dropped-no-report (r .count) p e))
-    (λ _ _ e. absurd (dropped-no-report (r .count) p e))
-    (λ _ e. let z : _≡_ {A = ℕ} 0 1 = cc in absurd (omega arith))
+    by-word (Finishing r (entered (r .format) w) p) r w (λ _ _ e. no refl e)
+    (λ _ _ fit last e. record { fit = fit; last = eqb-true (r .count + 1) (sizeBy (r .format)) last; is = cc })
+    (λ _ _ _ _ e. no refl e) (λ _ _ _ _ e. no dropped e) (λ _ _ _ _ e. no refl e) (λ _ e. no dropped e) (λ _ e. no dropped e) (λ _ e. no refl e)
+  where
+    no : {A : Type 0} {a : Answer} → reportsIn a ≡ 0 → a ≡ answer.Report p → A
+    no z e = absurd (omega (arith, z, ap reportsIn e))
+
+    dropped : reportsIn (dropping (r .count)) ≡ 0
+    dropped = dropping-reports (r .count)
 
 -- the kept bytes and the last one
 module _ (r : Reader) (b : ℕ) (p : Report) (f : Format) (g : good r ≡ true) (named : namedBy (r .format) ≡ Known f) (d : Finished r b p) where
@@ -113,10 +102,7 @@ module _ (r : Reader) (b : ℕ) (p : Report) (f : Format) (g : good r ≡ true) 
       (λ i h. rw (bytes-at i (omega (arith, bytes-length, size-is, d .last))) (more-fits i (omega (arith, bytes-length, size-is, d .last))))
 
   report-is : p ≡ reportOf f bytes
-  unfolding reportBy
-  report-is =
-      d .is
-      ∙ rw named (same-front f (more r b) bytes (λ i h. sym (bytes-at i (omega (arith, size-is, d .last)))))
+  report-is = d .is ∙ report-like f r g named b (omega (arith, size-is, d .last))
 
   encodes : (buffer : List ℕ) → sizeOf f ≤ length buffer → encodeIn (Known f) p buffer ≡ record { refusal = success; told = sizeOf f; buffer = settledBy (r .format) bytes ++ drop (sizeOf f) buffer }
   unfolding settledBy

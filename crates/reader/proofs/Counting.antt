@@ -14,7 +14,7 @@ use Rattle.frames.specs.Words.{break, silence}
 use Rattle.wire.specs.Line.{sizeBy}
 use Rattle.wire.specs.Numbers.{badState}
 use Rattle.reader.specs.Good.{good}
-use Rattle.reader.specs.Rules.{entered, dropping, finishes, keep, start, lose, breakOf, silenceOf, wordOf}
+use Rattle.reader.specs.Rules.{dropping, breakOf, silenceOf, wordOf}
 use Rattle.reader.specs.Line.{Long, lineOf}
 use Rattle.reader.specs.Counts.{byteIn, bytesIn, reportsIn, droppedIn}
 use Rattle.reader.specs.Promises.{StepPromise, ReadPromise, stepOf, readOf}
@@ -24,7 +24,7 @@ use Rattle.reader.specs.declared.Reading.{Reading}
 use Rattle.reader.specs.declared.Answer.{Answer}
 use Rattle.reader.specs.declared.Answer.the-variants.{Nothing, Report, Dropped}
 use Rattle.numbers.proofs.Choices.{cases}
-use Rattle.reader.proofs.Word.{by-rules, by-kind, Kept, dropping-is, word-kept, word-format}
+use Rattle.reader.proofs.Word.{by-word, Kept, dropping-is, word-kept, word-format}
 use Rattle.reader.proofs.View.{by-words}
 use Rattle.reader.proofs.Permitted.{step-is}
 use Rattle.reader.proofs.Goodness.{step-word}
@@ -72,11 +72,9 @@ unfolding dropping
 dropping-some k = cases SomeDropped (eqb k 0) (λ _. tt) (λ e. let n = eqb-false k 0 e in omega arith)
 
 word-drops-some : (r : Reader) (w : ℕ) → Fine (wordOf r w)
-unfolding keep start lose breakOf silenceOf
 word-drops-some r w =
-    by-kind Fine r w
-    (λ _. by-rules Fine r (entered (r .format) w) (λ _. omega arith) (λ _ _. cases Fine (finishes r) (λ _. tt) (λ _. tt)) (λ _ _ _. dropping-some (r .count)) (λ _ _ _. omega arith))
-    (λ _ _. dropping-some (r .count)) (λ _ _. dropping-some (r .count)) (λ _. tt)
+    by-word Fine r w (λ _ _. omega arith) (λ _ _ _ _. tt) (λ _ _ _ _. tt) (λ _ _ _ _. dropping-some (r .count)) (λ _ _ _ _. omega arith)
+    (λ _. dropping-some (r .count)) (λ _. dropping-some (r .count)) (λ _. tt)
 
 pub never-dropped-none : (r : Reader) (w : ℕ) (s : Read) → StepPromise r w s → s .answer ≡ Dropped 0 → ⊥
 unfolding stepOf

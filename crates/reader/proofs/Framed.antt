@@ -69,23 +69,11 @@ pub record Like (s : Read) (x : State × frame.Answer Report) : Type 0 where
   pub answered : s .answer ≡ told (x .1)
   pub next : stateOf (s .next) ≡ x .0
 
--- the frame's step at a byte, rule by rule
-module _ (f : Format) (w : ℕ) (byte : w < 256) where
-  waits-on : markedOf f ≡ false → step (frameOf f) waits w ≡ (waits, frame.dropped 1)
-  unfolding moveOf
-  waits-on m = rw (ne-eqb w 257 (λ e. omega arith), ne-eqb w 256 (λ e. omega arith), m)
-
-  keeps : (k : List ℕ) → fitsAt f (length k) w ≡ true → step (frameOf f) (has k) w ≡ keep (frameOf f) (k ++ (w ∷ []))
-  unfolding moveOf
-  keeps k h = rw (ne-eqb w 257 (λ e. omega arith), ne-eqb w 256 (λ e. omega arith), h)
-
-  starts : (k : List ℕ) → fitsAt f (length k) w ≡ false → markedOf f && fitsAt f 0 w ≡ true → step (frameOf f) (has k) w ≡ (has (w ∷ []), frame.drops (length k))
-  unfolding moveOf
-  starts k h s = rw (ne-eqb w 257 (λ e. omega arith), ne-eqb w 256 (λ e. omega arith), h, s)
-
-  loses : (k : List ℕ) → fitsAt f (length k) w ≡ false → markedOf f && fitsAt f 0 w ≡ false → step (frameOf f) (has k) w ≡ (fresh (frameOf f), frame.dropped (suc (length k)))
-  unfolding moveOf
-  loses k h s = rw (ne-eqb w 257 (λ e. omega arith), ne-eqb w 256 (λ e. omega arith), h, s)
+-- the frame's step at a byte
+at-byte : (f : Format) (s : State) (w : ℕ) → w < 256
+    → step (frameOf f) s w ≡ frame.act (frameOf f) (cond (frame.inPlace (frameOf f) s w) frame.fit (cond (markedOf f && fitsAt f 0 w) frame.start frame.bad)) (frame.kept s) w
+unfolding moveOf
+at-byte f s w byte = rw (ne-eqb w 257 (λ e. omega arith), ne-eqb w 256 (λ e. omega arith))
 
 whole-is : (f : Format) (k : List ℕ) (w : ℕ) → complete (frameOf f) (k ++ (w ∷ [])) ≡ eqb (suc (length k)) (sizeOf f)
 whole-is f [] w = refl
@@ -129,7 +117,7 @@ module _ (f : Format) (r : Reader) (g : good r ≡ true) (named : namedBy (r .fo
       go false = refl
 
   -- the last byte gives the report of those kept and it
-  report-like : (w : ℕ) → suc (r .count) ≡ sizeOf f → reportBy (r .format) (more r w) ≡ reportOf f (keptIn r ++ (w ∷ []))
+  pub report-like : (w : ℕ) → suc (r .count) ≡ sizeOf f → reportBy (r .format) (more r w) ≡ reportOf f (keptIn r ++ (w ∷ []))
   unfolding reportBy
   report-like w e =
       rw (named, ← take-suc-set (r .kept) (r .count) w room)
@@ -151,10 +139,10 @@ module _ (f : Format) (r : Reader) (g : good r ≡ true) (named : namedBy (r .fo
   unfolding rules.start rules.lose
   byte-like w b =
       by-rules (λ s. Like s (step (frameOf f) (stateOf r) w)) r w
-      (λ a. rw (waiting a, waits-on f w b (sym marked-is ∙ awaits-only-unmarked r g a .0)) (record { taken = refl; answered = refl; next = waiting a }))
-      (λ a h. rw (keeping a, keeps f w b (keptIn r) (fit h)) (kept-like w))
-      (λ a h s. rw (keeping a, starts f w b (keptIn r) (fit h) (start s), count-is) (record { taken = refl; answered = dropping-told (r .count); next = refl }))
-      (λ a h s. rw (keeping a, loses f w b (keptIn r) (fit h) (start s), count-is) (record { taken = refl; answered = ap answer.Dropped (add-one (r .count)); next = fresh-like }))
+      (λ a. rw (waiting a, at-byte f waits w b, sym marked-is ∙ awaits-only-unmarked r g a .0) (record { taken = refl; answered = refl; next = waiting a }))
+      (λ a h. rw (keeping a, at-byte f (has (keptIn r)) w b, fit h) (kept-like w))
+      (λ a h s. rw (keeping a, at-byte f (has (keptIn r)) w b, fit h, start s, count-is) (record { taken = refl; answered = dropping-told (r .count); next = refl }))
+      (λ a h s. rw (keeping a, at-byte f (has (keptIn r)) w b, fit h, start s, count-is) (record { taken = refl; answered = ap answer.Dropped (add-one (r .count)); next = fresh-like }))
     where
       waiting : r .awaiting ≡ true → stateOf r ≡ waits
       waiting a = rw a

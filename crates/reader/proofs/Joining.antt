@@ -13,8 +13,7 @@ use Rattle.reader.specs.Line.{Long, whole, joined, unused, asOne, lineOf
 use Rattle.reader.specs.Promises.{ReadPromise, readOf}
 use Rattle.reader.specs.declared.Reader.{Reader}
 use Rattle.reader.specs.declared.Reading.{Reading}
-use Rattle.reader.proofs.View.{by-words}
-use Rattle.reader.proofs.Joined.{joined-none, joined-joined}
+use Rattle.reader.proofs.View.{by-words, joined-none, joined-joined}
 use Rattle.reader.proofs.Goodness.{line-stays-good}
 
 -- what was read, and then what is read of a part behind it

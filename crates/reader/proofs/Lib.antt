@@ -9,7 +9,6 @@ pub mod Word
 pub mod Keeps
 pub mod Turn
 pub mod View
-pub mod Joined
 pub mod Loop
 pub mod Bounds
 pub mod Permitted

@@ -2,7 +2,7 @@
 use Prim.Native.Nat.{ℕ, _<_, _≤_, _*_}
 use mathlib.Core.Path.{_≡_, refl, sym, _∙_, ap, subst}
 use mathlib.Core.Bool.{Bool, true, false}
-use mathlib.Core.Logic.{_⊎_, inl, inr}
+use mathlib.Core.Logic.{_⊎_, inl, inr, ⊎-elim}
 use mathlib.Core.List.{List, _∷_, _++_, List·Memᴰ·head, List·Memᴰ·tail}
 use native.Mathlib.Numerals.{one-add}
 use native.Mathlib.Omega.{arith}
@@ -23,7 +23,7 @@ use Rattle.reader.specs.declared.NewReader.{NewReader}
 use Rattle.reader.specs.declared.Read.{Read}
 use Rattle.reader.specs.declared.Reading.{Reading}
 use Rattle.numbers.proofs.Choices.{cases}
-use Rattle.reader.proofs.Word.{Numbered, word-number}
+use Rattle.reader.proofs.Word.{word-number}
 use Rattle.reader.proofs.View.{Takes, by-words}
 use Rattle.reader.proofs.Permitted.{step-is}
 use Rattle.reader.proofs.Goodness.{step-word, read-line}
@@ -54,11 +54,7 @@ bad-word r w s g h e = step-is r w s e ∙ step-word r w g ∙ above r w h
 
 -- and no other: a good reader takes every line word
 pub word-taken : (r : Reader) (w : ℕ) → w ≤ silence → wordOf r w .refusal ≡ success
-word-taken r w h = go (word-number r w)
-  where
-    go : Numbered w (wordOf r w) → wordOf r w .refusal ≡ success
-    go (inl z) = z
-    go (inr b) = absurd (omega (arith, b .1))
+word-taken r w h = ⊎-elim (λ z. z) (λ b. absurd (omega (arith, b .1))) (word-number r w)
 
 pub takes-line-words : (r : Reader) (w : ℕ) (s : Read) → good r ≡ true → w ≤ silence → StepPromise r w s → s .refusal ≡ success
 takes-line-words r w s g h e = rw (step-is r w s e ∙ step-word r w g) (word-taken r w h)
@@ -106,11 +102,9 @@ line-ends = by-words Ends (λ r out. inl refl) (λ r w words out s. stop r w wor
 
 pub read-ends : (r : Reader) (words : List ℕ) (out : List ℤ) (a : Reading) (after : List ℤ) → good r ≡ true → ReadPromise r words out a after
     → (a .refusal ≡ success) ⊎ ((a .refusal ≡ badWord) × (silence < getD words (a .taken) 0))
-read-ends r words out a after g e = go (subst (Ends r words out) (sym (e ∙ read-line r words out g)) (line-ends words r out))
-  where
-    go : Ends r words out (whole a after) → (a .refusal ≡ success) ⊎ ((a .refusal ≡ badWord) × (silence < getD words (a .taken) 0))
-    go (inl z) = inl z
-    go (inr b) = inr (ap (λ (l : Long). l .reading .refusal) (b .0), b .1)
+read-ends r words out a after g e =
+    ⊎-elim inl (λ b. inr (ap (λ (l : Long). l .reading .refusal) (b .0), b .1))
+    (subst (Ends r words out) (sym (e ∙ read-line r words out g)) (line-ends words r out))
 
 -- every answer is a success, or a refusal with a number from the list and what it leaves
 pub fresh-refusals : (letter : ℕ) (a : NewReader) → FreshPromise letter a → FreshRefusal a
@@ -120,22 +114,18 @@ fresh-refusals letter a e = rw e (cases FreshRefusal (known letter) (λ _. accep
 pub step-refusals : (r : Reader) (w : ℕ) (s : Read) → StepPromise r w s → StepRefusal r s
 unfolding stepOf
 step-refusals r w s e =
-    rw (step-is r w s e) (cases (StepRefusal r) (good r) (λ _. go (word-number r w)) (λ _. refusal (List·Memᴰ·head refl)))
-  where
-    go : Numbered w (wordOf r w) → StepRefusal r (wordOf r w)
-    go (inl z) = accepted z
-    go (inr b) = refusal (List·Memᴰ·tail (List·Memᴰ·head (above r w (b .1))))
+    rw (step-is r w s e)
+    (cases (StepRefusal r) (good r) (λ _. ⊎-elim accepted (λ b. refusal (List·Memᴰ·tail (List·Memᴰ·head (above r w (b .1))))) (word-number r w))
+    (λ _. refusal (List·Memᴰ·head refl)))
 
 pub read-refusals : (r : Reader) (words : List ℕ) (out : List ℤ) (a : Reading) (after : List ℤ) → ReadPromise r words out a after → ReadRefusal r words out a after
 unfolding readOf
 read-refusals r words out a after e = go (good r) refl
   where
-    ended : Ends r words out (whole a after) → good r ≡ true → ReadRefusal r words out a after
-    ended (inl z) g = accepted z
-    ended (inr b) g = refusal (List·Memᴰ·tail (List·Memᴰ·head (b .0 ∙ ap (withRefusal badWord) (sym (read-line r (take (a .taken) words) out g)))))
-
     go : (t : Bool) → good r ≡ t → ReadRefusal r words out a after
-    go true g = ended (subst (Ends r words out) (sym (e ∙ read-line r words out g)) (line-ends words r out)) g
+    go true g =
+        ⊎-elim accepted (λ b. refusal (List·Memᴰ·tail (List·Memᴰ·head (b .0 ∙ ap (withRefusal badWord) (sym (read-line r (take (a .taken) words) out g))))))
+        (subst (Ends r words out) (sym (e ∙ read-line r words out g)) (line-ends words r out))
     go false g = refusal (List·Memᴰ·head (rw g at e))
 
 -- "a bad word behind a stop for room is not reached": where words are left, what follows them changes nothing

@@ -1,9 +1,10 @@
--- A word in front of a line: either the read stops before it, or it is taken.
+-- A word in front of a line: either the read stops before it, or it is taken and what the later words give is joined to it.
 use Prim.Native.Nat.{ℕ, _+_, _*_, _<_, _≤_}
 use mathlib.Core.Path.{_≡_, refl}
 use mathlib.Core.Bool.{Bool, true, false}
 use mathlib.Core.Logic.{_⊎_, inl, inr}
-use mathlib.Core.List.{List, [], _∷_}
+use mathlib.Core.List.{List, [], _∷_, _++_, append-assoc}
+use native.Mathlib.Nat.{zero-add, add-assoc}
 use native.Mathlib.Omega.{arith}
 use lib.ListN.{length, drop}
 use lib.Dec.{eqb}
@@ -20,6 +21,13 @@ use Rattle.reader.specs.declared.Reader.{Reader}
 use Rattle.reader.specs.declared.Answer.{Answer}
 use Rattle.reader.specs.declared.Answer.the-variants.{Nothing, Report, Dropped}
 use Rattle.reader.proofs.Word.{word-number, word-kept}
+
+-- what was read and what a later part gives, joined
+pub joined-none : (l : Long) → joined 0 0 0 [] l ≡ l
+joined-none l = simp zero-add
+
+pub joined-joined : (t n d t′ n′ d′ : ℕ) (f f′ : List ℤ) (l : Long) → joined t n d f (joined t′ n′ d′ f′ l) ≡ joined (t + t′) (n + n′) (d + d′) (f ++ f′) l
+joined-joined t n d t′ n′ d′ f f′ l = simp (add-assoc, append-assoc)
 
 -- the read stops before the word, whatever follows it
 pub record Stops (r : Reader) (w : ℕ) (out : List ℤ) : Type 0 where

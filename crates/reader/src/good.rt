@@ -1,14 +1,18 @@
 // The rules of a good reader.
 ghost use mathlib.Core.Path.{_≡_};
+ghost use Prim.Native.Nat.{_<_};
+ghost use lib.ListN.{getD};
 ghost use Rattle.reader.specs.Good.{placed};
 ghost use Rattle.reader.specs.Promises.{GoodPromise};
 use crate::Reader;
 
 impl Reader {
     // Whether a place holds what it may: a byte that is valid there, or 0 where none is kept.
-    fn holds(self, place: u8, byte: u8) -> bool
-        ensures { λ r. ⌜ r ≡ placed self place byte ⌝ }
+    fn holds(self, place: u8) -> bool
+        requires { ⌜ place < 5 ⌝ }
+        ensures { λ r. ⌜ r ≡ placed self place (getD (self .kept) place 0) ⌝ }
     {
+        let byte = self.kept[place as usize];
         if place < self.count {
             return wire::fits(self.format, place, byte);
         }
@@ -19,13 +23,8 @@ impl Reader {
     pub fn good(self) -> bool
         ensures { λ r. ⌜ GoodPromise self r ⌝ }
     {
-        let k = self.kept;
         let below = (self.count as usize) < wire::size(self.format);
-        let placed = self.holds(0, k[0])
-            & self.holds(1, k[1])
-            & self.holds(2, k[2])
-            & self.holds(3, k[3])
-            & self.holds(4, k[4]);
+        let placed = self.holds(0) & self.holds(1) & self.holds(2) & self.holds(3) & self.holds(4);
         let marked = wire::marked(self.format);
         below & placed & (!self.awaiting | (!marked & (self.count == 0)))
     }

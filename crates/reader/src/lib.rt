@@ -87,7 +87,7 @@ impl Reader {
         if !self.good() {
             return refusing(BAD_STATE, self);
         }
-        self.word(wire::size(self.format), wire::marked(self.format), word)
+        self.word(word)
     }
 
     // A line of words, and the numbers of its reports to a lent slice.
@@ -103,11 +103,6 @@ impl Reader {
                 dropped: 0,
             };
         }
-        self.line(
-            wire::size(self.format),
-            wire::marked(self.format),
-            words,
-            out,
-        )
+        self.line(words, out)
     }
 }

@@ -17,30 +17,12 @@ returns : tie.Need-returns
 unfolding stepOf
 returns c = simp (sym (c .before .before .good2 .ensures) ∙ not-true _ (c .before .if1 .taken)) (ap outcome (c .refusing .ensures))
 
-size-requires : tie.Need-size-requires
-size-requires c κs = search needs
-
-marked-requires : tie.Need-marked-requires
-marked-requires c κs = search needs
-
 word-requires : tie.Need-word-requires
-word-requires c κs = let b = c .before .before in
-    let g = sym (b .before .good2 .ensures) ∙ not-false _ (b .if1 .left) in
-    (rw (c .before .size .ensures) (below-size (b .before .before .args .self) g), c .before .size .ensures, c .marked .ensures)
+word-requires c κs = below-size (c .before .before .args .self) (sym (c .before .good2 .ensures) ∙ not-false _ (c .if1 .left))
 
 returns-2 : tie.Need-returns-2
 unfolding stepOf
-returns-2 c = let b = c .before .before .before in
-    simp (sym (b .before .good2 .ensures) ∙ not-false _ (b .if1 .left)) (ap outcome (c .word .ensures))
+returns-2 c = simp (sym (c .before .before .good2 .ensures) ∙ not-false _ (c .before .if1 .left)) (ap outcome (c .word .ensures))
 
 pub step-spec : {M : Type 1} → statement M
-step-spec =
-    tie.close
-    (tie.spec
-    good-requires
-    refusing-requires
-    returns
-    size-requires
-    marked-requires
-    word-requires
-    returns-2)
+step-spec = tie.close (tie.spec good-requires refusing-requires returns word-requires returns-2)
