@@ -1,4 +1,5 @@
 -- The user's demands and the paper's figures, as theorems over what the other crates promise.
+pub mod Computing
 pub mod Said
 pub mod Figures
 pub mod Demand1

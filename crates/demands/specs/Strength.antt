@@ -36,7 +36,7 @@ use Rattle.ballbox.specs.declared.Event.{Event}
 use Rattle.ballbox.specs.declared.Event.the-variants.{Slot}
 use Rattle.ballbox.specs.declared.Stepped.{Stepped}
 use Rattle.ballbox.proofs.Useless.{not-only-silence}
-use Rattle.demands.specs.Figures.{p4, p5}
+use Rattle.demands.specs.Figures.{figures}
 use Rattle.demands.specs.Demand2.{line-counts}
 use Rattle.demands.specs.Worked.{marked-S}
 
@@ -60,8 +60,8 @@ no-fixed-encoder e keeps fixed =
     let r : Report = report 4 (pos 5) (pos 3) in
     let s : Report = report 0 (pos 0) (pos 128) in
     let letter = letterOf Microsoft in
-    let a = p4 room (e .buffer letter r room) (e .answer letter r room) (lit≤ tt) (keeps letter r room) in
-    let b = p5 room (e .buffer letter s room) (e .answer letter s room) (lit≤ tt) (keeps letter s room) in
+    let a = figures .p4 .written room (e .buffer letter r room) (e .answer letter r room) (lit≤ tt) (keeps letter r room) in
+    let b = figures .p5 .written room (e .buffer letter s room) (e .answer letter s room) (lit≤ tt) (keeps letter s room) in
     let same = fixed letter r s room (ap refusalOf (a .0)) (ap refusalOf (b .0)) in
     let z : _≡_ {A = ℕ} 0x6C 0x48 = ap first (sym (a .1) ∙ same ∙ b .1) in
     omega arith
