@@ -59,19 +59,26 @@ moved = report 0 (pos 5) (minus 3)
 abbrev press : Report
 press = report 4 (pos 0) (pos 0)
 
-pub in-S : Sends Mm eventsS (0x90 ∷ 0x05 ∷ 0x03 ∷ 257 ∷ 0x9C ∷ 0x00 ∷ 0x00 ∷ []) (finished (latchedIn Mm moved) ∷ silent ∷ finished (latchedIn Mm press) ∷ [])
+pub in-S : Sends Mm eventsS
+    (0x90 ∷ 0x05 ∷ 0x03 ∷ 257 ∷ 0x9C ∷ 0x00 ∷ 0x00 ∷ [])
+    (finished (latchedIn Mm moved) ∷ silent ∷ finished (latchedIn Mm press) ∷ [])
 unfolding computing
 in-S = record { asked = refl; line = refl; is = refl; ends = refl }
 
 -- U, the user's disaster: a fast move to the left, a slot with nothing to send, and a press of the left button; 85, which would be a header with the
 -- middle button down, stands twice in the first report
 abbrev eventsU : List Event
-eventsU = Motion (minus 123) (pos 0) ∷ Slot ∷ Slot ∷ Slot ∷ Motion (minus 123) (pos 0) ∷ Slot ∷ Slot ∷ Slot ∷ Buttons 4 ∷ Slot ∷ Slot ∷ Slot ∷ Slot ∷ Slot ∷ []
+eventsU =
+    Motion (minus 123) (pos 0) ∷ Slot ∷ Slot ∷ Slot
+    ∷ Motion (minus 123) (pos 0) ∷ Slot ∷ Slot ∷ Slot
+    ∷ Buttons 4 ∷ Slot ∷ Slot ∷ Slot ∷ Slot ∷ Slot ∷ []
 
 abbrev fast : Report
 fast = record { buttons = 0; x1 = minus 123; y1 = pos 0; x2 = minus 123; y2 = pos 0 }
 
-pub in-U : Sends FiveByte eventsU (0x87 ∷ 0x85 ∷ 0x00 ∷ 0x85 ∷ 0x00 ∷ 257 ∷ 0x83 ∷ 0x00 ∷ 0x00 ∷ 0x00 ∷ 0x00 ∷ []) (finished (latchedIn FiveByte fast) ∷ silent ∷ finished (latchedIn FiveByte press) ∷ [])
+pub in-U : Sends FiveByte eventsU
+    (0x87 ∷ 0x85 ∷ 0x00 ∷ 0x85 ∷ 0x00 ∷ 257 ∷ 0x83 ∷ 0x00 ∷ 0x00 ∷ 0x00 ∷ 0x00 ∷ [])
+    (finished (latchedIn FiveByte fast) ∷ silent ∷ finished (latchedIn FiveByte press) ∷ [])
 unfolding computing
 in-U = record { asked = refl; line = refl; is = refl; ends = refl }
 
@@ -88,9 +95,8 @@ marked-S =
 pub exactly-S : HandsOut Mm (0x90 ∷ 0x03 ∷ 257 ∷ 0x9C ∷ 0x00 ∷ 0x00 ∷ []) (press ∷ [])
 unfolding computing
 exactly-S =
-    let others : List (Passage Message) = silent ∷ finished (latchedIn Mm press) ∷ [] in
-    exactly (run-of in-S) {pre = 0x90 ∷ []} {old = 0x05 ∷ []} {others = others} [] (0x03 ∷ 257 ∷ 0x9C ∷ 0x00 ∷ 0x00 ∷ []) from-then-on refl (in-S .line)
-    (in-finished [] others nothing (latchedIn Mm moved) (omega arith) (omega arith))
+    exactly (run-of in-S) {pre = 0x90 ∷ []} {old = 0x05 ∷ []} [] (0x03 ∷ 257 ∷ 0x9C ∷ 0x00 ∷ 0x00 ∷ []) from-then-on refl (in-S .line)
+    (in-finished [] (silent ∷ finished (latchedIn Mm press) ∷ []) nothing (latchedIn Mm moved) (omega arith) (omega arith))
     (gone none) (omega arith)
 
 -- Unmarked: the first word is lost, so that the reader joins the report halfway. The report behind the silence is the answer to word 9.
