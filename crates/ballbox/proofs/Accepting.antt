@@ -24,7 +24,7 @@ use Rattle.wire.specs.declared.Format.{Format}
 use Rattle.wire.specs.declared.Format.the-variants.{Mm, Microsoft, Absolute, Relative, FiveByte, ThreeByte, Hexadecimal}
 use Rattle.wire.proofs.Codec.{bytes-length}
 use Rattle.wire.proofs.Codec.Ranges.{wider}
-use Rattle.wire.proofs.Codec.Accepted.{whole, one-pair}
+use Rattle.wire.proofs.Codec.Accepted.{parts-accepted, one-pair}
 use Rattle.ballbox.specs.Motion.{isA}
 use Rattle.ballbox.specs.Latching.{limits, limited, taken, movement, latchedReport, secondOnly}
 use Rattle.ballbox.specs.declared.Track.{Track}
@@ -46,13 +46,13 @@ limited-within letter v =
 -- a report with movements within the limits is accepted
 pair-accepted : (f : Format) (buttons : ℕ) (x y : ℤ) → buttons < 8 → within (limits (letterOf f)) x ≡ true → within (limits (letterOf f)) y ≡ true → accepted f (report buttons x y) ≡ true
 unfolding limits
-pair-accepted Mm n x y p h k = whole Mm (report n x y) (one-pair Mm refl p h k)
-pair-accepted Microsoft n x y p h k = whole Microsoft (report n x y) (one-pair Microsoft refl p (wider (limits 0x56) (xRange Microsoft) x refl refl h) (wider (limits 0x56) (yRange Microsoft) y refl refl k))
-pair-accepted Absolute n x y p h k = whole Absolute (report n x y) (one-pair Absolute refl p h k)
-pair-accepted Relative n x y p h k = whole Relative (report n x y) (one-pair Relative refl p h k)
-pair-accepted FiveByte n x y p h k = whole FiveByte (report n x y) (record { pressed = p; moved = record { x = wider (limits 0x55) (xRange FiveByte) x refl refl h; y = wider (limits 0x55) (yRange FiveByte) y refl refl k; second-x = refl; second-y = refl } })
-pair-accepted ThreeByte n x y p h k = whole ThreeByte (report n x y) (one-pair ThreeByte refl p (wider (limits 0x54) (xRange ThreeByte) x refl refl h) (wider (limits 0x54) (yRange ThreeByte) y refl refl k))
-pair-accepted Hexadecimal n x y p h k = whole Hexadecimal (report n x y) (one-pair Hexadecimal refl p (wider (limits 0x57) (xRange Hexadecimal) x refl refl h) (wider (limits 0x57) (yRange Hexadecimal) y refl refl k))
+pair-accepted Mm n x y p h k = parts-accepted Mm (report n x y) (one-pair Mm refl p h k)
+pair-accepted Microsoft n x y p h k = parts-accepted Microsoft (report n x y) (one-pair Microsoft refl p (wider (limits 0x56) (xRange Microsoft) x refl refl h) (wider (limits 0x56) (yRange Microsoft) y refl refl k))
+pair-accepted Absolute n x y p h k = parts-accepted Absolute (report n x y) (one-pair Absolute refl p h k)
+pair-accepted Relative n x y p h k = parts-accepted Relative (report n x y) (one-pair Relative refl p h k)
+pair-accepted FiveByte n x y p h k = parts-accepted FiveByte (report n x y) (record { pressed = p; moved = record { x = wider (limits 0x55) (xRange FiveByte) x refl refl h; y = wider (limits 0x55) (yRange FiveByte) y refl refl k; second-x = refl; second-y = refl } })
+pair-accepted ThreeByte n x y p h k = parts-accepted ThreeByte (report n x y) (one-pair ThreeByte refl p (wider (limits 0x54) (xRange ThreeByte) x refl refl h) (wider (limits 0x54) (yRange ThreeByte) y refl refl k))
+pair-accepted Hexadecimal n x y p h k = parts-accepted Hexadecimal (report n x y) (one-pair Hexadecimal refl p (wider (limits 0x57) (xRange Hexadecimal) x refl refl h) (wider (limits 0x57) (yRange Hexadecimal) y refl refl k))
 
 by-letter : (letter n : ℕ) (x y : ℤ) → n < 8 → within (limits letter) x ≡ true → within (limits letter) y ≡ true → Lettered letter → acceptedBy letter (report n x y) ≡ true
 unfolding acceptedBy
@@ -74,7 +74,7 @@ pub second-accepted : (t : Track) → acceptedBy (letterOf FiveByte) (secondOnly
 unfolding acceptedBy namedBy taken
 second-accepted t =
     let m = movement (letterOf FiveByte) t in
-    whole FiveByte (secondOnly (taken (letterOf FiveByte) t))
+    parts-accepted FiveByte (secondOnly (taken (letterOf FiveByte) t))
     (record { pressed = omega arith; moved = record { x = refl; y = refl; second-x = second-within (m .x); second-y = second-within (m .y) } })
 
 -- the bytes by a letter are as many as the size by it

@@ -1,7 +1,7 @@
 -- The public functions give one answer: two that the promise permits are equal.
 use mathlib.Core.Path.{_≡_, refl, sym, ap, _∙_}
-use Rattle.ballbox.specs.Box.{Answer}
-use Rattle.ballbox.specs.Promises.{wordsOf, answerOf, FreshPromise, StepPromise}
+use Rattle.ballbox.specs.Box.{Step}
+use Rattle.ballbox.specs.Promises.{sentWords, outcome, FreshPromise, StepPromise}
 use Rattle.ballbox.specs.declared.BallBox.{BallBox}
 use Rattle.ballbox.specs.declared.Event.{Event}
 use Rattle.ballbox.specs.declared.Sent.{Sent}
@@ -11,15 +11,15 @@ use Rattle.ballbox.specs.declared.Stepped.{Stepped}
 pub one-fresh : (b c : BallBox) → FreshPromise b → FreshPromise c → b ≡ c
 one-fresh b c p q = p ∙ sym q
 
-same-sent : (s t : Sent) → wordsOf s ≡ wordsOf t → s ≡ t
+same-sent : (s t : Sent) → sentWords s ≡ sentWords t → s ≡ t
 same-sent Nothing Nothing e = refl
 same-sent Nothing (Word w) e = cc
 same-sent (Word v) Nothing e = cc
 same-sent (Word v) (Word w) e = cc
 
-same-answer : (r s : Stepped) → answerOf r ≡ answerOf s → r ≡ s
+same-answer : (r s : Stepped) → outcome r ≡ outcome s → r ≡ s
 same-answer r s e =
-    let sent = same-sent (r .sent) (s .sent) (ap (λ (x : Answer). x .words) e) in
+    let sent = same-sent (r .sent) (s .sent) (ap (λ (x : Step). x .words) e) in
     λ i. record { refusal = e i .refusal; next = e i .next; sent = sent i }
 
 pub one-step : (b : BallBox) (e : Event) (r s : Stepped) → StepPromise b e r → StepPromise b e s → r ≡ s

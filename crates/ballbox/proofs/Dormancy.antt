@@ -5,12 +5,12 @@ use mathlib.Core.Bool.{true, false}
 use mathlib.Core.List.{[], _∷_}
 use lib.Dec.{ltb}
 use lib.IntN.{ℤ}
-use Rattle.wire.specs.Line.{silence}
-use Rattle.ballbox.specs.Box.{goingFrom, withGoing, withDormant, gives, quietly}
+use Rattle.frames.specs.Words.{silence}
+use Rattle.ballbox.specs.Box.{goingFrom, withGoing, withDormant}
 use Rattle.ballbox.specs.Commands.{ack}
-use Rattle.ballbox.specs.Events.{woken, asleep}
+use Rattle.ballbox.specs.Events.{gives, quietly, woken, asleep}
 use Rattle.ballbox.specs.Good.{good}
-use Rattle.ballbox.specs.Promises.{answerOf, StepPromise}
+use Rattle.ballbox.specs.Promises.{outcome, StepPromise}
 use Rattle.ballbox.specs.declared.BallBox.{BallBox}
 use Rattle.ballbox.specs.declared.Event.the-variants.{Motion, Buttons, Host, Slot, Period}
 use Rattle.ballbox.specs.declared.Stepped.{Stepped}
@@ -18,23 +18,23 @@ use Rattle.ballbox.proofs.Refusals.{asleep-step}
 
 module _ (b : BallBox) (r : Stepped) (g : good b ≡ true) (d : b .dormant ≡ true) where
   -- "Dormant: Motion, Buttons and Period do nothing and Slot gives 257."
-  pub asleep-motion : (dx dy : ℤ) → StepPromise b (Motion dx dy) r → answerOf r ≡ quietly b
+  pub asleep-motion : (dx dy : ℤ) → StepPromise b (Motion dx dy) r → outcome r ≡ quietly b
   unfolding asleep
   asleep-motion dx dy s = asleep-step b (Motion dx dy) r s g refl d
 
-  pub asleep-buttons : (n : ℕ) → ltb 7 n ≡ false → StepPromise b (Buttons n) r → answerOf r ≡ quietly b
+  pub asleep-buttons : (n : ℕ) → ltb 7 n ≡ false → StepPromise b (Buttons n) r → outcome r ≡ quietly b
   unfolding asleep
   asleep-buttons n l s = asleep-step b (Buttons n) r s g l d
 
-  pub asleep-period : StepPromise b Period r → answerOf r ≡ quietly b
+  pub asleep-period : StepPromise b Period r → outcome r ≡ quietly b
   unfolding asleep
   asleep-period s = asleep-step b Period r s g refl d
 
-  pub asleep-slot : StepPromise b Slot r → answerOf r ≡ gives (silence ∷ []) b
+  pub asleep-slot : StepPromise b Slot r → outcome r ≡ gives (silence ∷ []) b
   unfolding asleep
   asleep-slot s = asleep-step b Slot r s g refl d
 
   -- "the box wakes, the byte is not interpreted, ACK (06H) is to be sent", whatever the byte
-  pub host-wakes : (n : ℕ) → StepPromise b (Host n) r → answerOf r ≡ quietly (withGoing (goingFrom ack) (withDormant false b))
+  pub host-wakes : (n : ℕ) → StepPromise b (Host n) r → outcome r ≡ quietly (withGoing (goingFrom ack) (withDormant false b))
   unfolding asleep woken
   host-wakes n s = asleep-step b (Host n) r s g refl d

@@ -16,18 +16,18 @@ use Rattle.wire.specs.Holds.{_to_, within}
 use Rattle.wire.specs.Reading.{at}
 use Rattle.wire.specs.declared.Format.{Format}
 use Rattle.wire.specs.declared.Format.the-variants.{Absolute, FiveByte}
-use Rattle.ballbox.specs.Box.{Answer, goingFrom, withGoing}
+use Rattle.ballbox.specs.Box.{Step, goingFrom, withGoing}
 use Rattle.ballbox.specs.Latching.{limits, limited, movement, taken, latchedReport, latched}
 use Rattle.ballbox.specs.Events.{bytesLeft, wanted, secondNow, nextByte, sending, onSlot, awake}
 use Rattle.ballbox.specs.Good.{onPad, good}
-use Rattle.ballbox.specs.Promises.{wordsOf, StepPromise}
+use Rattle.ballbox.specs.Promises.{sentWords, StepPromise}
 use Rattle.ballbox.specs.declared.Event.the-variants.{Slot}
 use Rattle.ballbox.specs.declared.Stepped.{Stepped}
 use Rattle.ballbox.specs.declared.Track.{Track}
 use Rattle.ballbox.specs.declared.BallBox.{BallBox}
 use Rattle.wire.proofs.Letters.{letter-named}
 use Rattle.ballbox.proofs.Accepting.{limited-within}
-use Rattle.ballbox.proofs.Good.{parts}
+use Rattle.ballbox.proofs.Parts.{parts}
 use Rattle.ballbox.proofs.Goodness.{latched-left}
 use Rattle.ballbox.proofs.Slots.{latching-busy, latching-wanted, sending-byte, ready-plain}
 use Rattle.ballbox.proofs.Refusals.{awake-step}
@@ -60,7 +60,7 @@ begins : (b : BallBox) → bytesLeft b ≡ true → b .going .sent ≡ 0 → sen
 unfolding nextByte
 begins b l z =
     let n : secondNow b ≡ false = rw z (and-false (eqb (b .settings .format) (letterOf FiveByte))) in
-    ap (λ (a : Answer). a .words) (sending-byte b l) ∙
+    ap (λ (a : Step). a .words) (sending-byte b l) ∙
     (ap (λ (x : BallBox). nextByte x .words) (ready-plain b n) ∙ ap (λ (k : ℕ). at k (b .going .bytes) ∷ []) z)
 
 -- what is going goes out from its first byte
@@ -71,11 +71,11 @@ slot-first b w ws =
     let l : bytesLeft x ≡ true = lt-ltb 0 (length (w ∷ ws)) (omega arith) in
     ap (λ (y : BallBox). sending y .words) (latching-busy x l) ∙ begins x l refl
 
-pub first-sent : (b : BallBox) (r : Stepped) (w : ℕ) (ws : List ℕ) → good b ≡ true → b .dormant ≡ false → b .going ≡ goingFrom (w ∷ ws) → StepPromise b Slot r → wordsOf (r .sent) ≡ w ∷ []
+pub first-sent : (b : BallBox) (r : Stepped) (w : ℕ) (ws : List ℕ) → good b ≡ true → b .dormant ≡ false → b .going ≡ goingFrom (w ∷ ws) → StepPromise b Slot r → sentWords (r .sent) ≡ w ∷ []
 unfolding awake
 first-sent b r w ws g d e s =
     let same : b ≡ withGoing (goingFrom (w ∷ ws)) b = λ i. record { settings = b .settings; track = b .track; going = e i; due = b .due; dormant = b .dormant } in
-    ap (λ (a : Answer). a .words) (awake-step b Slot r s g refl d) ∙ (ap (λ (x : BallBox). onSlot x .words) same ∙ slot-first b w ws)
+    ap (λ (a : Step). a .words) (awake-step b Slot r s g refl d) ∙ (ap (λ (x : BallBox). onSlot x .words) same ∙ slot-first b w ws)
 
 -- a report that is wanted is latched, and its first byte goes out
 first-of-five : (bytes : List ℕ) → at 0 (five bytes) ≡ at 0 bytes
@@ -83,11 +83,11 @@ first-of-five [] = refl
 first-of-five (b ∷ bytes) = refl
 
 pub report-begins : (f : Format) (b : BallBox) (r : Stepped) → good b ≡ true → b .dormant ≡ false → b .settings .format ≡ letterOf f → bytesLeft b ≡ false → wanted b ≡ true → StepPromise b Slot r →
-    wordsOf (r .sent) ≡ at 0 (bytesOf f (latchedReport b)) ∷ []
+    sentWords (r .sent) ≡ at 0 (bytesOf f (latchedReport b)) ∷ []
 unfolding awake latched goingFrom
 report-begins f b r g d e l w s =
     let bytes = bytesBy (b .settings .format) (latchedReport b) in
-    ap (λ (a : Answer). a .words) (awake-step b Slot r s g refl d) ∙
+    ap (λ (a : Step). a .words) (awake-step b Slot r s g refl d) ∙
     (ap (λ (x : BallBox). sending x .words) (latching-wanted b l w) ∙
     (begins (latched b) (latched-left b (parts b g)) refl ∙
     ap (λ (k : ℕ). k ∷ []) (first-of-five bytes ∙ ap (at 0) (latched-bytes f b e))))

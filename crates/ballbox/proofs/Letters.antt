@@ -5,6 +5,7 @@ use mathlib.Core.Bool.{Bool, true, false, not, _||_}
 use lib.Dec.{T, eqb}
 use borrow.Author.Tests.{not-true, ne-eqb, eqb-true}
 use Rattle.numbers.specs.Tests.{each}
+use Rattle.numbers.proofs.Choices.{cases}
 use Rattle.numbers.proofs.Tested.{ranged}
 use Rattle.wire.specs.Line.{letterOf, namedBy}
 use Rattle.wire.specs.declared.Format.{Format}
@@ -12,7 +13,8 @@ use Rattle.wire.specs.declared.Format.the-variants.{Mm, Microsoft, Absolute, Re
 use Rattle.wire.specs.declared.Named.the-variants.{Unknown}
 use Rattle.ballbox.specs.Box.{modeD}
 use Rattle.ballbox.specs.Commands.{letterP, space, letterf, lettert, byte05, letterd, isFormat, isStream, commandOf}
-use Rattle.ballbox.specs.declared.Command.the-variants.{Ignored}
+use Rattle.ballbox.specs.declared.Command.{Command}
+use Rattle.ballbox.specs.declared.Command.the-variants.{SetFormat, SetStream, SetPrompt, AskReport, AskAck, AskCode, AskLetters, AskButtons, Sleep, Ignored}
 
 -- a letter is that of a format, or names none
 pub data Lettered (letter : ℕ) : Type 0 where
@@ -49,3 +51,29 @@ pub ignored : (b : ℕ) → (b ≡ modeD → ⊥) → (b ≡ letterP → ⊥) �
 unfolding commandOf
 ignored b h₁ h₂ h₃ h₄ h₅ h₆ h₇ f s =
     rw (f, s, ne-eqb b modeD h₁, ne-eqb b letterP h₂, ne-eqb b space h₃, ne-eqb b letterf h₄, ne-eqb b lettert h₅, ne-eqb b byte05 h₆, ne-eqb b letterd h₇)
+
+-- the letters of a command are letters
+abbrev pub Lettering : Command → Type 0
+Lettering (SetFormat f) = isFormat f ≡ true
+Lettering (SetStream m) = isStream m ≡ true
+Lettering SetPrompt = Unit {0}
+Lettering AskReport = Unit {0}
+Lettering AskAck = Unit {0}
+Lettering AskCode = Unit {0}
+Lettering AskLetters = Unit {0}
+Lettering AskButtons = Unit {0}
+Lettering Sleep = Unit {0}
+Lettering Ignored = Unit {0}
+
+pub lettering : (n : ℕ) → Lettering (commandOf n)
+unfolding commandOf
+lettering n =
+    cases Lettering (isFormat n) (λ e. e)
+    (λ _. cases Lettering (isStream n) (λ e. e)
+    (λ _. cases Lettering (eqb n modeD) (λ e. tt)
+    (λ _. cases Lettering (eqb n letterP) (λ e. tt)
+    (λ _. cases Lettering (eqb n space) (λ e. tt)
+    (λ _. cases Lettering (eqb n letterf) (λ e. tt)
+    (λ _. cases Lettering (eqb n lettert) (λ e. tt)
+    (λ _. cases Lettering (eqb n byte05) (λ e. tt)
+    (λ _. cases Lettering (eqb n letterd) (λ e. tt) (λ _. tt)))))))))

@@ -1,17 +1,20 @@
 -- The laws of the ball box: its one answer (Answers), the refusals and else the rules (Refusals), good boxes (Goodness), the words (Words),
--- what moved means (Moving), what is latched (Latches), the host's bytes (Obeying), the dormant box (Dormancy) and the useless box (Useless).
--- What these and the functions' proofs share: the letters (Letters), that what is latched is accepted (Accepting), a good box part by part
--- (Good), and a slot case by case (Slots).
+-- what moved means (Moving), what is latched (Latches), the host's bytes (Obeying), the dormant box (Dormancy), the useless box (Useless)
+-- and wrong answers (Wrong).
+-- What these and the functions' proofs share: the letters (Letters), that what is latched is accepted (Accepting), what is going (Outgoing), a good
+-- box part by part (Parts), and a slot case by case (Slots).
 pub mod Letters
 pub mod Accepting
-pub mod Good
+pub mod Outgoing
+pub mod Parts
 pub mod Slots
 pub mod Goodness
 pub mod Answers
 pub mod Refusals
-pub mod Words
 pub mod Moving
 pub mod Latches
 pub mod Obeying
+pub mod Words
 pub mod Dormancy
 pub mod Useless
+pub mod Wrong

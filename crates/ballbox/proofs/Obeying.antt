@@ -1,26 +1,30 @@
 -- What the host's bytes do: the ignored rest, prompt mode, and the replies.
 use Prim.Native.Nat.{ℕ, _+_, _*_}
 use mathlib.Core.Path.{_≡_, refl, ap, _∙_}
-use mathlib.Core.Bool.{Bool, true, false, cond, _||_}
-use mathlib.Core.List.{[], _∷_}
+use mathlib.Core.Bool.{true, false, _||_}
+use mathlib.Core.List.{List, [], _∷_}
 use lib.Dec.{eqb}
 use borrow.Author.Tests.{eqb-true}
 use Rattle.numbers.proofs.Choices.{other, neither, cases}
-use Rattle.wire.specs.Line.{break, letterOf, namedBy}
+use Rattle.frames.specs.Words.{break}
+use Rattle.wire.specs.Line.{letterOf, namedBy}
 use Rattle.wire.specs.declared.Format.{Format}
-use Rattle.ballbox.specs.Box.{modeD, nothing, goingFrom, withGoing, Answer, gives, quietly}
-use Rattle.ballbox.specs.Commands.{letterP, space, letterf, lettert, byte05, letterd, isFormat, isStream, commandOf, isCommand, ack, codeOf, codeByte, obeyed}
-use Rattle.ballbox.specs.Events.{bytesLeft, brokenOff, dropped, onHost, awake}
+use Rattle.ballbox.specs.Box.{modeD, nothing, goingFrom, withGoing, Step}
+use Rattle.ballbox.specs.Commands.{letterP, space, letterf, lettert, byte05, letterd, isFormat, isStream, commandOf, isCommand, ack, codeOf, codeByte, replyTo, obeyed}
+use Rattle.ballbox.specs.Events.{gives, quietly, bytesLeft, brokenOff, dropped, onHost, awake}
 use Rattle.ballbox.specs.Good.{good}
-use Rattle.ballbox.specs.Promises.{answerOf, StepPromise}
+use Rattle.ballbox.specs.Promises.{outcome, StepPromise}
 use Rattle.ballbox.specs.declared.Settings.{Settings}
+use Rattle.ballbox.specs.declared.Going.{Going}
 use Rattle.ballbox.specs.declared.BallBox.{BallBox}
-use Rattle.ballbox.specs.declared.Command.the-variants.{Ignored}
+use Rattle.ballbox.specs.declared.Command.{Command}
+use Rattle.ballbox.specs.declared.Command.the-variants.{SetFormat, SetStream, SetPrompt, AskReport, AskAck, AskCode, AskLetters, AskButtons, Sleep, Ignored}
 use Rattle.ballbox.specs.declared.Event.the-variants.{Host}
 use Rattle.ballbox.specs.declared.Stepped.{Stepped}
 use Rattle.wire.proofs.Letters.{letter-named}
-use Rattle.ballbox.proofs.Good.{mode-known, parts}
+use Rattle.ballbox.proofs.Parts.{mode-known, parts}
 use Rattle.ballbox.proofs.Refusals.{awake-step}
+use Rattle.ballbox.proofs.Slots.{dropped-busy, dropped-idle}
 
 pub rest-ignored : (n : ℕ) → isCommand n ≡ false → commandOf n ≡ Ignored
 unfolding commandOf
@@ -42,23 +46,50 @@ rest-ignored n h =
     let e2 = neither (isFormat n) (isStream n) (e3 .0) in
     rw (e2 .0, e2 .1, e3 .1, e4 .1, e5 .1, e6 .1, e7 .1, e8 .1, e9 .1)
 
+-- a command leaves its reply to be sent, and where it has none what was going
+abbrev pub goingOr : Going → List ℕ → Going
+goingOr g [] = g
+goingOr g (b ∷ bytes) = goingFrom (b ∷ bytes)
+
+pub obeyed-going : (c : Command) (b : BallBox) → obeyed c b .going ≡ goingOr (b .going) (replyTo b c)
+unfolding obeyed
+obeyed-going (SetFormat f) b = refl
+obeyed-going (SetStream m) b = refl
+obeyed-going SetPrompt b = refl
+obeyed-going AskReport b = refl
+obeyed-going AskAck b = refl
+obeyed-going AskCode b = refl
+obeyed-going AskLetters b = refl
+obeyed-going AskButtons b = refl
+obeyed-going Sleep b = refl
+obeyed-going Ignored b = refl
+
+reply-or : (bytes : List ℕ) → goingOr nothing bytes ≡ goingFrom bytes
+unfolding goingFrom
+reply-or [] = refl
+reply-or (b ∷ bytes) = refl
+
+-- so that where nothing was going its reply is
+pub obeyed-reply : (c : Command) (b : BallBox) → b .going ≡ nothing → obeyed c b .going ≡ goingFrom (replyTo b c)
+obeyed-reply c b e = obeyed-going c b ∙ (ap (λ (g : Going). goingOr g (replyTo b c)) e ∙ reply-or (replyTo b c))
+
 -- a byte heard awake
 module _ (b : BallBox) (n : ℕ) (r : Stepped) (s : StepPromise b (Host n) r) (g : good b ≡ true) (d : b .dormant ≡ false) where
-  pub heard : answerOf r ≡ gives (brokenOff b) (obeyed (commandOf n) (dropped b))
+  pub heard : outcome r ≡ gives (brokenOff b) (obeyed (commandOf n) (dropped b))
   unfolding awake onHost
   heard = awake-step b (Host n) r s g refl d
 
   next-is : r .next ≡ obeyed (commandOf n) (dropped b)
-  next-is = ap (λ (a : Answer). a .next) heard
+  next-is = ap (λ (a : Step). a .next) heard
 
   -- an ignored byte breaks off and changes nothing else
-  pub ignored-breaks : isCommand n ≡ false → bytesLeft b ≡ true → answerOf r ≡ gives (break ∷ []) (withGoing nothing b)
-  unfolding obeyed dropped
-  ignored-breaks h l = rw (rest-ignored n h) at heard ∙ ap (λ (t : Bool). gives (cond t (break ∷ []) []) (cond t (withGoing nothing b) b)) l
+  pub ignored-breaks : isCommand n ≡ false → bytesLeft b ≡ true → outcome r ≡ gives (break ∷ []) (withGoing nothing b)
+  unfolding obeyed
+  ignored-breaks h l = rw (l, rest-ignored n h, dropped-busy b l) at heard
 
-  pub ignored-idle : isCommand n ≡ false → bytesLeft b ≡ false → answerOf r ≡ quietly b
-  unfolding obeyed dropped
-  ignored-idle h l = rw (rest-ignored n h) at heard ∙ ap (λ (t : Bool). gives (cond t (break ∷ []) []) (cond t (withGoing nothing b) b)) l
+  pub ignored-idle : isCommand n ≡ false → bytesLeft b ≡ false → outcome r ≡ quietly b
+  unfolding obeyed
+  ignored-idle h l = rw (l, rest-ignored n h, dropped-idle b l) at heard
 
 -- what is dropped leaves the settings
 pub dropped-settings : (b : BallBox) → dropped b .settings ≡ b .settings

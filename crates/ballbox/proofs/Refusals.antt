@@ -5,22 +5,22 @@ use mathlib.Core.Bool.{Bool, true, false, not, cond}
 use borrow.Author.Tests.{lt-ltb}
 use Rattle.numbers.proofs.Choices.{cases}
 use Rattle.wire.specs.Numbers.{success, badState, badButtons}
-use Rattle.ballbox.specs.Box.{Answer, refused}
+use Rattle.ballbox.specs.Box.{Step, refused}
 use Rattle.ballbox.specs.Events.{bytesLeft, latching, nextByte, sending, onHost, awake, asleep}
 use Rattle.ballbox.specs.Good.{good}
-use Rattle.ballbox.specs.Promises.{answerOf, aboveSeven, stepOf, RefusesRightly, accepted, refusal, StepPromise}
+use Rattle.ballbox.specs.Promises.{outcome, aboveSeven, stepOf, RefusesRightly, accepted, refusal, StepPromise}
 use Rattle.ballbox.specs.declared.BallBox.{BallBox}
 use Rattle.ballbox.specs.declared.Event.{Event}
 use Rattle.ballbox.specs.declared.Event.the-variants.{Motion, Buttons, Host, Slot, Period}
 use Rattle.ballbox.specs.declared.Stepped.{Stepped}
 
 -- 6: the old box and no word
-pub bad-state : (b : BallBox) (e : Event) (r : Stepped) → StepPromise b e r → good b ≡ false → answerOf r ≡ refused badState b
+pub bad-state : (b : BallBox) (e : Event) (r : Stepped) → StepPromise b e r → good b ≡ false → outcome r ≡ refused badState b
 unfolding stepOf
 bad-state b e r s g = rw g at s
 
 -- 3: after 6, dormant or not
-pub bad-buttons : (b : BallBox) (n : ℕ) (r : Stepped) → StepPromise b (Buttons n) r → good b ≡ true → 7 < n → answerOf r ≡ refused badButtons b
+pub bad-buttons : (b : BallBox) (n : ℕ) (r : Stepped) → StepPromise b (Buttons n) r → good b ≡ true → 7 < n → outcome r ≡ refused badButtons b
 unfolding stepOf
 bad-buttons b n r s g l = rw (g, lt-ltb 7 n l) at s
 
@@ -29,16 +29,16 @@ pub ruled : (b : BallBox) (e : Event) (dormant : Bool) → good b ≡ true → a
 unfolding stepOf
 ruled b e dormant g l d = rw (g, l) (ap (λ (t : Bool). cond t (asleep b e) (awake b e)) d)
 
-pub awake-step : (b : BallBox) (e : Event) (r : Stepped) → StepPromise b e r → good b ≡ true → aboveSeven e ≡ false → b .dormant ≡ false → answerOf r ≡ awake b e
+pub awake-step : (b : BallBox) (e : Event) (r : Stepped) → StepPromise b e r → good b ≡ true → aboveSeven e ≡ false → b .dormant ≡ false → outcome r ≡ awake b e
 awake-step b e r s g l d = s ∙ ruled b e false g l d
 
-pub asleep-step : (b : BallBox) (e : Event) (r : Stepped) → StepPromise b e r → good b ≡ true → aboveSeven e ≡ false → b .dormant ≡ true → answerOf r ≡ asleep b e
+pub asleep-step : (b : BallBox) (e : Event) (r : Stepped) → StepPromise b e r → good b ≡ true → aboveSeven e ≡ false → b .dormant ≡ true → outcome r ≡ asleep b e
 asleep-step b e r s g l d = s ∙ ruled b e true g l d
 
 -- no other number is given back, and a refusal leaves the old box and gives no word
 sends : (b : BallBox) → sending b .refusal ≡ success
 unfolding sending nextByte
-sends b = cases (λ (x : Answer). x .refusal ≡ success) (bytesLeft b) (λ e. refl) (λ e. refl)
+sends b = cases (λ (x : Step). x .refusal ≡ success) (bytesLeft b) (λ e. refl) (λ e. refl)
 
 awake-rightly : (b : BallBox) (e : Event) → RefusesRightly b (awake b e)
 unfolding awake onHost
@@ -63,5 +63,5 @@ step-rightly b e =
     (λ g. cases (RefusesRightly b) (aboveSeven e) (λ l. refusal badButtons refl refl)
     (λ l. cases (RefusesRightly b) (b .dormant) (λ d. asleep-rightly b e) (λ d. awake-rightly b e)))
 
-pub refusals : (b : BallBox) (e : Event) (r : Stepped) → StepPromise b e r → RefusesRightly b (answerOf r)
+pub refusals : (b : BallBox) (e : Event) (r : Stepped) → StepPromise b e r → RefusesRightly b (outcome r)
 refusals b e r s = rw s (step-rightly b e)

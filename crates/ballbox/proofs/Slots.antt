@@ -1,11 +1,13 @@
--- Latching and sending, case by case.
+-- Latching, sending and breaking off, case by case.
+use Prim.Native.Nat.{ℕ}
 use mathlib.Core.Path.{_≡_, ap, _∙_}
 use mathlib.Core.Bool.{Bool, true, false, not, cond, _&&_}
 use mathlib.Core.List.{[], _∷_}
-use Rattle.wire.specs.Line.{silence}
-use Rattle.ballbox.specs.Box.{gives}
+use Rattle.frames.specs.Words.{break, silence}
+use Rattle.ballbox.specs.Box.{nothing, withGoing}
 use Rattle.ballbox.specs.Latching.{latched, secondLatched}
-use Rattle.ballbox.specs.Events.{bytesLeft, wanted, latching, secondNow, withByteReady, nextByte, sending}
+use Rattle.ballbox.specs.Commands.{commandOf, obeyed}
+use Rattle.ballbox.specs.Events.{gives, quietly, bytesLeft, wanted, latching, secondNow, withByteReady, nextByte, sending, dropped, onHost}
 use Rattle.ballbox.specs.declared.BallBox.{BallBox}
 
 module _ (b : BallBox) where
@@ -35,3 +37,24 @@ module _ (b : BallBox) where
   pub ready-plain : secondNow b ≡ false → withByteReady b ≡ b
   unfolding withByteReady
   ready-plain e = ap (λ (t : Bool). cond t (secondLatched b) b) e
+
+  pub ready-second : secondNow b ≡ true → withByteReady b ≡ secondLatched b
+  unfolding withByteReady
+  ready-second e = ap (λ (t : Bool). cond t (secondLatched b) b) e
+
+  -- bytes are broken off, or none are left
+  pub dropped-busy : bytesLeft b ≡ true → dropped b ≡ withGoing nothing b
+  unfolding dropped
+  dropped-busy l = ap (λ (t : Bool). cond t (withGoing nothing b) b) l
+
+  pub dropped-idle : bytesLeft b ≡ false → dropped b ≡ b
+  unfolding dropped
+  dropped-idle l = ap (λ (t : Bool). cond t (withGoing nothing b) b) l
+
+  pub host-busy : (n : ℕ) → bytesLeft b ≡ true → onHost n b ≡ gives (break ∷ []) (obeyed (commandOf n) (dropped b))
+  unfolding onHost
+  host-busy n l = ap (λ (t : Bool). gives (cond t (break ∷ []) []) (obeyed (commandOf n) (dropped b))) l
+
+  pub host-idle : (n : ℕ) → bytesLeft b ≡ false → onHost n b ≡ quietly (obeyed (commandOf n) (dropped b))
+  unfolding onHost
+  host-idle n l = ap (λ (t : Bool). gives (cond t (break ∷ []) []) (obeyed (commandOf n) (dropped b))) l

@@ -10,7 +10,8 @@ use lib.Seq.{length-take-le}
 use borrow.Author.Tests.{eqb-true, leb-true, le-leb, ltb-true, ltb-false, ne-eqb, not-false}
 use Rattle.numbers.proofs.Choices.{both, cases}
 use Rattle.numbers.proofs.Tested.{left, holds}
-use Rattle.wire.specs.Line.{silence, lineWords, letterOf, namedBy}
+use Rattle.frames.specs.Words.{silence, lineWords}
+use Rattle.wire.specs.Line.{letterOf, namedBy}
 use Rattle.wire.specs.Table.{bytesOf, bytesBy}
 use Rattle.wire.specs.Holds.{accepted, acceptedBy}
 use Rattle.wire.specs.Reading.{at}
@@ -19,59 +20,60 @@ use Rattle.wire.specs.declared.Format.the-variants.{Mm, Microsoft, Absolute, Re
 use Rattle.wire.specs.declared.Report.{Report}
 use Rattle.wire.proofs.Letters.{letter-named}
 use Rattle.wire.proofs.Codec.{bytes-below}
-use Rattle.ballbox.specs.Box.{freshBox, modeO, modeD, Answer, nothing, goingFrom, Bytes, FiveBytes, withGoing}
+use Rattle.ballbox.specs.Box.{freshBox, modeO, modeD, Step, nothing, goingFrom, Bytes, FiveBytes, withGoing}
 use Rattle.ballbox.specs.Latching.{taken, latchedReport, latched, secondOnly, withSecond, secondLatched}
-use Rattle.ballbox.specs.Commands.{letterP, space, letterf, lettert, byte05, letterd, isFormat, isStream, codeOf, codeByte, commandOf, obeyed}
+use Rattle.ballbox.specs.Commands.{isFormat, isStream, codeOf, codeByte, commandOf, replyTo, obeyed}
 use Rattle.ballbox.specs.Events.{Speaks, onButtons, onPeriod, bytesLeft, wanted, latching, secondNow, withByteReady, after, nextByte, sending, onSlot, dropped, onHost, woken, awake, asleep}
 use Rattle.ballbox.specs.Good.{good, goodSettings}
-use Rattle.ballbox.specs.Promises.{wordsOf, aboveSeven, stepOf, FreshPromise, StepPromise}
+use Rattle.ballbox.specs.Promises.{sentWords, aboveSeven, stepOf, FreshPromise, StepPromise}
 use Rattle.ballbox.specs.declared.Going.{Going}
 use Rattle.ballbox.specs.declared.BallBox.{BallBox}
 use Rattle.ballbox.specs.declared.Command.{Command}
+use Rattle.ballbox.specs.declared.Command.the-variants.{SetFormat, SetStream, SetPrompt, AskReport, AskAck, AskCode, AskLetters, AskButtons, Sleep, Ignored}
 use Rattle.ballbox.specs.declared.Event.{Event}
 use Rattle.ballbox.specs.declared.Event.the-variants.{Motion, Buttons, Host, Slot, Period}
 use Rattle.ballbox.specs.declared.Stepped.{Stepped}
 use Rattle.ballbox.proofs.Letters.{Lettered, known, unknown, lettered}
 use Rattle.ballbox.proofs.Accepting.{latched-accepted, second-accepted}
-use Rattle.ballbox.proofs.Good.{letter-known, mode-known, few, parts, good-buttons}
+use Rattle.ballbox.proofs.Obeying.{goingOr, obeyed-going}
+use Rattle.ballbox.proofs.Parts.{letter-known, mode-known, few, parts, good-buttons}
 
-no-word : {X : Type 0} (w : ℕ) (ws : List ℕ) → [] ≡ w ∷ ws → X
-no-word w ws e = let z : _≡_ {A = ℕ} 0 1 = cc in absurd (omega arith)
+no-word : {X : Type 0} {w : ℕ} {ws : List ℕ} → [] ≡ w ∷ ws → X
+no-word e = let z : _≡_ {A = ℕ} 0 1 = cc in absurd (omega arith)
 
 breaks : (n : ℕ) (b : BallBox) (w : ℕ) (ws : List ℕ) → onHost n b .words ≡ w ∷ ws → bytesLeft b ≡ true
 unfolding onHost
-breaks n b w ws = cases (λ (x : List ℕ). x ≡ w ∷ ws → bytesLeft b ≡ true) (bytesLeft b) (λ l e. l) (λ l e. no-word w ws e)
+breaks n b w ws = cases (λ (x : List ℕ). x ≡ w ∷ ws → bytesLeft b ≡ true) (bytesLeft b) (λ l e. l) (λ l. no-word)
+
+awake-speaks : (b : BallBox) (e : Event) (w : ℕ) (ws : List ℕ) → b .dormant ≡ false → awake b e .words ≡ w ∷ ws → Speaks b e
+unfolding awake
+awake-speaks b (Motion dx dy) w ws d = no-word
+awake-speaks b (Buttons n) w ws d = no-word
+awake-speaks b (Host n) w ws d = λ e. (d, breaks n b w ws e)
+awake-speaks b Slot w ws d = λ e. tt
+awake-speaks b Period w ws d = no-word
+
+asleep-speaks : (b : BallBox) (e : Event) (w : ℕ) (ws : List ℕ) → asleep b e .words ≡ w ∷ ws → Speaks b e
+unfolding asleep
+asleep-speaks b (Motion dx dy) w ws = no-word
+asleep-speaks b (Buttons n) w ws = no-word
+asleep-speaks b (Host n) w ws = no-word
+asleep-speaks b Slot w ws = λ e. tt
+asleep-speaks b Period w ws = no-word
 
 speaks : (b : BallBox) (e : Event) (w : ℕ) (ws : List ℕ) → stepOf b e .words ≡ w ∷ ws → Speaks b e
-unfolding stepOf awake asleep
-speaks b (Motion dx dy) w ws =
-    cases (Says (Motion dx dy)) (not (good b)) (λ g. no-word w ws) (λ g. cases (Says (Motion dx dy)) (b .dormant) (λ d. no-word w ws) (λ d. no-word w ws))
+unfolding stepOf
+speaks b e w ws =
+    cases Says (not (good b)) (λ g. no-word)
+    (λ g. cases Says (aboveSeven e) (λ l. no-word)
+    (λ l. cases Says (b .dormant) (λ d. asleep-speaks b e w ws) (λ d. awake-speaks b e w ws d)))
   where
-    Says : Event → Answer → Type 0
-    Says e x = x .words ≡ w ∷ ws → Speaks b e
-speaks b (Buttons n) w ws =
-    cases (Says (Buttons n)) (not (good b)) (λ g. no-word w ws)
-    (λ g. cases (Says (Buttons n)) (ltb 7 n) (λ l. no-word w ws)
-    (λ l. cases (Says (Buttons n)) (b .dormant) (λ d. no-word w ws) (λ d. no-word w ws)))
-  where
-    Says : Event → Answer → Type 0
-    Says e x = x .words ≡ w ∷ ws → Speaks b e
-speaks b (Host n) w ws =
-    cases (Says (Host n)) (not (good b)) (λ g. no-word w ws)
-    (λ g. cases (Says (Host n)) (b .dormant) (λ d. no-word w ws) (λ d e. (d, breaks n b w ws e)))
-  where
-    Says : Event → Answer → Type 0
-    Says e x = x .words ≡ w ∷ ws → Speaks b e
-speaks b Slot w ws = λ e. tt
-speaks b Period w ws =
-    cases (Says Period) (not (good b)) (λ g. no-word w ws) (λ g. cases (Says Period) (b .dormant) (λ d. no-word w ws) (λ d. no-word w ws))
-  where
-    Says : Event → Answer → Type 0
-    Says e x = x .words ≡ w ∷ ws → Speaks b e
+    Says : Step → Type 0
+    Says x = x .words ≡ w ∷ ws → Speaks b e
 
 -- "Only Slot, and Host when it breaks off, give a word; the other steps give none."
-pub only-slot-and-host : (b : BallBox) (e : Event) (r : Stepped) (w : ℕ) (ws : List ℕ) → StepPromise b e r → wordsOf (r .sent) ≡ w ∷ ws → Speaks b e
-only-slot-and-host b e r w ws s h = speaks b e w ws (sym (ap (λ (x : Answer). x .words) s) ∙ h)
+pub only-slot-and-host : (b : BallBox) (e : Event) (r : Stepped) (w : ℕ) (ws : List ℕ) → StepPromise b e r → sentWords (r .sent) ≡ w ∷ ws → Speaks b e
+only-slot-and-host b e r w ws s h = speaks b e w ws (sym (ap (λ (x : Step). x .words) s) ∙ h)
 
 -- bytes, place by place and part by part
 bytes-at : (bs : List ℕ) (i : ℕ) → Bytes bs → at i bs < 256
@@ -153,18 +155,8 @@ mode-small m h = go (ltb m 256) refl
     go : (t : Bool) → ltb m 256 ≡ t → m < 256
     go true e = ltb-true m 256 e
     go false e =
-        let k : 256 ≤ m = ltb-false m 256 e in
-        absurd (holds {b = false} (simp (
-          ne-eqb m 0x4A (λ q. omega arith),
-          ne-eqb m 0x4B (λ q. omega arith),
-          ne-eqb m 0x4C (λ q. omega arith),
-          ne-eqb m 0x52 (λ q. omega arith),
-          ne-eqb m 0x4D (λ q. omega arith),
-          ne-eqb m 0x51 (λ q. omega arith),
-          ne-eqb m 0x4E (λ q. omega arith),
-          ne-eqb m modeO (λ q. omega arith),
-          ne-eqb m modeD (λ q. omega arith),
-        ) at h))
+        let far : (k : ℕ) → k < 256 → eqb m k ≡ false = λ k l. ne-eqb m k (λ q. omega (arith, ltb-false m 256 e)) in
+        absurd (holds {b = false} (simp (far 0x4A (omega arith), far 0x4B (omega arith), far 0x4C (omega arith), far 0x52 (omega arith), far 0x4D (omega arith), far 0x51 (omega arith), far 0x4E (omega arith), far modeO (omega arith), far modeD (omega arith)) at h))
 
 letter-small : (f : Format) → letterOf f < 256
 letter-small Mm = omega arith
@@ -193,31 +185,30 @@ unfolding codeByte
 code-byte l (known f e) = rw (e, letter-named f) (code-small f)
 code-byte l (unknown e none) = rw e (omega arith)
 
--- a command keeps what is going, or a reply is to be sent
-abbrev Replies : BallBox → Command → Type 0
-Replies b c = FiveBytes (obeyed c b .going)
-
-obeyed-five : (n : ℕ) (b : BallBox) → goodSettings (b .settings) ≡ true → FiveBytes (b .going) → FiveBytes (obeyed (commandOf n) b .going)
-unfolding commandOf obeyed
-obeyed-five n b s h =
+-- so are those of a reply
+reply-bytes : (b : BallBox) (c : Command) → goodSettings (b .settings) ≡ true → Bytes (replyTo b c)
+reply-bytes b (SetFormat f) s = tt
+reply-bytes b (SetStream m) s = tt
+reply-bytes b SetPrompt s = tt
+reply-bytes b AskReport s = tt
+reply-bytes b AskAck s = (omega arith, tt)
+reply-bytes b AskCode s = (code-byte (b .settings .format) (lettered (b .settings .format)), tt)
+reply-bytes b AskLetters s =
     let f = b .settings .format in
-    let lf : f < 256 = format-small f (lettered f) (letter-known (b .settings) s) in
-    let lm : b .settings .mode < 256 = mode-small (b .settings .mode) (mode-known (b .settings) s) in
-    let lb : b .settings .buttons < 256 = omega (arith, leb-true (b .settings .buttons) 7 (few (b .settings) s)) in
-    let l6 : 6 < 256 = omega arith in
-    let l0 : 0 < 256 = omega arith in
-    cases (Replies b) (isFormat n) (λ e. h)
-    (λ _. cases (Replies b) (isStream n) (λ e. h)
-    (λ _. cases (Replies b) (eqb n modeD) (λ e. h)
-    (λ _. cases (Replies b) (eqb n letterP) (λ e. h)
-    (λ _. cases (Replies b) (eqb n space) (λ e. going-five _ (l6, tt))
-    (λ _. cases (Replies b) (eqb n letterf) (λ e. going-five _ (code-byte f (lettered f), tt))
-    (λ _. cases (Replies b) (eqb n lettert) (λ e. going-five _ (lf, (lm, tt)))
-    (λ _. cases (Replies b) (eqb n byte05) (λ e. going-five _ (lb, (l0, (l0, tt))))
-    (λ _. cases (Replies b) (eqb n letterd) (λ e. h) (λ _. h)))))))))
+    (format-small f (lettered f) (letter-known (b .settings) s), (mode-small (b .settings .mode) (mode-known (b .settings) s), tt))
+reply-bytes b AskButtons s = (omega (arith, leb-true (b .settings .buttons) 7 (few (b .settings) s)), (omega arith, (omega arith, tt)))
+reply-bytes b Sleep s = tt
+reply-bytes b Ignored s = tt
+
+left-five : (g : Going) (bytes : List ℕ) → FiveBytes g → Bytes bytes → FiveBytes (goingOr g bytes)
+left-five g [] h k = h
+left-five g (b ∷ bytes) h k = going-five (b ∷ bytes) k
+
+obeyed-five : (c : Command) (b : BallBox) → goodSettings (b .settings) ≡ true → FiveBytes (b .going) → FiveBytes (obeyed c b .going)
+obeyed-five c b s h = rw (obeyed-going c b) (left-five (b .going) (replyTo b c) h (reply-bytes b c s))
 
 -- what a step is to keep and to say
-record Sound (a : Answer) : Type 0 where
+record Sound (a : Step) : Type 0 where
   bytes : FiveBytes (a .next .going)
   legal : lineWords (a .words) ≡ true
 
@@ -244,9 +235,10 @@ slot-sound b g h =
 host-sound : (n : ℕ) (b : BallBox) → good b ≡ true → FiveBytes (b .going) → Sound (onHost n b)
 unfolding onHost dropped lineWords
 host-sound n b g h =
+    let c = commandOf n in
     let s = parts b g .settings in
     record {
-      bytes = cases (λ (x : BallBox). FiveBytes (obeyed (commandOf n) x .going)) (bytesLeft b) (λ e. obeyed-five n (withGoing nothing b) s nothing-five) (λ e. obeyed-five n b s h);
+      bytes = cases (λ (x : BallBox). FiveBytes (obeyed c x .going)) (bytesLeft b) (λ e. obeyed-five c (withGoing nothing b) s nothing-five) (λ e. obeyed-five c b s h);
       legal = cases (λ (words : List ℕ). lineWords words ≡ true) (bytesLeft b) (λ e. refl) (λ e. refl);
     }
 
@@ -279,7 +271,7 @@ unfolding freshBox
 fresh-bytes b e = subst (λ (x : BallBox). FiveBytes (x .going)) (sym e) nothing-five
 
 pub step-bytes : (b : BallBox) (e : Event) (r : Stepped) → StepPromise b e r → FiveBytes (b .going) → FiveBytes (r .next .going)
-step-bytes b e r s h = subst (λ (a : Answer). FiveBytes (a .next .going)) (sym s) (step-sound b e h .bytes)
+step-bytes b e r s h = subst (λ (a : Step). FiveBytes (a .next .going)) (sym s) (step-sound b e h .bytes)
 
-pub words-legal : (b : BallBox) (e : Event) (r : Stepped) → StepPromise b e r → FiveBytes (b .going) → lineWords (wordsOf (r .sent)) ≡ true
-words-legal b e r s h = ap (λ (a : Answer). lineWords (a .words)) s ∙ step-sound b e h .legal
+pub words-legal : (b : BallBox) (e : Event) (r : Stepped) → StepPromise b e r → FiveBytes (b .going) → lineWords (sentWords (r .sent)) ≡ true
+words-legal b e r s h = ap (λ (a : Step). lineWords (a .words)) s ∙ step-sound b e h .legal

@@ -7,7 +7,6 @@ use lib.IntN.{ℤ, pos}
 use lib.ListN.{length}
 use Rattle.wire.specs.Line.{letterOf}
 use Rattle.wire.specs.Table.{five}
-use Rattle.wire.specs.Numbers.{success}
 use Rattle.wire.specs.declared.Format.the-variants.{FiveByte}
 use Rattle.ballbox.specs.declared.Pair.{Pair}
 use Rattle.ballbox.specs.declared.Settings.{Settings}
@@ -82,18 +81,11 @@ freshBox =
     }
 
 -- what a step hands back: the number given back, the box, and the words, of which there is one or none
-pub record Answer : Type 0 where
+pub record Step : Type 0 where
   pub refusal : ℕ
   pub next : BallBox
   pub words : List ℕ
 
-abbrev pub gives : List ℕ → BallBox → Answer
-gives words b = record { refusal = success; next = b; words = words }
-
--- "the other steps give none"
-abbrev pub quietly : BallBox → Answer
-quietly b = gives [] b
-
 -- "A refusal returns the old state [..], no word"
-abbrev pub refused : ℕ → BallBox → Answer
+abbrev pub refused : ℕ → BallBox → Step
 refused n b = record { refusal = n; next = b; words = [] }

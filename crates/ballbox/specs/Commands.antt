@@ -86,6 +86,23 @@ codeOf Microsoft = 7
 unfoldable pub codeByte : ℕ → ℕ
 codeByte letter = ofNamed 0x10 (λ f. 0x10 + 2 * codeOf f) (namedBy letter)
 
+-- the bytes of the reply to a command; none where it has no reply
+abbrev pub replyTo : BallBox → Command → List ℕ
+replyTo b (SetFormat f) = []
+replyTo b (SetStream m) = []
+replyTo b SetPrompt = []
+replyTo b AskReport = []
+-- "Space: ACK."
+replyTo b AskAck = ack
+-- "`f`: one byte, 10H plus twice the code"
+replyTo b AskCode = codeByte (b .settings .format) ∷ []
+-- "`t`: format letter, mode letter."
+replyTo b AskLetters = b .settings .format ∷ b .settings .mode ∷ []
+-- "05H: buttons, 0, 0."
+replyTo b AskButtons = b .settings .buttons ∷ 0 ∷ 0 ∷ []
+replyTo b Sleep = []
+replyTo b Ignored = []
+
 -- a reply is to be sent
 abbrev pub replying : List ℕ → BallBox → BallBox
 replying bytes b = withGoing (goingFrom bytes) b
@@ -100,14 +117,10 @@ obeyed (SetStream m) b = withMode m b
 obeyed SetPrompt b = withMode modeD (withDue false b)
 -- "P sets prompt mode and makes a report due."
 obeyed AskReport b = withMode modeD (withDue true b)
--- "Space: ACK."
-obeyed AskAck b = replying ack b
--- "`f`: one byte, 10H plus twice the code"
-obeyed AskCode b = replying (codeByte (b .settings .format) ∷ []) b
--- "`t`: format letter, mode letter."
-obeyed AskLetters b = replying (b .settings .format ∷ b .settings .mode ∷ []) b
--- "05H: buttons, 0, 0."
-obeyed AskButtons b = replying (b .settings .buttons ∷ 0 ∷ 0 ∷ []) b
+obeyed AskAck b = replying (replyTo b AskAck) b
+obeyed AskCode b = replying (replyTo b AskCode) b
+obeyed AskLetters b = replying (replyTo b AskLetters) b
+obeyed AskButtons b = replying (replyTo b AskButtons) b
 -- "`d`: dormant, due cleared."
 obeyed Sleep b = withDormant true (withDue false b)
 -- "The rest are ignored (001), though they too break off."

@@ -5,10 +5,12 @@ use mathlib.Core.Bool.{Bool, true, false, not, cond, _&&_, _||_}
 use mathlib.Core.List.{List, [], _∷_}
 use lib.Dec.{eqb, ltb}
 use lib.IntN.{ℤ}
-use Rattle.wire.specs.Line.{break, silence, letterOf}
+use Rattle.frames.specs.Words.{break, silence}
+use Rattle.wire.specs.Line.{letterOf}
+use Rattle.wire.specs.Numbers.{success}
 use Rattle.wire.specs.Reading.{at}
 use Rattle.wire.specs.declared.Format.the-variants.{FiveByte}
-use Rattle.ballbox.specs.Box.{modeO, nothing, withButtons, withTrack, withGoing, withDue, withDormant, Answer, gives, quietly}
+use Rattle.ballbox.specs.Box.{modeO, nothing, withButtons, withTrack, withGoing, withDue, withDormant, Step}
 use Rattle.ballbox.specs.Motion.{movedBy, hasMoved}
 use Rattle.ballbox.specs.Latching.{latched, secondLatched}
 use Rattle.ballbox.specs.Commands.{isTimed, isStream, commandOf, obeyed, replying, ack}
@@ -16,6 +18,14 @@ use Rattle.ballbox.specs.declared.Going.{Going}
 use Rattle.ballbox.specs.declared.BallBox.{BallBox}
 use Rattle.ballbox.specs.declared.Event.{Event}
 use Rattle.ballbox.specs.declared.Event.the-variants.{Motion, Buttons, Host, Slot, Period}
+
+-- the box and the words that a step gives
+abbrev pub gives : List ℕ → BallBox → Step
+gives words b = record { refusal = success; next = b; words = words }
+
+-- "the other steps give none"
+abbrev pub quietly : BallBox → Step
+quietly b = gives [] b
 
 abbrev pub moved : BallBox → Bool
 moved b = hasMoved (b .settings .format) (b .track)
@@ -56,15 +66,15 @@ unfoldable pub after : Going → Going
 after g =
     cond (ltb (g .sent + 1) (g .length)) (record { length = g .length; sent = g .sent + 1; bytes = g .bytes }) nothing
 
-unfoldable pub nextByte : BallBox → Answer
+unfoldable pub nextByte : BallBox → Step
 nextByte b = gives (at (b .going .sent) (b .going .bytes) ∷ []) (withGoing (after (b .going)) b)
 
 -- Slot, its second part: "If bytes are left, the next goes out"; "Otherwise 257 goes out."
-unfoldable pub sending : BallBox → Answer
+unfoldable pub sending : BallBox → Step
 sending b = cond (bytesLeft b) (nextByte (withByteReady b)) (gives (silence ∷ []) b)
 
 -- Slot is latching and then sending
-abbrev pub onSlot : BallBox → Answer
+abbrev pub onSlot : BallBox → Step
 onSlot b = sending (latching b)
 
 -- Host: "if bytes are left, 256 goes out and they are dropped. Then the byte is obeyed."
@@ -74,7 +84,7 @@ dropped b = cond (bytesLeft b) (withGoing nothing b) b
 abbrev pub brokenOff : BallBox → List ℕ
 brokenOff b = cond (bytesLeft b) (break ∷ []) []
 
-unfoldable pub onHost : ℕ → BallBox → Answer
+unfoldable pub onHost : ℕ → BallBox → Step
 onHost byte b = gives (brokenOff b) (obeyed (commandOf byte) (dropped b))
 
 -- "If dormant: the box wakes, the byte is not interpreted, ACK (06H) is to be sent."
@@ -82,7 +92,7 @@ unfoldable pub woken : BallBox → BallBox
 woken b = replying ack (withDormant false b)
 
 -- an event of a box that is awake
-unfoldable pub awake : BallBox → Event → Answer
+unfoldable pub awake : BallBox → Event → Step
 awake b (Motion dx dy) = quietly (onMotion dx dy b)
 awake b (Buttons n) = quietly (onButtons n b)
 awake b (Host byte) = onHost byte b
@@ -90,7 +100,7 @@ awake b Slot = onSlot b
 awake b Period = quietly (onPeriod b)
 
 -- "Dormant: Motion, Buttons and Period do nothing and Slot gives 257."
-unfoldable pub asleep : BallBox → Event → Answer
+unfoldable pub asleep : BallBox → Event → Step
 asleep b (Motion dx dy) = quietly b
 asleep b (Buttons n) = quietly b
 asleep b (Host byte) = quietly (woken b)

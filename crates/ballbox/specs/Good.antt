@@ -36,8 +36,8 @@ abbrev pub lengthKnown : ℕ → Going → Bool
 lengthKnown letter g = leb (g .length) 3 || eqb (g .length) (sizeBy letter)
 
 -- "with length 5 sent is at least 1"
-abbrev pub begun : Going → Bool
-begun g = not (eqb (g .length) 5) || leb 1 (g .sent)
+abbrev pub fiveBegun : Going → Bool
+fiveBegun g = not (eqb (g .length) 5) || leb 1 (g .sent)
 
 -- "and in U bytes 4 and 5 are 0 while sent is below 4"
 abbrev pub secondHeld : ℕ → Going → Bool
@@ -52,7 +52,7 @@ abbrev pub restZero : Going → Bool
 restZero g = each (λ i. zeroFrom i g) 5
 
 unfoldable pub goodGoing : ℕ → Going → Bool
-goodGoing letter g = sentBelow g && lengthKnown letter g && begun g && secondHeld letter g && restZero g
+goodGoing letter g = sentBelow g && lengthKnown letter g && fiveBegun g && secondHeld letter g && restZero g
 
 -- "dormant only with nothing going or due"
 abbrev pub dormantRightly : BallBox → Bool

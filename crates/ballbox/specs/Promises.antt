@@ -5,7 +5,7 @@ use mathlib.Core.Bool.{Bool, true, false, not, cond, _||_}
 use mathlib.Core.List.{List, [], _∷_}
 use lib.Dec.{eqb, ltb}
 use Rattle.wire.specs.Numbers.{success, badState, badButtons}
-use Rattle.ballbox.specs.Box.{Answer, freshBox, refused}
+use Rattle.ballbox.specs.Box.{Step, freshBox, refused}
 use Rattle.ballbox.specs.Events.{awake, asleep}
 use Rattle.ballbox.specs.Good.{good}
 use Rattle.ballbox.specs.declared.BallBox.{BallBox}
@@ -16,12 +16,12 @@ use Rattle.ballbox.specs.declared.Sent.the-variants.{Nothing, Word}
 use Rattle.ballbox.specs.declared.Stepped.{Stepped}
 
 -- for each case of what is sent, the paper's words: none, or the word
-abbrev pub wordsOf : Sent → List ℕ
-wordsOf Nothing = []
-wordsOf (Word w) = w ∷ []
+abbrev pub sentWords : Sent → List ℕ
+sentWords Nothing = []
+sentWords (Word w) = w ∷ []
 
-abbrev pub answerOf : Stepped → Answer
-answerOf r = record { refusal = r .refusal; next = r .next; words = wordsOf (r .sent) }
+abbrev pub outcome : Stepped → Step
+outcome r = record { refusal = r .refusal; next = r .next; words = sentWords (r .sent) }
 
 -- "buttons above 7"
 abbrev pub aboveSeven : Event → Bool
@@ -32,14 +32,14 @@ aboveSeven Slot = false
 aboveSeven Period = false
 
 -- "Refusals 6 and 3 come before any rule here, dormant or not."
-unfoldable pub stepOf : BallBox → Event → Answer
+unfoldable pub stepOf : BallBox → Event → Step
 stepOf b e =
     cond (not (good b)) (refused badState b)
     (cond (aboveSeven e) (refused badButtons b)
     (cond (b .dormant) (asleep b e) (awake b e)))
 
 -- an answer that is no refusal, or has a number of the two and "returns the old state [..], no word"
-pub data RefusesRightly (b : BallBox) (a : Answer) : Type 0 where
+pub data RefusesRightly (b : BallBox) (a : Step) : Type 0 where
   accepted : a .refusal ≡ success → RefusesRightly b a
   refusal : (n : ℕ) → (eqb n badState || eqb n badButtons) ≡ true → a ≡ refused n b → RefusesRightly b a
 
@@ -49,4 +49,4 @@ FreshPromise r = r ≡ freshBox
 
 -- the promise of `step`
 abbrev pub StepPromise : BallBox → Event → Stepped → Type 0
-StepPromise b e r = answerOf r ≡ stepOf b e
+StepPromise b e r = outcome r ≡ stepOf b e

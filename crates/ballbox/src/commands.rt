@@ -1,50 +1,100 @@
-// The host's bytes, the buttons and the report interval.
+// What a byte of the host's means, and what it does.
 ghost use mathlib.Core.Path.{_≡_};
-ghost use mathlib.Core.Bool.{false};
+ghost use mathlib.Core.Bool.{true, false};
 ghost use mathlib.Core.List.{[], _∷_};
-ghost use Rattle.ballbox.specs.Box.{withFormat, withMode, withTrack, withGoing, withDue};
+ghost use Rattle.ballbox.specs.Box.{withFormat, withMode, withTrack, withGoing, withDue, withDormant};
 ghost use Rattle.ballbox.specs.Latching.{cleared};
-ghost use Rattle.ballbox.specs.Commands.{isTimed, isStream, commandOf, codeByte, obeyed};
-ghost use Rattle.ballbox.specs.Events.{onButtons, onPeriod, onHost};
-ghost use Rattle.ballbox.specs.Promises.{answerOf};
+ghost use Rattle.ballbox.specs.Commands.{isFormat, isTimed, isStream, commandOf, codeByte, obeyed};
 use crate::BallBox;
 use crate::Command;
+use crate::FORMAT_A;
+use crate::FORMAT_B;
+use crate::FORMAT_S;
+use crate::FORMAT_T;
+use crate::FORMAT_U;
+use crate::FORMAT_V;
+use crate::FORMAT_W;
 use crate::Going;
-use crate::Stepped;
+use crate::MODE_D;
+use crate::MODE_O;
+
+// The host's bytes that are no letter of a format or of a stream mode, beside D.
+const LETTER_P: u8 = b'P';
+
+const SPACE: u8 = b' ';
+
+const LETTER_F: u8 = b'f';
+
+const LETTER_T: u8 = b't';
+
+const BYTE_05: u8 = 5;
+
+const LETTER_D: u8 = b'd';
 
 // The modes in which the report interval counts.
-fn is_timed(mode: u8) -> bool
+const MODE_J: u8 = b'J';
+
+const MODE_K: u8 = b'K';
+
+const MODE_L: u8 = b'L';
+
+const MODE_R: u8 = b'R';
+
+const MODE_M: u8 = b'M';
+
+const MODE_Q: u8 = b'Q';
+
+const MODE_N: u8 = b'N';
+
+pub(crate) const ACK: u8 = 6;
+
+pub(crate) fn is_format(letter: u8) -> bool
+    ensures { λ r. ⌜ r ≡ isFormat letter ⌝ }
+{
+    (letter == FORMAT_A)
+        | (letter == FORMAT_B)
+        | (letter == FORMAT_S)
+        | (letter == FORMAT_T)
+        | (letter == FORMAT_U)
+        | (letter == FORMAT_V)
+        | (letter == FORMAT_W)
+}
+
+pub(crate) fn is_timed(mode: u8) -> bool
     ensures { λ r. ⌜ r ≡ isTimed mode ⌝ }
 {
-    (mode == b'J')
-        | (mode == b'K')
-        | (mode == b'L')
-        | (mode == b'R')
-        | (mode == b'M')
-        | (mode == b'Q')
-        | (mode == b'N')
+    (mode == MODE_J)
+        | (mode == MODE_K)
+        | (mode == MODE_L)
+        | (mode == MODE_R)
+        | (mode == MODE_M)
+        | (mode == MODE_Q)
+        | (mode == MODE_N)
 }
 
 pub(crate) fn is_stream(mode: u8) -> bool
     ensures { λ r. ⌜ r ≡ isStream mode ⌝ }
 {
-    is_timed(mode) | (mode == b'O')
+    is_timed(mode) | (mode == MODE_O)
 }
 
 // What a byte of the host's asks for.
-fn heard(byte: u8) -> Command
+pub(crate) fn heard(byte: u8) -> Command
     ensures { λ r. ⌜ r ≡ commandOf byte ⌝ }
 {
     match byte {
-        b'A' | b'B' | b'S' | b'T' | b'U' | b'V' | b'W' => Command::SetFormat(byte),
-        b'J' | b'K' | b'L' | b'M' | b'N' | b'O' | b'Q' | b'R' => Command::SetStream(byte),
-        b'D' => Command::SetPrompt,
-        b'P' => Command::AskReport,
-        b' ' => Command::AskAck,
-        b'f' => Command::AskCode,
-        b't' => Command::AskLetters,
-        5 => Command::AskButtons,
-        b'd' => Command::Sleep,
+        FORMAT_A | FORMAT_B | FORMAT_S | FORMAT_T | FORMAT_U | FORMAT_V | FORMAT_W =>
+            Command::SetFormat(byte),
+        MODE_J | MODE_K | MODE_L | MODE_M | MODE_N | MODE_O | MODE_Q | MODE_R => Command::SetStream(
+            byte,
+        ),
+        MODE_D => Command::SetPrompt,
+        LETTER_P => Command::AskReport,
+        SPACE => Command::AskAck,
+        LETTER_F => Command::AskCode,
+        LETTER_T => Command::AskLetters,
+        BYTE_05 => Command::AskButtons,
+        LETTER_D => Command::Sleep,
         _ => Command::Ignored,
     }
 }
@@ -54,13 +104,13 @@ fn code_byte(letter: u8) -> u8
     ensures { λ r. ⌜ r ≡ codeByte letter ⌝ }
 {
     match letter {
-        b'U' => 0x10,
-        b'T' => 0x12,
-        b'W' => 0x14,
-        b'B' => 0x16,
-        b'S' => 0x1A,
-        b'A' => 0x1C,
-        b'V' => 0x1E,
+        FORMAT_U => 0x10,
+        FORMAT_T => 0x12,
+        FORMAT_W => 0x14,
+        FORMAT_B => 0x16,
+        FORMAT_S => 0x1A,
+        FORMAT_A => 0x1C,
+        FORMAT_V => 0x1E,
         _ => 0x10,
     }
 }
@@ -98,55 +148,30 @@ impl BallBox {
         self
     }
 
+    // Dormant, and nothing is due.
+    fn put_to_sleep(mut self) -> BallBox
+        ensures { λ r. ⌜ r ≡ withDormant true (withDue false self) ⌝ }
+    {
+        self.dormant = true;
+        self.due = false;
+        self
+    }
+
     // What a command does, where nothing is going.
-    fn obeyed(self, command: Command) -> BallBox
+    pub(crate) fn obeyed(self, command: Command) -> BallBox
         ensures { λ r. ⌜ r ≡ obeyed command self ⌝ }
     {
         match command {
             Command::SetFormat(f) => self.with_format(f),
             Command::SetStream(m) => self.with_mode(m, self.due),
-            Command::SetPrompt => self.with_mode(b'D', false),
-            Command::AskReport => self.with_mode(b'D', true),
-            Command::AskAck => self.replying(1, 6, 0),
+            Command::SetPrompt => self.with_mode(MODE_D, false),
+            Command::AskReport => self.with_mode(MODE_D, true),
+            Command::AskAck => self.replying(1, ACK, 0),
             Command::AskCode => self.replying(1, code_byte(self.settings.format), 0),
             Command::AskLetters => self.replying(2, self.settings.format, self.settings.mode),
             Command::AskButtons => self.replying(3, self.settings.buttons, 0),
             Command::Sleep => self.put_to_sleep(),
             Command::Ignored => self,
         }
-    }
-
-    // Bytes that are left are broken off; then the byte is obeyed.
-    pub(crate) fn on_host(self, byte: u8) -> Stepped
-        ensures { λ r. ⌜ answerOf r ≡ onHost byte self ⌝ }
-    {
-        let next = self.dropped().obeyed(heard(byte));
-        if self.bytes_left() {
-            next.gives(256)
-        } else {
-            next.quietly()
-        }
-    }
-
-    // A change is kept; in a stream mode it makes a report due.
-    pub(crate) fn on_buttons(mut self, n: u8) -> BallBox
-        ensures { λ r. ⌜ r ≡ onButtons n self ⌝ }
-    {
-        if n == self.settings.buttons {
-            return self;
-        }
-        self.settings.buttons = n;
-        self.due = self.due | is_stream(self.settings.mode);
-        self
-    }
-
-    // In the timed modes, if moved, a report is due.
-    pub(crate) fn on_period(mut self) -> BallBox
-        ensures { λ r. ⌜ r ≡ onPeriod self ⌝ }
-    {
-        let track = self.track;
-        let moved = track.has_moved(self.settings.format);
-        self.due = self.due | (is_timed(self.settings.mode) & moved);
-        self
     }
 }

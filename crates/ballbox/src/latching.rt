@@ -4,25 +4,41 @@ ghost use mathlib.Core.Bool.{true};
 ghost use Prim.Native.Nat.{_≤_};
 ghost use Rattle.wire.specs.Holds.{acceptedBy};
 ghost use Rattle.wire.specs.Table.{five, bytesBy};
-ghost use Rattle.ballbox.specs.Latching.{limited, taken, latched, secondLatched};
+ghost use Rattle.ballbox.specs.Latching.{limits, limited, movement, taken, cleared, latched, secondLatched};
 use crate::BallBox;
+use crate::FORMAT_A;
+use crate::FORMAT_B;
+use crate::FORMAT_U;
 use crate::Going;
 use crate::Pair;
 use crate::Track;
 use crate::motion::held;
+use wire::Range;
 use wire::Report;
 
-// A movement held to what a report of the format may say; the excess is lost.
+// What a report of the format may say; in A it is a position.
+fn limits(letter: u8) -> Range
+    ensures { λ r. ⌜ r ≡ limits letter ⌝ }
+{
+    match letter {
+        FORMAT_A => Range { low: 0, high: 4095 },
+        FORMAT_B => Range {
+            low: -2048,
+            high: 2047,
+        },
+        _ => Range {
+            low: -127,
+            high: 127,
+        },
+    }
+}
+
+// A movement held to the limits; the excess is lost.
 fn limited(letter: u8, v: i16) -> i16
     ensures { λ r. ⌜ r ≡ limited letter v ⌝ }
 {
-    if letter == b'A' {
-        return held(v as i32, 0, 4095);
-    }
-    if letter == b'B' {
-        return held(v as i32, -2048, 2047);
-    }
-    held(v as i32, -127, 127)
+    let range = limits(letter);
+    held(v as i32, range.low, range.high)
 }
 
 // The bytes of an accepted report, and zeros behind them.
@@ -36,6 +52,29 @@ fn encoded(letter: u8, report: Report) -> [u8; 5]
 }
 
 impl Track {
+    // In A the position, otherwise the counters.
+    fn movement(self, letter: u8) -> Pair
+        ensures { λ r. ⌜ r ≡ movement letter self ⌝ }
+    {
+        if letter == FORMAT_A {
+            self.position
+        } else {
+            self.counter
+        }
+    }
+
+    // The counters cleared, and the last position set to the position.
+    pub(crate) fn cleared(self) -> Track
+        ensures { λ r. ⌜ r ≡ cleared self ⌝ }
+    {
+        let position = self.position;
+        Track {
+            counter: Pair { x: 0, y: 0 },
+            position: position,
+            last: position,
+        }
+    }
+
     fn taken(self, letter: u8) -> Pair
         ensures { λ r. ⌜ r ≡ taken letter self ⌝ }
     {
@@ -87,7 +126,7 @@ impl BallBox {
             x2: pair.x,
             y2: pair.y,
         };
-        let second = encoded(b'U', report);
+        let second = encoded(FORMAT_U, report);
         let mut going = self.going;
         going.bytes[3] = second[3];
         going.bytes[4] = second[4];

@@ -1,18 +1,47 @@
-// The ball box: counts, buttons and host bytes in, line words out.
+// The ball box: counts, buttons and host bytes in, line words out. Here stand its parts, its letters and numbers, and what a user calls.
 ghost use mathlib.Core.Path.{_≡_};
-ghost use mathlib.Core.Bool.{true};
-ghost use mathlib.Core.List.{[], _∷_};
-ghost use Rattle.ballbox.specs.Box.{refused, quietly, gives};
-ghost use Rattle.ballbox.specs.Events.{awake, asleep, woken};
-ghost use Rattle.ballbox.specs.Good.{good};
-ghost use Rattle.ballbox.specs.Promises.{answerOf, aboveSeven, FreshPromise, StepPromise};
+ghost use Rattle.ballbox.specs.Box.{nothing, refused};
+ghost use Rattle.ballbox.specs.Promises.{outcome, aboveSeven, FreshPromise, StepPromise};
 
 mod commands;
-mod dormant;
+mod events;
+mod good;
 mod latching;
-mod line;
 mod motion;
-mod rules;
+
+// The letters of the formats and of the modes.
+pub(crate) const FORMAT_A: u8 = b'A';
+
+pub(crate) const FORMAT_B: u8 = b'B';
+
+pub(crate) const FORMAT_S: u8 = b'S';
+
+pub(crate) const FORMAT_T: u8 = b'T';
+
+pub(crate) const FORMAT_U: u8 = b'U';
+
+pub(crate) const FORMAT_V: u8 = b'V';
+
+pub(crate) const FORMAT_W: u8 = b'W';
+
+pub(crate) const MODE_O: u8 = b'O';
+
+pub(crate) const MODE_D: u8 = b'D';
+
+// Words on the line that are no bytes.
+pub(crate) const BREAK: u16 = 256;
+
+pub(crate) const SILENCE: u16 = 257;
+
+// Numbers given back.
+pub(crate) const SUCCESS: u8 = 0;
+
+const BAD_STATE: u8 = 6;
+
+const BAD_BUTTONS: u8 = 3;
+
+// "buttons 0-7"
+pub(crate) const MOST_BUTTONS: u8 = 7;
 
 // A movement or a place, x and y.
 pub struct Pair {
@@ -94,11 +123,22 @@ impl Event {
     {
         match self {
             Event::Motion(_, _) => false,
-            Event::Buttons(n) => 7 < n,
+            Event::Buttons(n) => MOST_BUTTONS < n,
             Event::Host(_) => false,
             Event::Slot => false,
             Event::Period => false,
         }
+    }
+}
+
+// Nothing is going.
+pub(crate) fn nothing() -> Going
+    ensures { λ r. ⌜ r ≡ nothing ⌝ }
+{
+    Going {
+        length: 0,
+        sent: 0,
+        bytes: [0u8; 5],
     }
 }
 
@@ -110,8 +150,8 @@ impl BallBox {
         let zeros = Pair { x: 0, y: 0 };
         BallBox {
             settings: Settings {
-                format: b'U',
-                mode: b'O',
+                format: FORMAT_U,
+                mode: MODE_O,
                 buttons: 0,
             },
             track: Track {
@@ -119,7 +159,7 @@ impl BallBox {
                 position: zeros,
                 last: zeros,
             },
-            going: line::nothing(),
+            going: nothing(),
             due: false,
             dormant: false,
         }
@@ -127,7 +167,7 @@ impl BallBox {
 
     // The old box and no word.
     fn refused(self, number: u8) -> Stepped
-        ensures { λ r. ⌜ answerOf r ≡ refused number self ⌝ }
+        ensures { λ r. ⌜ outcome r ≡ refused number self ⌝ }
     {
         Stepped {
             refusal: number,
@@ -136,62 +176,15 @@ impl BallBox {
         }
     }
 
-    fn quietly(self) -> Stepped
-        ensures { λ r. ⌜ answerOf r ≡ quietly self ⌝ }
-    {
-        Stepped {
-            refusal: 0,
-            next: self,
-            sent: Sent::Nothing,
-        }
-    }
-
-    pub(crate) fn gives(self, word: u16) -> Stepped
-        ensures { λ r. ⌜ answerOf r ≡ gives (word ∷ []) self ⌝ }
-    {
-        Stepped {
-            refusal: 0,
-            next: self,
-            sent: Sent::Word(word),
-        }
-    }
-
-    // An event of a box that is awake.
-    fn awake(self, event: Event) -> Stepped
-        requires { ⌜ good self ≡ true ⌝ }
-        ensures { λ r. ⌜ answerOf r ≡ awake self event ⌝ }
-    {
-        match event {
-            Event::Motion(dx, dy) => self.on_motion(dx, dy).quietly(),
-            Event::Buttons(n) => self.on_buttons(n).quietly(),
-            Event::Host(byte) => self.on_host(byte),
-            Event::Slot => self.on_slot(),
-            Event::Period => self.on_period().quietly(),
-        }
-    }
-
-    // An event of a box that is dormant: only the host wakes it.
-    fn asleep(self, event: Event) -> Stepped
-        ensures { λ r. ⌜ answerOf r ≡ asleep self event ⌝ }
-    {
-        match event {
-            Event::Motion(_, _) => self.quietly(),
-            Event::Buttons(_) => self.quietly(),
-            Event::Host(_) => self.woken().quietly(),
-            Event::Slot => self.gives(257),
-            Event::Period => self.quietly(),
-        }
-    }
-
     // An event: the refusals in their order, and then the rules.
     pub fn step(self, event: Event) -> Stepped
         ensures { λ r. ⌜ StepPromise self event r ⌝ }
     {
         if !self.good() {
-            return self.refused(6);
+            return self.refused(BAD_STATE);
         }
         if event.above_seven() {
-            return self.refused(3);
+            return self.refused(BAD_BUTTONS);
         }
         if self.dormant {
             self.asleep(event)

@@ -3,9 +3,7 @@ ghost use mathlib.Core.Path.{_≡_};
 ghost use lib.IntN.{_+ℤ_};
 ghost use Rattle.numbers.specs.Signed.{held, heldSum};
 ghost use Rattle.ballbox.specs.Motion.{placedAt, counted, placed, movedBy, apart, hasMoved};
-ghost use Rattle.ballbox.specs.Latching.{movement, cleared};
-ghost use Rattle.ballbox.specs.Events.{onMotion};
-use crate::BallBox;
+use crate::FORMAT_A;
 use crate::Pair;
 use crate::Track;
 
@@ -71,7 +69,7 @@ impl Pair {
 }
 
 impl Track {
-    fn moved_by(self, dx: i16, dy: i16) -> Track
+    pub(crate) fn moved_by(self, dx: i16, dy: i16) -> Track
         ensures { λ r. ⌜ r ≡ movedBy dx dy self ⌝ }
     {
         let counter = self.counter;
@@ -90,43 +88,10 @@ impl Track {
     {
         let counter = self.counter;
         let position = self.position;
-        if letter == b'A' {
+        if letter == FORMAT_A {
             position.apart(self.last)
         } else {
             counter.apart(Pair { x: 0, y: 0 })
         }
-    }
-
-    // In A the position, otherwise the counters.
-    pub(crate) fn movement(self, letter: u8) -> Pair
-        ensures { λ r. ⌜ r ≡ movement letter self ⌝ }
-    {
-        if letter == b'A' {
-            self.position
-        } else {
-            self.counter
-        }
-    }
-
-    // The counters cleared, and the last position set to the position.
-    pub(crate) fn cleared(self) -> Track
-        ensures { λ r. ⌜ r ≡ cleared self ⌝ }
-    {
-        let position = self.position;
-        Track {
-            counter: Pair { x: 0, y: 0 },
-            position: position,
-            last: position,
-        }
-    }
-}
-
-impl BallBox {
-    pub(crate) fn on_motion(mut self, dx: i16, dy: i16) -> BallBox
-        ensures { λ r. ⌜ r ≡ onMotion dx dy self ⌝ }
-    {
-        let track = self.track;
-        self.track = track.moved_by(dx, dy);
-        self
     }
 }

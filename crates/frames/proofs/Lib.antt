@@ -1,5 +1,9 @@
--- What a reader hands out: over words, over the bytes of reports (Reading), in a marked format after any words (Marks), and over a line of which
--- a stretch was replaced (Replaced).
+-- Passages in two parts (Passages); the words of a sender are those of its passages (Sender); what a reader hands out: over words, over the bytes
+-- of reports (Reading), in a marked format after any words (Marks), and over a line of which a stretch was replaced (Replaced); and what holds of
+-- each word of a line (Words).
+pub mod Passages
+pub mod Sender
 pub mod Reading
 pub mod Marks
 pub mod Replaced
+pub mod Words

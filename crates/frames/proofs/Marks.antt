@@ -4,17 +4,19 @@ use mathlib.Core.List.{List, [], _∷_, _++_, append-assoc, append-nil}
 use mathlib.Core.Bool.{Bool, true, false}
 use Prim.Native.Nat.{ℕ, suc, _+_, _<_}
 use native.Mathlib.Omega.{arith}
-use lib.ListN.{length, length-append, replicate}
+use lib.ListN.{length, take, length-append, length-take, replicate}
 use borrow.Author.Tests.{ne-eqb}
-use Rattle.frames.specs.Frame.{Frame, State, has, waits, kept, Answer, nothing, report, dropped, drops, reports, moveOf, step, answers, after, read}
-use Rattle.frames.specs.Line.{Segment, silence, sent, cut, wordsOf, words, Fits, Full, Part, SoundOf, Sound, finishedOf, finished, Marked, Sub, none, gone, stays}
-use Rattle.frames.proofs.Reading.{reports-one, read-append, on, passes, silent, first, more, rest}
+use Rattle.frames.specs.Words as words
+use Rattle.frames.specs.Passages.{Passage, silent, finished, broken, UnderWay, nothing, first, Sub, none, gone, stays, finishedIn, finishedBy, wordsOf, passageWords, partWords, SoundOf, Sound, SoundPart}
+use Rattle.frames.specs.Frame.{Frame, State, has, waits, kept, Answer, report, dropped, drops, reports, moveOf, step, answers, after, read, Fits, Full, Whole, Part, Framed, decoded, Marked}
+use Rattle.frames.specs.Frame as frame
+use Rattle.frames.proofs.Reading.{reports-one, read-append, on, passes, quiet, starting, more, rest, part-of}
 
 module _ {R : Type 0} (F : Frame R) (M : Marked F) where
   -- a first byte starts a report anywhere
   starts : (s : State) (b : ℕ) → F .fits [] b ≡ true → step F s b ≡ (has (b ∷ []), drops (length (kept s)))
   unfolding moveOf
-  starts (has []) b h = first F (M .laws) b h
+  starts (has []) b h = starting F (M .laws) b h
   starts (has (a ∷ k)) b h =
       let l : b < 256 = M .laws .byte [] b h in rw (ne-eqb b 257 (λ e. omega arith), ne-eqb b 256 (λ e. omega arith), M .apart a k b h, M .is, h)
   starts waits b h =
@@ -22,7 +24,7 @@ module _ {R : Type 0} (F : Frame R) (M : Marked F) where
 
   -- so that a whole report is read in any state
   pub any-reads : (s : State) (b c : ℕ) (cs ws : List ℕ) → Fits F [] (b ∷ c ∷ cs) → Full F (b ∷ c ∷ cs)
-      → answers F s (b ∷ c ∷ cs ++ ws) ≡ drops (length (kept s)) ∷ (replicate (length cs) nothing ++ (report (F .decode (b ∷ c ∷ cs)) ∷ answers F (has []) ws))
+      → answers F s (b ∷ c ∷ cs ++ ws) ≡ drops (length (kept s)) ∷ (replicate (length cs) frame.nothing ++ (report (F .decode (b ∷ c ∷ cs)) ∷ answers F (has []) ws))
   any-reads s b c cs ws p f =
       on F s b (c ∷ cs ++ ws) (starts s b (p .0))
       ∙ ap (λ (l : List (Answer R)). drops (length (kept s)) ∷ l) (rest F (M .laws) b [] c cs ws (p .1) (omega (arith, f)))
@@ -40,7 +42,7 @@ module _ {R : Type 0} (F : Frame R) (M : Marked F) where
   unfolding moveOf
   loses k b l h f = rw (ne-eqb b 257 (λ e. omega arith), ne-eqb b 256 (λ e. omega arith), h, f, M .is)
 
-  breaks : (s : State) → step F s 256 ≡ (has [], drops (length (kept s)))
+  breaks : (s : State) → step F s words.break ≡ (has [], drops (length (kept s)))
   unfolding moveOf
   breaks s = rw (M .is)
 
@@ -83,25 +85,49 @@ module _ {R : Type 0} (F : Frame R) (M : Marked F) where
   damaged b bs (c ∷ l) (stays d) f h =
       passes F 0 (has []) b l (starts (has []) b (f .0)) ∙ scraps (b ∷ []) l (laters-left d (laters b [] bs (f .1))) (omega arith)
 
-  -- a segment, read in any state
-  segment : (s : State) (x : Segment) (ws : List ℕ) → SoundOf F x → read F s (wordsOf x ++ ws) ≡ finishedOf F x ++ read F (has []) ws
-  segment s silence ws d = passes F (length (kept s)) s 257 ws (silent F s)
-  segment s (sent []) ws d = absurd (d .1)
-  segment s (sent (b ∷ [])) ws d = absurd (omega (arith, M .laws .long b (d .0 .0), d .1))
-  segment s (sent (b ∷ c ∷ cs)) ws d =
-      ap reports (any-reads s b c cs ws (d .0) (d .1)) ∙ reports-one (length (kept s)) (length cs) (F .decode (b ∷ c ∷ cs)) (answers F (has []) ws)
-  segment s (cut bs) ws d =
-      rw (append-assoc, read-append F s bs, part-read s bs d) (passes F (length (kept (after F s bs))) (after F s bs) 256 ws (breaks (after F s bs)))
+  -- a whole report, read in any state
+  whole-read : (s : State) (bytes ws : List ℕ) → Whole F bytes → read F s (bytes ++ ws) ≡ F .decode bytes ∷ read F (has []) ws
+  whole-read s [] ws w = absurd (w .1)
+  whole-read s (b ∷ []) ws w = absurd (omega (arith, M .laws .long b (w .0 .0), w .1))
+  whole-read s (b ∷ c ∷ cs) ws w =
+      ap reports (any-reads s b c cs ws (w .0) (w .1)) ∙ reports-one (length (kept s)) (length cs) (F .decode (b ∷ c ∷ cs)) (answers F (has []) ws)
 
-  -- a line, by a reader that has nothing kept, whatever follows
-  pub synced : (l : List Segment) (ws : List ℕ) → Sound F l → read F (has []) (words l ++ ws) ≡ finished F l ++ read F (has []) ws
-  synced [] ws d = refl
-  synced (x ∷ l) ws d =
-      rw (append-assoc (wordsOf x), append-assoc (finishedOf F x)) (segment (has []) x (words l ++ ws) (d .0) ∙ ap (λ (r : List R). finishedOf F x ++ r) (synced l ws (d .1)))
+  -- lines of which each report is one of the frame
+  module _ {K : Type 0} (bytes : K → List ℕ) where
+    part-sound : (g : UnderWay K) → SoundPart bytes (Framed F bytes) g → Part F (partWords bytes g)
+    part-sound nothing g = (tt, tt)
+    part-sound (first n k) g = part-of F (bytes k) n (g .0) (g .1)
 
-  -- THE CENTRAL FACT: from any state the finished reports of a line are handed out, and no others
-  pub resync : (s : State) (l : List Segment) (g : List ℕ) → Sound F l → Part F g → read F s (words l ++ g) ≡ finished F l
-  resync s [] g d p = part-read s g p
-  resync s (x ∷ l) g d p =
-      rw append-assoc
-      (segment s x (words l ++ g) (d .0) ∙ ap (λ (r : List R). finishedOf F x ++ r) (synced l g (d .1) ∙ rw (part-read (has []) g p, append-nil)))
+    -- a passage, read in any state
+    passage : (s : State) (p : Passage K) (ws : List ℕ) → SoundOf bytes (Framed F bytes) p → read F s (wordsOf bytes p ++ ws) ≡ finishedIn (decoded F bytes) p ++ read F (has []) ws
+    passage s silent ws d = passes F (length (kept s)) s words.silence ws (quiet F s)
+    passage s (finished k) ws d = whole-read s (bytes k) ws d
+    passage s (broken n k) ws d =
+        let bs = take n (bytes k) in
+        rw (append-assoc, read-append F s bs, part-read s bs (part-of F (bytes k) n (d .0) (d .1)))
+        (passes F (length (kept (after F s bs))) (after F s bs) words.break ws (breaks (after F s bs)))
+
+    -- a line, by a reader that has nothing kept, whatever follows
+    pub synced : (l : List (Passage K)) (ws : List ℕ) → Sound bytes (Framed F bytes) l → read F (has []) (passageWords bytes l ++ ws) ≡ finishedBy (decoded F bytes) l ++ read F (has []) ws
+    synced [] ws d = refl
+    synced (p ∷ l) ws d =
+        rw (append-assoc (wordsOf bytes p), append-assoc (finishedIn (decoded F bytes) p))
+        (passage (has []) p (passageWords bytes l ++ ws) (d .0) ∙ ap (λ (r : List R). finishedIn (decoded F bytes) p ++ r) (synced l ws (d .1)))
+
+    -- THE CENTRAL FACT: from any state the finished reports of a line are handed out, and no others
+    pub resync : (s : State) (l : List (Passage K)) (g : UnderWay K) → Sound bytes (Framed F bytes) l → SoundPart bytes (Framed F bytes) g
+        → read F s (passageWords bytes l ++ partWords bytes g) ≡ finishedBy (decoded F bytes) l
+    resync s [] g d h = part-read s (partWords bytes g) (part-sound g h)
+    resync s (p ∷ l) g d h =
+        rw append-assoc
+        (passage s p (passageWords bytes l ++ partWords bytes g) (d .0)
+        ∙ ap (λ (r : List R). finishedIn (decoded F bytes) p ++ r)
+        (synced l (partWords bytes g) (d .1) ∙ rw (part-read (has []) (partWords bytes g) (part-sound g h), append-nil)))
+
+    -- what is left of a report that lost bytes, or of the first bytes of one, hands out nothing
+    pub lost-read : (k : K) (left : List ℕ) → Framed F bytes k → Sub left (bytes k) → length left < length (bytes k) → read F (has []) left ≡ []
+    lost-read k left w d h = go (bytes k) w d h
+      where
+        go : (bs : List ℕ) → Whole F bs → Sub left bs → length left < length bs → read F (has []) left ≡ []
+        go [] w d h = absurd (w .1)
+        go (b ∷ bs) w d h = damaged b bs left d (w .0) (omega (arith, w .1))

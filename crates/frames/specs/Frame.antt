@@ -1,9 +1,11 @@
 -- A reader of framed reports: which byte fits after which, what is kept, and what each word is answered by.
+use mathlib.Core.Path.{_≡_}
 use mathlib.Core.List.{List, [], _∷_, _++_}
-use mathlib.Core.Bool.{Bool, false, cond, _&&_}
-use Prim.Native.Nat.{ℕ, zero, suc}
+use mathlib.Core.Bool.{Bool, true, false, cond, _&&_}
+use Prim.Native.Nat.{ℕ, zero, suc, _<_, _≤_}
 use lib.ListN.{length}
 use lib.Dec.{eqb}
+use Rattle.frames.specs.Words as words
 
 -- A format, with reports R. `fits kept b`: the byte b may follow the bytes kept, or begin a report where none is kept; `size b`: how many bytes
 -- a report has that begins with b; whether a first byte is told from the others; and the report that bytes stand for.
@@ -54,8 +56,8 @@ module _ {R : Type 0} (F : Frame R) where
 
   unfoldable pub moveOf : State → ℕ → Move
   moveOf s w =
-      cond (eqb w 257) silence
-      (cond (eqb w 256) break
+      cond (eqb w words.silence) silence
+      (cond (eqb w words.break) break
       (cond (inPlace s w) fit
       (cond (F .marked && F .fits [] w) start
       bad)))
@@ -65,12 +67,12 @@ module _ {R : Type 0} (F : Frame R) where
   fresh = cond (F .marked) (has []) waits
 
   -- the bytes are as many as their first one says
-  abbrev pub whole : List ℕ → Bool
-  whole [] = false
-  whole (b ∷ k) = eqb (suc (length k)) (F .size b)
+  abbrev pub complete : List ℕ → Bool
+  complete [] = false
+  complete (b ∷ k) = eqb (suc (length k)) (F .size b)
 
   abbrev pub keep : List ℕ → State × Answer R
-  keep k = cond (whole k) (has [], report (F .decode k)) (has k, nothing)
+  keep k = cond (complete k) (has [], report (F .decode k)) (has k, nothing)
 
   abbrev pub act : Move → List ℕ → ℕ → State × Answer R
   act fit k w = keep (k ++ (w ∷ []))
@@ -93,3 +95,42 @@ module _ {R : Type 0} (F : Frame R) where
 
   abbrev pub read : State → List ℕ → List R
   read s ws = reports (answers s ws)
+
+  -- each of the bytes fits its place, behind the bytes k
+  abbrev pub Fits : List ℕ → List ℕ → Type 0
+  Fits k [] = Unit {0}
+  Fits k (b ∷ bytes) = (F .fits k b ≡ true) × Fits (k ++ (b ∷ [])) bytes
+
+  -- they are as many as the first one says, or fewer
+  abbrev pub Full : List ℕ → Type 0
+  Full [] = ⊥
+  Full (b ∷ bytes) = suc (length bytes) ≡ F .size b
+
+  abbrev pub Short : List ℕ → Type 0
+  Short [] = Unit {0}
+  Short (b ∷ bytes) = suc (length bytes) < F .size b
+
+  -- a whole report, and the first bytes of one
+  abbrev pub Whole : List ℕ → Type 0
+  Whole bytes = Fits [] bytes × Full bytes
+
+  abbrev pub Part : List ℕ → Type 0
+  Part bytes = Fits [] bytes × Short bytes
+
+-- the bytes of a kind of report are a whole report of the frame; and what a reader hands out of it
+abbrev pub Framed : {R K : Type 0} → Frame R → (K → List ℕ) → K → Type 0
+Framed F bytes k = Whole F (bytes k)
+
+abbrev pub decoded : {R K : Type 0} → Frame R → (K → List ℕ) → K → List R
+decoded F bytes k = F .decode (bytes k) ∷ []
+
+-- a frame's laws: what fits is a byte, and a report has at least two
+pub record Laws {R : Type 0} (F : Frame R) : Type 0 where
+  pub byte : (k : List ℕ) (b : ℕ) → F .fits k b ≡ true → b < 256
+  pub long : (b : ℕ) → F .fits [] b ≡ true → 2 ≤ F .size b
+
+-- "marked": no first byte is a later byte
+pub record Marked {R : Type 0} (F : Frame R) : Type 0 where
+  pub laws : Laws F
+  pub is : F .marked ≡ true
+  pub apart : (a : ℕ) (k : List ℕ) (b : ℕ) → F .fits [] b ≡ true → F .fits (a ∷ k) b ≡ false

@@ -1,3 +1,6 @@
--- Framed reports on a line of words, whatever their format: a reader of them (Frame), and what stands on a line (Line).
+-- The line, whatever stands on it: its words (Words), passages of any kind of report (Passages), whatever sends them (Sender), and a reader of
+-- framed reports (Frame).
+pub mod Words
+pub mod Passages
+pub mod Sender
 pub mod Frame
-pub mod Line

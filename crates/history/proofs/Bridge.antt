@@ -4,12 +4,15 @@ use mathlib.Core.Path.{_≡_, refl, sym, _∙_, ap, ap₂}
 use mathlib.Core.Bool.{Bool, true, false, cond}
 use mathlib.Core.List.{List, [], _∷_, _++_, append-nil}
 use lib.Dec.{eqb, lit<, lit≤}
+use Rattle.numbers.proofs.Choices.{cases}
 use Rattle.numbers.proofs.Tested.{holds}
-use Rattle.wire.specs.Passages.{Going, nothing, report, replying, goingWords, passageWords, told}
-use Rattle.wire.proofs.Sender.{givenOver, bridge}
+use Rattle.frames.specs.Passages.{UnderWay, nothing, first, passageWords, partWords}
+use Rattle.frames.specs.Sender.{told}
+use Rattle.frames.proofs.Sender.{givenOver, bridge}
+use Rattle.wire.specs.Messages.{Message, messageBytes}
 use Rattle.ballbox.specs.Box as box
 use Rattle.ballbox.specs.Box.{goingFrom}
-use Rattle.ballbox.specs.Events.{bytesLeft, onButtons, onPeriod, awake, asleep, woken}
+use Rattle.ballbox.specs.Events.{quietly, bytesLeft, onButtons, onPeriod, awake, asleep, woken}
 use Rattle.ballbox.specs.Good.{good}
 use Rattle.ballbox.specs.Promises.{aboveSeven, stepOf}
 use Rattle.ballbox.specs.declared.BallBox.{BallBox}
@@ -20,68 +23,63 @@ use Rattle.ballbox.proofs.Goodness.{stepped-good}
 use Rattle.ballbox.proofs.Refusals.{ruled}
 use Rattle.history.specs.Runs.{RunPromise, wordsGiven}
 use Rattle.history.specs.History.{whenAwake, whenAsleep, toldBy, nextBox, passagesOf, goingAfter}
-use Rattle.history.proofs.Carries.{Carries, same-line, Sends}
+use Rattle.history.proofs.Carries.{Alike, Carries, same-line, Sends}
 use Rattle.history.proofs.Slots.{slot-busy, slot-idle}
 use Rattle.history.proofs.Hosts.{host-busy, host-idle}
 
 -- a step without a word, which leaves the line, the format and the sleep as they are
-quiet : (b c : BallBox) (g : Going) → c .going ≡ b .going → c .settings .format ≡ b .settings .format → c .dormant ≡ b .dormant → Carries b g → Sends (box.quietly c) g (told [] g)
-quiet b c g l f d h = record { words = append-nil (goingWords g); carries = same-line g b c l f d h }
+quiet : (b c : BallBox) (g : UnderWay Message) → c .going ≡ b .going → Alike b c → Carries b g → Sends (quietly c) g (told [] g)
+quiet b c g l a h = record { words = append-nil (partWords messageBytes g); carries = same-line g b c l a h }
 
-pub buttons-line : (n : ℕ) (b : BallBox) → (onButtons n b .going ≡ b .going) × (onButtons n b .settings .format ≡ b .settings .format) × (onButtons n b .dormant ≡ b .dormant)
+alike : {b c : BallBox} → c .settings .format ≡ b .settings .format → c .dormant ≡ b .dormant → Alike b c
+alike f d = record { format = f; dormant = d }
+
+pub buttons-line : (n : ℕ) (b : BallBox) → (onButtons n b .going ≡ b .going) × Alike b (onButtons n b)
 unfolding onButtons
-buttons-line n b = go (eqb n (b .settings .buttons)) refl
-  where
-    go : (t : Bool) → eqb n (b .settings .buttons) ≡ t → (onButtons n b .going ≡ b .going) × (onButtons n b .settings .format ≡ b .settings .format) × (onButtons n b .dormant ≡ b .dormant)
-    go true e = rw e (refl, refl, refl)
-    go false e = rw e (refl, refl, refl)
+buttons-line n b =
+    cases (λ (c : BallBox). (c .going ≡ b .going) × Alike b c) (eqb n (b .settings .buttons)) (λ e. (refl, alike refl refl)) (λ e. (refl, alike refl refl))
 
-awake-host : (b : BallBox) (byte : ℕ) (g : Going) → b .dormant ≡ false → Carries b g → Sends (awake b (Host byte)) g (whenAwake b (Host byte) g)
+awake-host : (b : BallBox) (byte : ℕ) (g : UnderWay Message) → b .dormant ≡ false → Carries b g → Sends (awake b (Host byte)) g (whenAwake b (Host byte) g)
 unfolding awake
 awake-host b byte nothing d h = host-idle b byte d h
-awake-host b byte (report n f r) d h = host-busy b byte (report n f r) (h .rightly .left) d h
-awake-host b byte (replying n bytes) d h = host-busy b byte (replying n bytes) (h .rightly .left, h .rightly .short) d h
+awake-host b byte (first n m) d h = host-busy b byte n m d h
 
-awake-slot : (b : BallBox) (g : Going) → good b ≡ true → b .dormant ≡ false → Carries b g → Sends (awake b Slot) g (whenAwake b Slot g)
+awake-slot : (b : BallBox) (g : UnderWay Message) → good b ≡ true → b .dormant ≡ false → Carries b g → Sends (awake b Slot) g (whenAwake b Slot g)
 unfolding awake
 awake-slot b nothing k d h = slot-idle b k d h
-awake-slot b (report n f r) k d h = slot-busy b (report n f r) (h .rightly .left) h
-awake-slot b (replying n bytes) k d h = slot-busy b (replying n bytes) (h .rightly .left, h .rightly .short) h
+awake-slot b (first n m) k d h = slot-busy b n m h
 
-awake-sends : (b : BallBox) (e : Event) (g : Going) → good b ≡ true → b .dormant ≡ false → Carries b g → Sends (awake b e) g (whenAwake b e g)
+awake-sends : (b : BallBox) (e : Event) (g : UnderWay Message) → good b ≡ true → b .dormant ≡ false → Carries b g → Sends (awake b e) g (whenAwake b e g)
 unfolding awake onPeriod
-awake-sends b (Motion dx dy) g k d h = quiet b _ g refl refl refl h
-awake-sends b (Buttons n) g k d h =
-    let l = buttons-line n b in quiet b (onButtons n b) g (l .0) (l .1) (l .2) h
+awake-sends b (Motion dx dy) g k d h = quiet b _ g refl (alike refl refl) h
+awake-sends b (Buttons n) g k d h = let l = buttons-line n b in quiet b (onButtons n b) g (l .0) (l .1) h
 awake-sends b (Host byte) g k d h = awake-host b byte g d h
 awake-sends b Slot g k d h = awake-slot b g k d h
-awake-sends b Period g k d h = quiet b _ g refl refl refl h
+awake-sends b Period g k d h = quiet b _ g refl (alike refl refl) h
 
 -- a dormant box has nothing going
-idle-asleep : (b : BallBox) (e : Event) → Carries b nothing → Sends (asleep b e) nothing (whenAsleep b e nothing)
+idle-asleep : (b : BallBox) (e : Event) → bytesLeft b ≡ false → Sends (asleep b e) nothing (whenAsleep b e nothing)
 unfolding asleep woken goingFrom
-idle-asleep b (Motion dx dy) h = quiet b b nothing refl refl refl h
-idle-asleep b (Buttons n) h = quiet b b nothing refl refl refl h
-idle-asleep b (Host byte) h =
-    record { words = refl; carries = record { line = refl; rightly = record { left = lit< tt; short = lit≤ tt; awake = refl } } }
+idle-asleep b (Motion dx dy) h = record { words = refl; carries = h }
+idle-asleep b (Buttons n) h = record { words = refl; carries = h }
+idle-asleep b (Host byte) h = record { words = refl; carries = (refl, record { left = lit< tt; sendable = lit≤ tt; awake = refl }) }
 idle-asleep b Slot h = record { words = refl; carries = h }
-idle-asleep b Period h = quiet b b nothing refl refl refl h
+idle-asleep b Period h = record { words = refl; carries = h }
 
-asleep-sends : (b : BallBox) (e : Event) (g : Going) → b .dormant ≡ true → Carries b g → Sends (asleep b e) g (whenAsleep b e g)
+asleep-sends : (b : BallBox) (e : Event) (g : UnderWay Message) → b .dormant ≡ true → Carries b g → Sends (asleep b e) g (whenAsleep b e g)
 asleep-sends b e nothing d h = idle-asleep b e h
-asleep-sends b e (report n f r) d h = absurd (holds (sym (h .rightly .awake) ∙ d))
-asleep-sends b e (replying n bytes) d h = absurd (holds (sym (h .rightly .awake) ∙ d))
+asleep-sends b e (first n m) d h = absurd (holds (sym (h .1 .awake) ∙ d))
 
 -- every step of a good box
-pub told-is : (b : BallBox) (e : Event) (g : Going) (s : Bool) → aboveSeven e ≡ false → b .dormant ≡ s → toldBy b e g ≡ cond s (whenAsleep b e g) (whenAwake b e g)
+pub told-is : (b : BallBox) (e : Event) (g : UnderWay Message) (s : Bool) → aboveSeven e ≡ false → b .dormant ≡ s → toldBy b e g ≡ cond s (whenAsleep b e g) (whenAwake b e g)
 unfolding toldBy
 told-is b e g s p q = rw p (ap (λ (t : Bool). cond t (whenAsleep b e g) (whenAwake b e g)) q)
 
-refused-sends : (b : BallBox) (e : Event) (g : Going) → good b ≡ true → aboveSeven e ≡ true → Carries b g → Sends (stepOf b e) g (toldBy b e g)
+refused-sends : (b : BallBox) (e : Event) (g : UnderWay Message) → good b ≡ true → aboveSeven e ≡ true → Carries b g → Sends (stepOf b e) g (toldBy b e g)
 unfolding stepOf toldBy
-refused-sends b e g k p h = rw (k, p) (record { words = append-nil (goingWords g); carries = h })
+refused-sends b e g k p h = rw (k, p) (record { words = append-nil (partWords messageBytes g); carries = h })
 
-pub step-sends : (b : BallBox) (e : Event) (g : Going) → good b ≡ true → Carries b g → Sends (stepOf b e) g (toldBy b e g)
+pub step-sends : (b : BallBox) (e : Event) (g : UnderWay Message) → good b ≡ true → Carries b g → Sends (stepOf b e) g (toldBy b e g)
 step-sends b e g k h = go (aboveSeven e) refl (b .dormant) refl
   where
     go : (t : Bool) → aboveSeven e ≡ t → (s : Bool) → b .dormant ≡ s → Sends (stepOf b e) g (toldBy b e g)
@@ -90,15 +88,15 @@ step-sends b e g k h = go (aboveSeven e) refl (b .dormant) refl
     go false p false q = rw (ruled b e false k p q, told-is b e g false p q) (awake-sends b e g k q h)
 
 -- a box that carries what is going, and stays good
-abbrev Holds : BallBox → Going → Type 0
+abbrev Holds : BallBox → UnderWay Message → Type 0
 Holds b g = (good b ≡ true) × Carries b g
 
-step : (b : BallBox) (e : Event) (g : Going) → Holds b g → (goingWords g ++ stepOf b e .words ≡ passageWords (toldBy b e g .passages) ++ goingWords (toldBy b e g .going)) × Holds (nextBox b e) (toldBy b e g .going)
+step : (b : BallBox) (e : Event) (g : UnderWay Message) → Holds b g → (partWords messageBytes g ++ stepOf b e .words ≡ passageWords messageBytes (toldBy b e g .passages) ++ partWords messageBytes (toldBy b e g .going)) × Holds (nextBox b e) (toldBy b e g .going)
 step b e g h = let s = step-sends b e g (h .0) (h .1) in (s .words, (stepped-good b e (h .0), s .carries))
 
-rules-bridge : (b : BallBox) (events : List Event) → good b ≡ true → bytesLeft b ≡ false → givenOver nextBox (λ b e. stepOf b e .words) b events ≡ passageWords (passagesOf b nothing events) ++ goingWords (goingAfter b nothing events)
+rules-bridge : (b : BallBox) (events : List Event) → good b ≡ true → bytesLeft b ≡ false → givenOver nextBox (λ b e. stepOf b e .words) b events ≡ passageWords messageBytes (passagesOf b nothing events) ++ partWords messageBytes (goingAfter b nothing events)
 rules-bridge b events k h =
-    bridge nextBox (λ b e. stepOf b e .words) toldBy Holds step b nothing events (k, record { line = h; rightly = tt })
+    bridge messageBytes nextBox (λ b e. stepOf b e .words) toldBy Holds step b nothing events (k, h)
 
 -- any answers that the promise permits give the words of the rules
 permitted : (b : BallBox) (events : List Event) (answers : List Stepped) → RunPromise b events answers → wordsGiven answers ≡ givenOver nextBox (λ b e. stepOf b e .words) b events
@@ -107,10 +105,10 @@ permitted b [] [] p = refl
 permitted b [] (a ∷ answers) p = absurd p
 permitted b (e ∷ events) [] p = absurd p
 permitted b (e ∷ events) (a ∷ answers) p =
-    let n : a .next ≡ nextBox b e = ap (λ (x : box.Answer). x .next) (p .0) in
-    ap₂ _++_ (ap (λ (x : box.Answer). x .words) (p .0))
+    let n : a .next ≡ nextBox b e = ap (λ (x : box.Step). x .next) (p .0) in
+    ap₂ _++_ (ap (λ (x : box.Step). x .words) (p .0))
     (permitted (a .next) events answers (p .1) ∙ rw n)
 
 -- The words of a run are the words of its passages and of what is going after them: dormancy, format commands and replies included.
-pub run-passages : (b : BallBox) (events : List Event) (answers : List Stepped) → good b ≡ true → bytesLeft b ≡ false → RunPromise b events answers → wordsGiven answers ≡ passageWords (passagesOf b nothing events) ++ goingWords (goingAfter b nothing events)
+pub run-passages : (b : BallBox) (events : List Event) (answers : List Stepped) → good b ≡ true → bytesLeft b ≡ false → RunPromise b events answers → wordsGiven answers ≡ passageWords messageBytes (passagesOf b nothing events) ++ partWords messageBytes (goingAfter b nothing events)
 run-passages b events answers k h p = permitted b events answers p ∙ rules-bridge b events k h

@@ -6,72 +6,61 @@ use mathlib.Core.List.{List, [], _∷_, _++_}
 use native.Mathlib.Omega.{arith}
 use lib.ListN.{length, getD, List·getD-append}
 use lib.Seq.{getD-take}
-use Rattle.wire.specs.Line.{letterOf, sizeOf}
-use Rattle.wire.specs.Table.{bytesOf, five}
+use Rattle.frames.specs.Passages.{UnderWay, nothing, first, passageWords, partWords}
+use Rattle.frames.specs.Sender.{Told}
+use Rattle.wire.specs.Line.{letterOf}
+use Rattle.wire.specs.Table.{five}
 use Rattle.wire.specs.Holds.{accepted}
 use Rattle.wire.specs.Reading.{at}
-use Rattle.wire.specs.Passages.{Going, nothing, report, replying, goingWords, passageWords, Told}
-use Rattle.wire.specs.declared.Report.{Report}
-use Rattle.wire.specs.declared.Format.{Format}
+use Rattle.wire.specs.Messages.{Message, report, reply, messageBytes}
+use Rattle.wire.proofs.Front.{size-between}
+use Rattle.wire.proofs.Codec.{bytes-length}
 use Rattle.ballbox.specs.Box as box
 use Rattle.ballbox.specs.Events.{bytesLeft}
 use Rattle.ballbox.specs.declared.BallBox.{BallBox}
-use Rattle.ballbox.specs.declared.Going.{Going as Bytes}
+use Rattle.ballbox.specs.declared.Going.{Going}
 
 -- the box's bytes for it
-abbrev pub onLine : Going → Bytes
+abbrev pub onLine : UnderWay Message → Going
 onLine nothing = box.nothing
-onLine (report n f r) = record { length = sizeOf f; sent = n; bytes = five (bytesOf f r) }
-onLine (replying n bytes) = record { length = length bytes; sent = n; bytes = five bytes }
+onLine (first n m) = record { length = length (messageBytes m); sent = n; bytes = five (messageBytes m) }
 
--- a report of which bytes are left, in the format that is set; a reply of which bytes are left; the box is awake
-pub record ReportGoing (b : BallBox) (n : ℕ) (f : Format) (r : Report) : Type 0 where
-  pub set : b .settings .format ≡ letterOf f
-  pub left : n < sizeOf f
-  pub right : accepted f r ≡ true
+-- a report of the format that is set, which it holds; a reply of at most three bytes
+abbrev pub Sendable : BallBox → Message → Type 0
+Sendable b (report l) = (b .settings .format ≡ letterOf (l .format)) × (accepted (l .format) (l .report) ≡ true)
+Sendable b (reply bytes) = length bytes ≤ 3
+
+-- bytes of it are left, and the box is awake
+pub record Rightly (b : BallBox) (n : ℕ) (m : Message) : Type 0 where
+  pub left : n < length (messageBytes m)
+  pub sendable : Sendable b m
   pub awake : b .dormant ≡ false
 
-pub record ReplyGoing (b : BallBox) (n : ℕ) (bytes : List ℕ) : Type 0 where
-  pub left : n < length bytes
-  pub short : length bytes ≤ 3
-  pub awake : b .dormant ≡ false
+pub at-most-five : (b : BallBox) (m : Message) → Sendable b m → length (messageBytes m) ≤ 5
+at-most-five b (report l) s = omega (arith, bytes-length (l .format) (l .report), size-between (l .format) .1)
+at-most-five b (reply bytes) s = omega arith
 
-abbrev pub Rightly : BallBox → Going → Type 0
-Rightly b nothing = Unit {0}
-Rightly b (report n f r) = ReportGoing b n f r
-Rightly b (replying n bytes) = ReplyGoing b n bytes
+-- this is going in the box: it has no bytes left, or just these
+abbrev pub Carries : BallBox → UnderWay Message → Type 0
+Carries b nothing = bytesLeft b ≡ false
+Carries b (first n m) = (b .going ≡ onLine (first n m)) × Rightly b n m
 
--- the box has no bytes left, or just these
-abbrev pub OnLine : BallBox → Going → Type 0
-OnLine b nothing = bytesLeft b ≡ false
-OnLine b (report n f r) = b .going ≡ onLine (report n f r)
-OnLine b (replying n bytes) = b .going ≡ onLine (replying n bytes)
+-- a box with the format and the sleep of another
+pub record Alike (b c : BallBox) : Type 0 where
+  pub format : c .settings .format ≡ b .settings .format
+  pub dormant : c .dormant ≡ b .dormant
 
--- this is going in the box
-pub record Carries (b : BallBox) (g : Going) : Type 0 where
-  pub line : OnLine b g
-  pub rightly : Rightly b g
+still-sendable : (m : Message) (b c : BallBox) → c .settings .format ≡ b .settings .format → Sendable b m → Sendable c m
+still-sendable (report l) b c e s = (e ∙ s .0, s .1)
+still-sendable (reply bytes) b c e s = s
 
--- another box with the same line, format and sleep carries the same
-same-rightly : (g : Going) (b c : BallBox) → c .settings .format ≡ b .settings .format → c .dormant ≡ b .dormant → Rightly b g → Rightly c g
-same-rightly nothing b c f d h = tt
-same-rightly (report n f r) b c e d h =
-    record { set = e ∙ h .set; left = h .left; right = h .right; awake = d ∙ h .awake }
-same-rightly (replying n bytes) b c e d h = record { left = h .left; short = h .short; awake = d ∙ h .awake }
+pub still-rightly : (n k : ℕ) (m : Message) (b c : BallBox) → Alike b c → k < length (messageBytes m) → Rightly b n m → Rightly c k m
+still-rightly n k m b c a l h = record { left = l; sendable = still-sendable m b c (a .format) (h .sendable); awake = a .dormant ∙ h .awake }
 
-same-bytes : (g : Going) (b c : BallBox) → c .going ≡ b .going → OnLine b g → OnLine c g
-same-bytes nothing b c l h = rw l h
-same-bytes (report n f r) b c l h = l ∙ h
-same-bytes (replying n bytes) b c l h = l ∙ h
-
-pub same-line : (g : Going) (b c : BallBox) → c .going ≡ b .going → c .settings .format ≡ b .settings .format → c .dormant ≡ b .dormant → Carries b g → Carries c g
-same-line g b c l f d h = record { line = same-bytes g b c l (h .line); rightly = same-rightly g b c f d (h .rightly) }
-
--- bytes that are on the line
-pub to-line : (g : Going) (b : BallBox) → b .going ≡ onLine g → OnLine b g
-to-line nothing b h = rw h
-to-line (report n f r) b h = h
-to-line (replying n bytes) b h = h
+-- with the same line too it carries the same
+pub same-line : (g : UnderWay Message) (b c : BallBox) → c .going ≡ b .going → Alike b c → Carries b g → Carries c g
+same-line nothing b c l a h = rw l h
+same-line (first n m) b c l a h = (l ∙ h .0, still-rightly n n m b c a (h .1 .left) (h .1))
 
 -- a byte of some that are held in five places
 pub at-five : (bytes : List ℕ) (n : ℕ) → n < length bytes → length bytes ≤ 5 → at n (five bytes) ≡ getD bytes n 0
@@ -80,6 +69,6 @@ at-five bytes n h k =
     rw (getD-take 5 (bytes ++ (0 ∷ 0 ∷ 0 ∷ 0 ∷ 0 ∷ [])) n 0) (List·getD-append bytes (0 ∷ 0 ∷ 0 ∷ 0 ∷ 0 ∷ []) 0 n h)
 
 -- what an answer of the box does to the line
-pub record Sends (a : box.Answer) (g : Going) (t : Told) : Type 0 where
-  pub words : goingWords g ++ a .words ≡ passageWords (t .passages) ++ goingWords (t .going)
+pub record Sends (a : box.Step) (g : UnderWay Message) (t : Told Message) : Type 0 where
+  pub words : partWords messageBytes g ++ a .words ≡ passageWords messageBytes (t .passages) ++ partWords messageBytes (t .going)
   pub carries : Carries (a .next) (t .going)

@@ -4,24 +4,24 @@ use mathlib.Core.Path.{_≡_, refl}
 use mathlib.Core.Bool.{not}
 use mathlib.Core.List.{List, [], _∷_}
 use Rattle.numbers.proofs.Choices.{cases}
-use Rattle.ballbox.specs.Box.{Answer}
+use Rattle.ballbox.specs.Box.{Step}
 use Rattle.ballbox.specs.Events.{bytesLeft, latching, nextByte, sending, onHost, awake, asleep}
 use Rattle.ballbox.specs.Good.{good}
-use Rattle.ballbox.specs.Promises.{wordsOf, aboveSeven, stepOf, StepPromise}
+use Rattle.ballbox.specs.Promises.{sentWords, aboveSeven, stepOf, StepPromise}
 use Rattle.ballbox.specs.declared.BallBox.{BallBox}
 use Rattle.ballbox.specs.declared.Event.{Event}
 use Rattle.ballbox.specs.declared.Event.the-variants.{Motion, Buttons, Host, Slot, Period}
 use Rattle.history.specs.Runs.{RunPromise, sentAs, answerTo, answersTo}
 
 -- one word or none
-OneWord : Answer → Type 0
-OneWord a = wordsOf (sentAs (a .words)) ≡ a .words
+OneWord : Step → Type 0
+OneWord a = sentWords (sentAs (a .words)) ≡ a .words
 
 awake-one : (b : BallBox) (e : Event) → OneWord (awake b e)
 unfolding OneWord sentAs awake onHost sending nextByte
 awake-one b (Motion dx dy) = refl
 awake-one b (Buttons n) = refl
-awake-one b (Host byte) = cases (λ (words : List ℕ). wordsOf (sentAs words) ≡ words) (bytesLeft b) (λ e. refl) (λ e. refl)
+awake-one b (Host byte) = cases (λ (words : List ℕ). sentWords (sentAs words) ≡ words) (bytesLeft b) (λ e. refl) (λ e. refl)
 awake-one b Slot = cases OneWord (bytesLeft (latching b)) (λ e. refl) (λ e. refl)
 awake-one b Period = refl
 

@@ -2,22 +2,23 @@
 use mathlib.Core.Path.{_≡_, refl, _∙_, ap}
 use mathlib.Core.Bool.{Bool, true, false, cond}
 use mathlib.Core.List.{[], _∷_}
-use Rattle.wire.specs.Line.{letterOf, break}
-use Rattle.wire.specs.Passages.{nothing}
+use Rattle.frames.specs.Words.{break}
+use Rattle.wire.specs.Line.{letterOf}
+use Rattle.frames.specs.Passages.{nothing}
 use Rattle.wire.specs.declared.Format.{Format}
 use Rattle.wire.specs.declared.Format.the-variants.{Mm, Microsoft, Absolute, Relative, FiveByte, ThreeByte, Hexadecimal}
 use Rattle.ballbox.specs.Box as box
 use Rattle.ballbox.specs.Commands.{commandOf, obeyed}
-use Rattle.ballbox.specs.Events.{bytesLeft, dropped, onHost, awake}
+use Rattle.ballbox.specs.Events.{gives, bytesLeft, dropped, onHost, awake}
 use Rattle.ballbox.specs.Good.{good}
-use Rattle.ballbox.specs.Promises.{wordsOf, stepOf, StepPromise}
+use Rattle.ballbox.specs.Promises.{sentWords, stepOf, StepPromise}
 use Rattle.ballbox.specs.declared.BallBox.{BallBox}
 use Rattle.ballbox.specs.declared.Stepped.{Stepped}
 use Rattle.ballbox.specs.declared.Command.the-variants.{SetFormat}
 use Rattle.ballbox.specs.declared.Event.the-variants.{Host}
 use Rattle.ballbox.proofs.Goodness.{stepped-good}
 use Rattle.ballbox.proofs.Refusals.{ruled}
-use Rattle.history.proofs.Hosts.{dropped-idle}
+use Rattle.ballbox.proofs.Slots.{dropped-idle}
 use Rattle.history.proofs.Asking.{SetTo, dropped-alike}
 
 sets-format : (f : Format) → commandOf (letterOf f) ≡ SetFormat (letterOf f)
@@ -38,7 +39,7 @@ none-left b = go (bytesLeft b) refl
     go true e = rw e
     go false e = ap bytesLeft (dropped-idle b e) ∙ e
 
-set-by : (f : Format) (b : BallBox) → good b ≡ true → b .dormant ≡ false → stepOf b (Host (letterOf f)) ≡ box.gives (cond (bytesLeft b) (break ∷ []) []) (obeyed (SetFormat (letterOf f)) (dropped b))
+set-by : (f : Format) (b : BallBox) → good b ≡ true → b .dormant ≡ false → stepOf b (Host (letterOf f)) ≡ gives (cond (bytesLeft b) (break ∷ []) []) (obeyed (SetFormat (letterOf f)) (dropped b))
 unfolding awake onHost
 set-by f b k d = ruled b (Host (letterOf f)) false k refl d ∙ rw (sets-format f)
 
@@ -46,16 +47,16 @@ set-by f b k d = ruled b (Host (letterOf f)) false k refl d ∙ rw (sets-format 
 pub set-to : (f : Format) (b : BallBox) (a : Stepped) → good b ≡ true → b .dormant ≡ false → StepPromise b (Host (letterOf f)) a → SetTo f (a .next) nothing
 unfolding obeyed
 set-to f b a k d p =
-    let e : a .next ≡ obeyed (SetFormat (letterOf f)) (dropped b) = ap (λ (x : box.Answer). x .next) (p ∙ set-by f b k d) in
+    let e : a .next ≡ obeyed (SetFormat (letterOf f)) (dropped b) = ap (λ (x : box.Step). x .next) (p ∙ set-by f b k d) in
     rw e
     (record {
-      good = rw (← e) (ap (λ (x : box.Answer). good (x .next)) p ∙ stepped-good b (Host (letterOf f)) k);
+      good = rw (← e) (ap (λ (x : box.Step). good (x .next)) p ∙ stepped-good b (Host (letterOf f)) k);
       awake = dropped-alike b .dormant ∙ d;
       format = refl;
-      carries = record { line = none-left b; rightly = tt };
+      carries = none-left b;
       sound = tt;
     })
 
 -- and the word that it gave: 256 where bytes were left, or none
-pub set-words : (f : Format) (b : BallBox) (a : Stepped) → good b ≡ true → b .dormant ≡ false → StepPromise b (Host (letterOf f)) a → wordsOf (a .sent) ≡ cond (bytesLeft b) (break ∷ []) []
-set-words f b a k d p = ap (λ (x : box.Answer). x .words) (p ∙ set-by f b k d)
+pub set-words : (f : Format) (b : BallBox) (a : Stepped) → good b ≡ true → b .dormant ≡ false → StepPromise b (Host (letterOf f)) a → sentWords (a .sent) ≡ cond (bytesLeft b) (break ∷ []) []
+set-words f b a k d p = ap (λ (x : box.Step). x .words) (p ∙ set-by f b k d)

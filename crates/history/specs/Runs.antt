@@ -1,7 +1,7 @@
 -- A run: a list of events, and the answers of the public step to them.
 use Prim.Native.Nat.{ℕ}
 use mathlib.Core.List.{List, [], _∷_, _++_}
-use Rattle.ballbox.specs.Promises.{wordsOf, stepOf, StepPromise}
+use Rattle.ballbox.specs.Promises.{sentWords, stepOf, StepPromise}
 use Rattle.ballbox.specs.declared.BallBox.{BallBox}
 use Rattle.ballbox.specs.declared.Event.{Event}
 use Rattle.ballbox.specs.declared.Sent.{Sent}
@@ -18,7 +18,7 @@ RunPromise b (e ∷ events) (a ∷ answers) = StepPromise b e a × RunPromise (a
 -- the words that they give
 abbrev pub wordsGiven : List Stepped → List ℕ
 wordsGiven [] = []
-wordsGiven (a ∷ answers) = wordsOf (a .sent) ++ wordsGiven answers
+wordsGiven (a ∷ answers) = sentWords (a .sent) ++ wordsGiven answers
 
 -- the answers that the rules give: of a step, and of a run
 unfoldable pub sentAs : List ℕ → Sent

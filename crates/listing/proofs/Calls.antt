@@ -10,7 +10,7 @@ use lib.ListN.{length, getD, take, drop, length-append, length-take}
 use lib.Seq.{take-at}
 use Rattle.numbers.proofs.Choices.{cases}
 use Rattle.listing.specs.Listing.{listingOf}
-use Rattle.listing.specs.Machine.{Feed, stopped, fresh, byteOf, lastOf, feedIn, finishIn, good, passed, mostBytes}
+use Rattle.listing.specs.Machine.{Feed, stopped, fresh, fedByte, lastOf, feedIn, finishIn, good, passed, mostBytes}
 use Rattle.listing.specs.Promises.{enough, Whole, whole, written, feedOf, finishOf, FeedPromise, FinishPromise}
 use Rattle.listing.specs.Calls.{Call, Permitted, listerAfter, takenBy, writtenBy}
 use Rattle.listing.specs.declared.Lister.{Lister}
@@ -76,7 +76,7 @@ module _ (m : Lister) (input before after : List ℕ) (a : Listed) (g : good m �
   takes-all room = call-taken f before after a feeds ∙ pieces.all-taken input m (length before) room
 
   -- where it is not, the next byte's text has no room behind what was written
-  pub takes-what-it-can : a .taken < length input → length before < a .written + length (byteOf (a .next) (getD input (a .taken) 0) .text)
+  pub takes-what-it-can : a .taken < length input → length before < a .written + length (fedByte (a .next) (getD input (a .taken) 0) .text)
   takes-what-it-can h =
       rw (call-next f before after a feeds, call-written f before after a feeds, call-taken f before after a feeds)
       (pieces.takes-what-it-can input m (length before) (omega (arith, call-taken f before after a feeds)))

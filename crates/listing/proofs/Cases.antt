@@ -12,7 +12,7 @@ use Rattle.reader.specs.declared.Answer.the-variants as answer
 use Rattle.listing.specs.Lines.{width, mostLines}
 use Rattle.listing.specs.Items.{Item, H, Over, answerItems}
 use Rattle.listing.specs.Bytes.{lineD, lineR, bytesOf, allBytes}
-use Rattle.listing.specs.Machine.{Saying, saying, wrong, endedAt, obeyed, takenOf, endOf}
+use Rattle.listing.specs.Machine.{Saying, saying, wrong, endedAt, lineObeyed, takenOf, endOf}
 use Rattle.listing.specs.Texts.{said}
 use Rattle.listing.specs.declared.Line.{Line}
 use Rattle.listing.specs.declared.Place.{Place}
@@ -28,12 +28,12 @@ module _ (p : Place) (l : Line) where
   unfolding takenOf
   over h k = rw (h, le-leb mostLines (p .line) k)
 
-  pub runs : p .ended ≡ false → p .line < mostLines → takenOf p l ≡ obeyed p (p .line + 1) l
+  pub runs : p .ended ≡ false → p .line < mostLines → takenOf p l ≡ lineObeyed p (p .line + 1) l
   unfolding takenOf
   runs h k = rw (h, lt-leb mostLines (p .line) k)
 
-  pub runs-as : (m : Line) → p .ended ≡ false → p .line < mostLines → l ≡ m → takenOf p l ≡ obeyed p (p .line + 1) m
-  runs-as m h k e = runs h k ∙ ap (obeyed p (p .line + 1)) e
+  pub runs-as : (m : Line) → p .ended ≡ false → p .line < mostLines → l ≡ m → takenOf p l ≡ lineObeyed p (p .line + 1) m
+  runs-as m h k e = runs h k ∙ ap (lineObeyed p (p .line + 1)) e
 
 -- the input ends
 module _ (p : Place) where

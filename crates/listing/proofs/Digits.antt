@@ -6,13 +6,13 @@ use Prim.Native.Nat.{ℕ, _<_, _≤_}
 use lib.Dec.{leb, eqb}
 use borrow.Author.Tests.{leb-true, le-leb, lt-leb}
 use Rattle.numbers.proofs.Tested.{left, right}
-use Rattle.listing.specs.Lines.{isDigit, allDigits, noLeadingZero, valueOf, byteIn}
+use Rattle.listing.specs.Lines.{isDecimal, allDigits, noLeadingZero, valueOf, byteIn}
 use Rattle.listing.specs.declared.Line.the-variants as line
 
-pub low : (c : ℕ) → isDigit c ≡ true → 48 ≤ c
+pub low : (c : ℕ) → isDecimal c ≡ true → 48 ≤ c
 low c h = leb-true 48 c (left (leb 48 c) (leb c 57) h)
 
-pub high : (c : ℕ) → isDigit c ≡ true → c ≤ 57
+pub high : (c : ℕ) → isDecimal c ≡ true → c ≤ 57
 high c h = leb-true c 57 (right (leb 48 c) (leb c 57) h)
 
 -- a decimal is good, is bad, is too big
@@ -45,46 +45,46 @@ three-test true false c n t e = e
 three-test false b c n t e = e
 
 -- two digits: what the code's test says
-module _ (r s : Bool) (c d : ℕ) (p : r ≡ isDigit c) (q : s ≡ isDigit d) where
-  two-is : (t : Bool) → r && s && not (eqb c 48) ≡ t → isDigit c && isDigit d && not (eqb c 48) ≡ t
+module _ (r s : Bool) (c d : ℕ) (p : r ≡ isDecimal c) (q : s ≡ isDecimal d) where
+  two-is : (t : Bool) → r && s && not (eqb c 48) ≡ t → isDecimal c && isDecimal d && not (eqb c 48) ≡ t
   two-is t e = rw (← p, ← q) e
 
   pub two-no : r && s && not (eqb c 48) ≡ false → line.Bad ≡ byteIn (c ∷ d ∷ [])
-  two-no e = bad (c ∷ d ∷ []) (two-test (isDigit c) (isDigit d) (not (eqb c 48)) false (two-is false e))
+  two-no e = bad (c ∷ d ∷ []) (two-test (isDecimal c) (isDecimal d) (not (eqb c 48)) false (two-is false e))
 
   pub two-yes : r && s && not (eqb c 48) ≡ true → allDigits (c ∷ d ∷ []) && noLeadingZero (c ∷ d ∷ []) ≡ true
-  two-yes e = two-test (isDigit c) (isDigit d) (not (eqb c 48)) true (two-is true e)
+  two-yes e = two-test (isDecimal c) (isDecimal d) (not (eqb c 48)) true (two-is true e)
 
   module _ (e : r && s && not (eqb c 48) ≡ true) where
-    both : isDigit c && isDigit d ≡ true
-    both = left (isDigit c && isDigit d) (not (eqb c 48)) (two-is true e)
+    both : isDecimal c && isDecimal d ≡ true
+    both = left (isDecimal c && isDecimal d) (not (eqb c 48)) (two-is true e)
 
-    pub two-c : isDigit c ≡ true
-    two-c = left (isDigit c) (isDigit d) both
+    pub two-c : isDecimal c ≡ true
+    two-c = left (isDecimal c) (isDecimal d) both
 
-    pub two-d : isDigit d ≡ true
-    two-d = right (isDigit c) (isDigit d) both
+    pub two-d : isDecimal d ≡ true
+    two-d = right (isDecimal c) (isDecimal d) both
 
 -- three
-module _ (r s u : Bool) (c d f : ℕ) (p : r ≡ isDigit c) (q : s ≡ isDigit d) (o : u ≡ isDigit f) where
-  three-is : (t : Bool) → r && s && u && not (eqb c 48) ≡ t → isDigit c && isDigit d && isDigit f && not (eqb c 48) ≡ t
+module _ (r s u : Bool) (c d f : ℕ) (p : r ≡ isDecimal c) (q : s ≡ isDecimal d) (o : u ≡ isDecimal f) where
+  three-is : (t : Bool) → r && s && u && not (eqb c 48) ≡ t → isDecimal c && isDecimal d && isDecimal f && not (eqb c 48) ≡ t
   three-is t e = rw (← p, ← q, ← o) e
 
   pub three-no : r && s && u && not (eqb c 48) ≡ false → line.Bad ≡ byteIn (c ∷ d ∷ f ∷ [])
-  three-no e = bad (c ∷ d ∷ f ∷ []) (three-test (isDigit c) (isDigit d) (isDigit f) (not (eqb c 48)) false (three-is false e))
+  three-no e = bad (c ∷ d ∷ f ∷ []) (three-test (isDecimal c) (isDecimal d) (isDecimal f) (not (eqb c 48)) false (three-is false e))
 
   pub three-yes : r && s && u && not (eqb c 48) ≡ true → allDigits (c ∷ d ∷ f ∷ []) && noLeadingZero (c ∷ d ∷ f ∷ []) ≡ true
-  three-yes e = three-test (isDigit c) (isDigit d) (isDigit f) (not (eqb c 48)) true (three-is true e)
+  three-yes e = three-test (isDecimal c) (isDecimal d) (isDecimal f) (not (eqb c 48)) true (three-is true e)
 
   module _ (e : r && s && u && not (eqb c 48) ≡ true) where
-    all : isDigit c && isDigit d && isDigit f ≡ true
-    all = left (isDigit c && isDigit d && isDigit f) (not (eqb c 48)) (three-is true e)
+    all : isDecimal c && isDecimal d && isDecimal f ≡ true
+    all = left (isDecimal c && isDecimal d && isDecimal f) (not (eqb c 48)) (three-is true e)
 
-    pub three-c : isDigit c ≡ true
-    three-c = left (isDigit c) (isDigit d) (left (isDigit c && isDigit d) (isDigit f) all)
+    pub three-c : isDecimal c ≡ true
+    three-c = left (isDecimal c) (isDecimal d) (left (isDecimal c && isDecimal d) (isDecimal f) all)
 
-    pub three-d : isDigit d ≡ true
-    three-d = right (isDigit c) (isDigit d) (left (isDigit c && isDigit d) (isDigit f) all)
+    pub three-d : isDecimal d ≡ true
+    three-d = right (isDecimal c) (isDecimal d) (left (isDecimal c && isDecimal d) (isDecimal f) all)
 
-    pub three-f : isDigit f ≡ true
-    three-f = right (isDigit c && isDigit d) (isDigit f) all
+    pub three-f : isDecimal f ≡ true
+    three-f = right (isDecimal c && isDecimal d) (isDecimal f) all

@@ -11,7 +11,7 @@ use borrow.Author.Tests.{ne-eqb, ltb-true, le-ltb, leb-false}
 use Rattle.numbers.proofs.Choices.{cases}
 use Rattle.listing.specs.Lines.{width, mostLines, newline, saidBy}
 use Rattle.listing.specs.Bytes.{allBytes}
-use Rattle.listing.specs.Machine.{Saying, Turning, Feed, atFirst, formatted, worded, obeyed, takenOf, endOf, atLine, unfinished, lineEnds, byteOf, closedOf, lastOf, feedIn, passed, mostBytes}
+use Rattle.listing.specs.Machine.{Saying, Turning, Feed, atFirst, formatted, worded, lineObeyed, takenOf, endOf, atLine, unfinished, lineEnds, fedByte, closedOf, lastOf, feedIn, passed, mostBytes}
 use Rattle.listing.specs.declared.Line.{Line}
 use Rattle.listing.specs.declared.Line.the-variants as line
 use Rattle.listing.specs.declared.Lister.{Lister}
@@ -19,16 +19,16 @@ use Rattle.listing.proofs.Cases.{done, end-done}
 use Rattle.listing.proofs.Whole.{allOf, bad-ends, ended-opened}
 
 -- SIXTH: behind five bytes a byte that is no newline makes the line bad, and the listing ends
-pub sixth-bad : (m : Lister) (c : ℕ) → m .count ≡ 5 → (c ≡ newline → ⊥) → byteOf m c ≡ lineEnds m (takenOf (m .place) line.Bad)
-unfolding byteOf
+pub sixth-bad : (m : Lister) (c : ℕ) → m .count ≡ 5 → (c ≡ newline → ⊥) → fedByte m c ≡ lineEnds m (takenOf (m .place) line.Bad)
+unfolding fedByte
 sixth-bad m c h n = rw (ne-eqb c newline n, le-ltb (m .count) 5 (omega arith))
 
-pub sixth-ends : (m : Lister) (c : ℕ) → m .count ≡ 5 → (c ≡ newline → ⊥) → byteOf m c .next .place .ended ≡ true
+pub sixth-ends : (m : Lister) (c : ℕ) → m .count ≡ 5 → (c ≡ newline → ⊥) → fedByte m c .next .place .ended ≡ true
 sixth-ends m c h n = ap (λ (t : Turning). t .next .place .ended) (sixth-bad m c h n) ∙ bad-ends (m .place)
 
 -- a lister that has ended stays so
-ended-stays : (m : Lister) (c : ℕ) → m .place .ended ≡ true → byteOf m c .next .place .ended ≡ true
-unfolding byteOf
+ended-stays : (m : Lister) (c : ℕ) → m .place .ended ≡ true → fedByte m c .next .place .ended ≡ true
+unfolding fedByte
 ended-stays m c h =
     let P : Turning → Type 0 = λ t. t .next .place .ended ≡ true in
     cases P (eqb c newline) (λ _. ap (λ (s : Saying). s .next .ended) (done (m .place) (saidBy (unfinished m)) h) ∙ h)
@@ -38,8 +38,8 @@ pub stays-ended : (input : List ℕ) (m : Lister) (room : ℕ) → m .place .end
 unfolding feedIn
 stays-ended [] m room h = h
 stays-ended (c ∷ cs) m room h =
-    cases (λ (f : Feed). f .next .place .ended ≡ true) (ltb room (length (byteOf m c .text))) (λ _. h)
-    (λ _. stays-ended cs (byteOf m c .next) (room - length (byteOf m c .text)) (ended-stays m c h))
+    cases (λ (f : Feed). f .next .place .ended ≡ true) (ltb room (length (fedByte m c .text))) (λ _. h)
+    (λ _. stays-ended cs (fedByte m c .next) (room - length (fedByte m c .text)) (ended-stays m c h))
 
 -- a byte ends the listing or brings the lister on, and it stays within the lines
 abbrev pub Within : Lister → Type 0
@@ -55,13 +55,13 @@ line-on m l h =
     cases P (m .place .ended) (λ e. inl e)
     (λ _. cases P (leb mostLines (m .place .line)) (λ _. inl refl) (λ e. go l (leb-false _ _ e)))
   where
-    go : (l : Line) → m .place .line < mostLines → On m (atLine (obeyed (m .place) (m .place .line + 1) l .next))
+    go : (l : Line) → m .place .line < mostLines → On m (atLine (lineObeyed (m .place) (m .place .line + 1) l .next))
     go line.Bad k = inl refl
     go (line.Format f) k = cases (λ (s : Saying). On m (atLine (s .next))) (atFirst (m .place)) (λ _. inr (omega arith, (omega arith, omega arith))) (λ _. inl refl)
     go (line.Word w) k = cases (λ (s : Saying). On m (atLine (s .next))) (atFirst (m .place)) (λ _. inl refl) (λ _. inr (omega arith, (omega arith, omega arith)))
 
-byte-on : (m : Lister) (c : ℕ) → Within m → On m (byteOf m c .next)
-unfolding byteOf
+byte-on : (m : Lister) (c : ℕ) → Within m → On m (fedByte m c .next)
+unfolding fedByte
 byte-on m c h =
     let P : Turning → Type 0 = λ t. On m (t .next) in
     cases P (eqb c newline) (λ _. line-on m (saidBy (unfinished m)) h)
@@ -73,14 +73,14 @@ pub piece-on : (input : List ℕ) (m : Lister) (room : ℕ) → Within m → let
 unfolding feedIn
 piece-on [] m room h = inr (omega arith, h)
 piece-on (c ∷ cs) m room h =
-    cases (λ (f : Feed). (f .next .place .ended ≡ true) ⊎ ((passed m + f .taken ≤ passed (f .next)) × Within (f .next))) (ltb room (length (byteOf m c .text)))
-    (λ _. inr (omega arith, h)) (λ _. go (piece-on cs (byteOf m c .next) (room - length (byteOf m c .text))) (byte-on m c h))
+    cases (λ (f : Feed). (f .next .place .ended ≡ true) ⊎ ((passed m + f .taken ≤ passed (f .next)) × Within (f .next))) (ltb room (length (fedByte m c .text)))
+    (λ _. inr (omega arith, h)) (λ _. go (piece-on cs (fedByte m c .next) (room - length (fedByte m c .text))) (byte-on m c h))
   where
-    go : (let f = feedIn (byteOf m c .next) cs (room - length (byteOf m c .text)) in
-        Within (byteOf m c .next) → (f .next .place .ended ≡ true) ⊎ ((passed (byteOf m c .next) + f .taken ≤ passed (f .next)) × Within (f .next)))
-        → On m (byteOf m c .next) → let f = feedIn (byteOf m c .next) cs (room - length (byteOf m c .text)) in
+    go : (let f = feedIn (fedByte m c .next) cs (room - length (fedByte m c .text)) in
+        Within (fedByte m c .next) → (f .next .place .ended ≡ true) ⊎ ((passed (fedByte m c .next) + f .taken ≤ passed (f .next)) × Within (f .next)))
+        → On m (fedByte m c .next) → let f = feedIn (fedByte m c .next) cs (room - length (fedByte m c .text)) in
         (f .next .place .ended ≡ true) ⊎ ((passed m + (1 + f .taken) ≤ passed (f .next)) × Within (f .next))
-    go ih (inl q) = inl (stays-ended cs (byteOf m c .next) (room - length (byteOf m c .text)) q)
+    go ih (inl q) = inl (stays-ended cs (fedByte m c .next) (room - length (fedByte m c .text)) q)
     go ih (inr q) = ⊎-elim (λ e. inl e) (λ k. inr (omega (arith, k .0, q .0), k .1)) (ih (q .1))
 
 -- so many bytes no lister has passed
@@ -89,11 +89,11 @@ never-passed m h = omega arith
 
 -- QUIET: a lister that has ended writes nothing more
 pub quiet : (input : List ℕ) (m : Lister) → m .place .ended ≡ true → allOf m input ≡ []
-unfolding allOf byteOf lastOf closedOf
+unfolding allOf fedByte lastOf closedOf
 quiet [] m h = rw (ended-opened m h) (cases (λ (s : Saying). allBytes width (s .items ++ endOf (s .next) .items) ≡ []) (eqb (m .count) 0) (λ _. rw (end-done (m .place) h)) (λ _. rw (done (m .place) (saidBy (unfinished m)) h, end-done (m .place) h)))
-quiet (c ∷ cs) m h = rw (none, quiet cs (byteOf m c .next) (ended-stays m c h))
+quiet (c ∷ cs) m h = rw (none, quiet cs (fedByte m c .next) (ended-stays m c h))
   where
-    none : byteOf m c .text ≡ []
+    none : fedByte m c .text ≡ []
     none =
         let P : Turning → Type 0 = λ t. t .text ≡ [] in
         cases P (eqb c newline) (λ _. rw (ended-opened m h, done (m .place) (saidBy (unfinished m)) h))

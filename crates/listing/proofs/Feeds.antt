@@ -14,7 +14,7 @@ use Rattle.numbers.proofs.Tested.{left, right}
 use Rattle.text.specs.Growth.{shown, textOf, fitsAt, putOf}
 use Rattle.text.specs.declared.Text.{Text}
 use Rattle.text.proofs.Laws.{text-shows, text-long, put-none}
-use Rattle.listing.specs.Machine.{Feed, stopped, joined, byteOf, lastOf, feedIn, finishIn, good}
+use Rattle.listing.specs.Machine.{Feed, stopped, joined, fedByte, lastOf, feedIn, finishIn, good}
 use Rattle.listing.specs.Promises.{whole, written, feedOf, finishOf}
 use Rattle.listing.specs.declared.Lister.{Lister}
 use Rattle.listing.specs.declared.Listed.{Listed}
@@ -66,7 +66,7 @@ pub ends-all : (input : List ℕ) (m : Lister) (at room : ℕ) → length input 
 unfolding feedIn
 ends-all input m at room h = rw (drop-of-length-le input h)
 
-module _ (input out : List ℕ) (m : Lister) (at used : ℕ) (text : List ℕ) (left : at < length input) (is : text ≡ byteOf m (getD input at 0) .text) where
+module _ (input out : List ℕ) (m : Lister) (at used : ℕ) (text : List ℕ) (left : at < length input) (is : text ≡ fedByte m (getD input at 0) .text) where
   input-is : drop at input ≡ getD input at 0 ∷ drop (at + 1) input
   input-is = rw add-one (drop-cons input at 0 left)
 
@@ -87,14 +87,14 @@ module _ (input out : List ℕ) (m : Lister) (at used : ℕ) (text : List ℕ) (
     done : take (used + n) out′ ≡ take used out ++ text
     done = rw wrote (take-at (take used out ++ text) (drop (used + n) out) (used + n) front)
 
-    goes : feedIn m (drop at input) (length out - used) ≡ joined 1 text (feedIn (byteOf m (getD input at 0) .next) (drop (at + 1) input) (length out - used - length text))
+    goes : feedIn m (drop at input) (length out - used) ≡ joined 1 text (feedIn (fedByte m (getD input at 0) .next) (drop (at + 1) input) (length out - used - length text))
     unfolding feedIn
     goes = let h : length text ≤ length out - used = omega arith in rw (input-is, sym is, le-ltb _ _ h)
 
     left-room : length out′ - (used + n) ≡ length out - used - length text
     left-room = omega (arith, long)
 
-    pub again : standing input out′ (byteOf m (getD input at 0) .next) (at + 1) (used + n) ≡ standing input out m at used
+    pub again : standing input out′ (fedByte m (getD input at 0) .next) (at + 1) (used + n) ≡ standing input out m at used
     again = rw (done, left-room, goes) (sym (joined-joined at 1 (take used out) text _))
 
 -- what is left of two lists after more

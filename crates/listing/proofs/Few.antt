@@ -14,12 +14,12 @@ use Rattle.text.proofs.Laws.{on-cond, digits-long, number-long, signed-long}
 use Rattle.listing.specs.Lines.{width, mostLines, newline, tab, saidBy}
 use Rattle.listing.specs.Items.{E, answerItems}
 use Rattle.listing.specs.Bytes.{buttonsOf, sumOf, lineD, lineR, lineH, lineE, lineOver, allBytes}
-use Rattle.listing.specs.Machine.{Saying, Turning, atFirst, formatted, worded, obeyed, takenOf, endOf, unfinished, unopened, frontOf, byteOf, closedOf, lastOf}
+use Rattle.listing.specs.Machine.{Saying, Turning, atFirst, formatted, worded, lineObeyed, takenOf, endOf, unfinished, unopened, frontOf, fedByte, closedOf, lastOf}
 use Rattle.listing.specs.declared.Line.{Line}
 use Rattle.listing.specs.declared.Line.the-variants as line
 use Rattle.listing.specs.declared.Place.{Place}
 use Rattle.listing.specs.declared.Lister.{Lister}
-use Rattle.listing.proofs.Grown.{all-apart}
+use Rattle.listing.proofs.Grown.{all-append}
 
 -- two lists, one behind the other
 both-few : (a b : List ℕ) (m n : ℕ) → length a ≤ m → length b ≤ n → length (a ++ b) ≤ m + n
@@ -67,7 +67,7 @@ few-answer letter n answer.Nothing = omega arith
 few-answer letter n (answer.Report p) = single-few (lineR width n letter p) (few-R n letter p)
 few-answer letter n (answer.Dropped k) = single-few (lineD width n k) (omega (arith, few-D n k))
 
-few-obeyed : (p : Place) (n : ℕ) (l : Line) → Few 25 (obeyed p n l)
+few-obeyed : (p : Place) (n : ℕ) (l : Line) → Few 25 (lineObeyed p n l)
 unfolding formatted worded
 few-obeyed p n line.Bad = few-wrong n
 few-obeyed p n (line.Format f) = on-cond (Few 25) (atFirst p) _ _ (omega arith) (few-wrong n)
@@ -92,8 +92,8 @@ unfolding closedOf
 few-closed m = on-cond (Few 25) (eqb (m .count) 0) _ _ (omega arith) (few-taken (m .place) (saidBy (unfinished m)))
 
 -- what a byte writes, and what the end does
-pub few-byte : (m : Lister) (c : ℕ) → length (byteOf m c .text) ≤ 40
-unfolding byteOf
+pub few-byte : (m : Lister) (c : ℕ) → length (fedByte m c .text) ≤ 40
+unfolding fedByte
 few-byte m c =
     let P : Turning → Type 0 = λ t. length (t .text) ≤ 40 in
     on-cond P (eqb c newline) _ _ (line-few (saidBy (unfinished m))) (on-cond P (ltb (m .count) 5) _ _ (omega (arith, few-front m)) (line-few line.Bad))
@@ -106,5 +106,5 @@ unfolding lastOf
 few-last m =
     let s = closedOf m in
     let e = endOf (s .next) in
-    let a : length (allBytes width (s .items ++ e .items)) ≤ 32 = rw (all-apart width (s .items) (e .items)) (omega (arith, both-few (allBytes width (s .items)) (allBytes width (e .items)) 25 7 (few-closed m) (few-end (s .next)))) in
+    let a : length (allBytes width (s .items ++ e .items)) ≤ 32 = rw (all-append width (s .items) (e .items)) (omega (arith, both-few (allBytes width (s .items)) (allBytes width (e .items)) 25 7 (few-closed m) (few-end (s .next)))) in
     omega (arith, both-few (frontOf m) (allBytes width (s .items ++ e .items)) 4 32 (few-front m) a)

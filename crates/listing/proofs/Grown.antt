@@ -11,13 +11,13 @@ use Rattle.listing.specs.Items.{Item}
 use Rattle.listing.specs.Bytes.{bytesOf, allBytes}
 use Rattle.text.proofs.Laws.{both}
 
-pub apart : (t : Text) (a b : List ℕ) → grownBy t (a ++ b) ≡ grownBy (grownBy t a) b
-apart t a b = sym (both t a b)
+pub grown-append : (t : Text) (a b : List ℕ) → grownBy t (a ++ b) ≡ grownBy (grownBy t a) b
+grown-append t a b = sym (both t a b)
 
 -- the lines of items behind those of others
-pub all-apart : (w : ℕ) (a b : List Item) → allBytes w (a ++ b) ≡ allBytes w a ++ allBytes w b
-all-apart w [] b = refl
-all-apart w (i ∷ a) b = rw (all-apart w a b) (sym (append-assoc (bytesOf w i) (allBytes w a) (allBytes w b)))
+pub all-append : (w : ℕ) (a b : List Item) → allBytes w (a ++ b) ≡ allBytes w a ++ allBytes w b
+all-append w [] b = refl
+all-append w (i ∷ a) b = rw (all-append w a b) (sym (append-assoc (bytesOf w i) (allBytes w a) (allBytes w b)))
 
 -- the lowest bit
 pub low-bit : (n : ℕ) → bit 0 n ≡ eqb (n % 2) 1

@@ -15,7 +15,7 @@ use Rattle.reader.specs.declared.Reader.{Reader}
 use Rattle.numbers.proofs.Choices.{cases}
 use Rattle.reader.proofs.Goodness as read
 use Rattle.listing.specs.Lines.{mostLines, newline, saidBy}
-use Rattle.listing.specs.Machine.{Saying, Turning, Feed, endedAt, atFirst, formatted, worded, obeyed, takenOf, endOf, atLine, fresh, unfinished, byteOf, closedOf, lastOf, feedIn, finishIn, good}
+use Rattle.listing.specs.Machine.{Saying, Turning, Feed, endedAt, atFirst, formatted, worded, lineObeyed, takenOf, endOf, atLine, fresh, unfinished, fedByte, closedOf, lastOf, feedIn, finishIn, good}
 use Rattle.listing.specs.declared.Line.{Line}
 use Rattle.listing.specs.declared.Line.the-variants as line
 use Rattle.listing.specs.declared.Place.{Place}
@@ -52,7 +52,7 @@ pub fresh-is-good : good fresh ≡ true
 unfolding freshOf known namedBy
 fresh-is-good = made fresh (record { few = omega arith; reads = fresh-good 0x55 }) (omega arith)
 
-obeyed-kept : (p : Place) (l : Line) → Kept p → p .line < mostLines → Kept (obeyed p (p .line + 1) l .next)
+obeyed-kept : (p : Place) (l : Line) → Kept p → p .line < mostLines → Kept (lineObeyed p (p .line + 1) l .next)
 unfolding formatted worded
 obeyed-kept p line.Bad k h = record { few = k .few; reads = k .reads }
 obeyed-kept p (line.Format f) k h =
@@ -75,8 +75,8 @@ end-kept p k =
     let e : Kept (endedAt p) = record { few = k .few; reads = k .reads } in
     cases P (p .ended) (λ _. k) (λ _. cases P (atFirst p) (λ _. e) (λ _. e))
 
-pub byte-stays-good : (m : Lister) (c : ℕ) → good m ≡ true → good (byteOf m c .next) ≡ true
-unfolding byteOf
+pub byte-stays-good : (m : Lister) (c : ℕ) → good m ≡ true → good (fedByte m c .next) ≡ true
+unfolding fedByte
 byte-stays-good m c g =
     let P : Turning → Type 0 = λ t. good (t .next) ≡ true in
     let at : (l : Line) → good (atLine (takenOf (m .place) l .next)) ≡ true = λ l. made (atLine (takenOf (m .place) l .next)) (taken-kept (m .place) l (kept m g)) (omega arith) in
@@ -87,8 +87,8 @@ pub feed-stays-good : (input : List ℕ) (m : Lister) (room : ℕ) → good m �
 unfolding feedIn
 feed-stays-good [] m room g = g
 feed-stays-good (c ∷ cs) m room g =
-    cases (λ (f : Feed). good (f .next) ≡ true) (ltb room (length (byteOf m c .text))) (λ _. g)
-    (λ _. feed-stays-good cs (byteOf m c .next) (room - length (byteOf m c .text)) (byte-stays-good m c g))
+    cases (λ (f : Feed). good (f .next) ≡ true) (ltb room (length (fedByte m c .text))) (λ _. g)
+    (λ _. feed-stays-good cs (fedByte m c .next) (room - length (fedByte m c .text)) (byte-stays-good m c g))
 
 pub finish-stays-good : (m : Lister) (room : ℕ) → good m ≡ true → good (finishIn m room .next) ≡ true
 unfolding finishIn lastOf closedOf

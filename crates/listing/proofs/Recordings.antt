@@ -10,7 +10,7 @@ use Rattle.reader.specs.Promises.{freshOf, stepOf}
 use Rattle.reader.specs.declared.Reader.{Reader}
 use Rattle.listing.specs.Lines.{mostLines, saidBy, numbered, wordsAfter, opened, recordingOf}
 use Rattle.listing.specs.Items.{Item, answerItems, wordItems, itemsOf}
-use Rattle.listing.specs.Machine.{Saying, endedAt, formatted, worded, obeyed, takenOf, endOf, fresh}
+use Rattle.listing.specs.Machine.{Saying, endedAt, formatted, worded, lineObeyed, takenOf, endOf, fresh}
 use Rattle.listing.specs.declared.Line.{Line}
 use Rattle.listing.specs.declared.Line.the-variants as line
 use Rattle.listing.specs.declared.Place.{Place}
@@ -39,7 +39,7 @@ some : (n : ℕ) → 1 ≤ n → eqb n 0 ≡ false
 some n h = ne-eqb n 0 (λ e. omega arith)
 
 on-line : (ls : List (List ℕ)) → Rest ls → (n : ℕ) (r : Reader) (l : Line) → 1 ≤ n
-    → obeyed (among n r) (n + 1) l .items ++ linesFrom (obeyed (among n r) (n + 1) l .next) ls
+    → lineObeyed (among n r) (n + 1) l .items ++ linesFrom (lineObeyed (among n r) (n + 1) l .next) ls
     ≡ wordItems r (numbered (n + 1) l (wordsAfter (n + 1) ls) .words) (numbered (n + 1) l (wordsAfter (n + 1) ls) .ending)
 unfolding formatted worded wordItems
 on-line ls ih n r line.Bad h = rw (after-end ls (endedAt (among n r)) refl)
@@ -62,7 +62,7 @@ unfolding linesFrom recordingOf endOf formatted worded
 by-lines [] = refl
 by-lines (l ∷ ls) = rw (runs (fresh .place) (saidBy l) refl (omega arith)) (go (saidBy l))
   where
-    go : (l : Line) → obeyed (fresh .place) 1 l .items ++ linesFrom (obeyed (fresh .place) 1 l .next) ls ≡ itemsOf (opened l (wordsAfter 1 ls))
+    go : (l : Line) → lineObeyed (fresh .place) 1 l .items ++ linesFrom (lineObeyed (fresh .place) 1 l .next) ls ≡ itemsOf (opened l (wordsAfter 1 ls))
     go line.Bad = rw (after-end ls (endedAt (fresh .place)) refl)
     go (line.Format f) = rest ls 1 (freshOf f .reader) (omega arith)
     go (line.Word w) = rw (after-end ls (endedAt (fresh .place)) refl)

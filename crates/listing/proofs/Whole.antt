@@ -14,19 +14,19 @@ use Rattle.listing.specs.Lines.{width, mostLines, newline, front, linesI
 use Rattle.listing.specs.Items.{Item}
 use Rattle.listing.specs.Bytes.{allBytes, opening}
 use Rattle.listing.specs.Listing.{listingOf}
-use Rattle.listing.specs.Machine.{Saying, endedAt, atFirst, formatted, worded, obeyed, takenOf, atLine, fresh, unfinished, frontOf, byteOf, closedOf, lastOf}
+use Rattle.listing.specs.Machine.{Saying, endedAt, atFirst, formatted, worded, lineObeyed, takenOf, atLine, fresh, unfinished, frontOf, fedByte, closedOf, lastOf}
 use Rattle.listing.specs.declared.Line.{Line}
 use Rattle.listing.specs.declared.Line.the-variants as line
 use Rattle.listing.specs.declared.Place.{Place}
 use Rattle.listing.specs.declared.Lister.{Lister}
-use Rattle.listing.proofs.Grown.{all-apart}
+use Rattle.listing.proofs.Grown.{all-append}
 use Rattle.listing.proofs.Long.{long-bad}
 use Rattle.listing.proofs.Recordings.{linesFrom, after-end, by-lines}
 
 -- what the lister writes of an input, and of its end
 unfoldable pub allOf : Lister → List ℕ → List ℕ
 allOf m [] = lastOf m .text
-allOf m (c ∷ cs) = byteOf m c .text ++ allOf (byteOf m c .next) cs
+allOf m (c ∷ cs) = fedByte m c .text ++ allOf (fedByte m c .next) cs
 
 -- bytes in front of the first line
 abbrev ahead : List ℕ → List (List ℕ) → List (List ℕ)
@@ -84,7 +84,7 @@ taken-opened p l =
     cases P (p .ended) (λ e. ended-opened (atLine p) e)
     (λ _. cases P (leb mostLines (p .line)) (λ _. ended-opened (atLine (endedAt p)) refl) (λ _. go l))
   where
-    go : (l : Line) → Opened (atLine (obeyed p (p .line + 1) l .next))
+    go : (l : Line) → Opened (atLine (lineObeyed p (p .line + 1) l .next))
     go line.Bad = ended-opened (atLine (endedAt p)) refl
     go (line.Format f) =
         cases (λ (s : Saying). Opened (atLine (s .next))) (atFirst p) (λ _. line-opened _ (λ e. omega arith)) (λ _. ended-opened (atLine (endedAt p)) refl)
@@ -124,7 +124,7 @@ at-end m five = go (eqb (m .count) 0) refl (unfinished m) refl
 
 -- the lister goes through the lines: what is unfinished stands in front of the rest
 pub by-bytes : (input : List ℕ) (m : Lister) → length (m .held) ≡ 5 → allOf m input ≡ Writes m (linesIn input)
-unfolding allOf linesIn byteOf linesFrom
+unfolding allOf linesIn fedByte linesFrom
 by-bytes [] m five = at-end m five
 by-bytes (c ∷ cs) m five = go (by-bytes cs) (eqb c newline) refl (ltb (m .count) 5) refl
   where
@@ -136,7 +136,7 @@ by-bytes (c ∷ cs) m five = go (by-bytes cs) (eqb c newline) refl (ltb (m .coun
         let later : allOf (atLine (q .next)) cs ≡ allBytes width (linesFrom (q .next) (linesIn cs)) =
         ih (atLine (q .next)) refl ∙ ap (λ (l : List ℕ). l ++ allBytes width (linesFrom (q .next) (linesIn cs))) (taken-opened (m .place) (saidBy (unfinished m))) in
         rw (e, ahead-line (unfinished m) [] (linesIn cs), append-nil (unfinished m), later)
-        (append-assoc (frontOf m) (allBytes width (q .items)) _ ∙ ap (λ (l : List ℕ). frontOf m ++ l) (sym (all-apart width (q .items) (linesFrom (q .next) (linesIn cs)))))
+        (append-assoc (frontOf m) (allBytes width (q .items)) _ ∙ ap (λ (l : List ℕ). frontOf m ++ l) (sym (all-append width (q .items) (linesFrom (q .next) (linesIn cs)))))
     go ih false e true eu =
         let k : m .count < length (m .held) = omega (arith, ltb-true (m .count) 5 eu) in
         let m′ : Lister = record { place = m .place; held = set (m .held) (m .count) c; count = m .count + 1 } in

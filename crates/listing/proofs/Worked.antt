@@ -6,27 +6,24 @@ use mathlib.Core.List.{List, [], _∷_, _++_, append-nil}
 use native.Mathlib.Omega.{arith}
 use lib.ListN.{length, take, replicate, length-replicate}
 use lib.Seq.{take-all}
-use Rattle.numbers.specs.Bits.{number, bit, bits}
-use Rattle.numbers.specs.Signed.{untwos}
-use Rattle.wire.specs.Line.{namedBy, sizeBy, markedBy, known}
-use Rattle.wire.specs.Fits.{like, fitsFirst, fitsLater, fitsAt, fitsBy}
-use Rattle.wire.specs.Reading.{reportBy, readV}
+use Rattle.wire.specs.Reading.{readV}
 use Rattle.text.specs.Decimals.{digitsOf, numberOf, signedOf}
-use Rattle.reader.specs.Good.{placed}
-use Rattle.reader.specs.Good as reader
-use Rattle.reader.specs.Rules.{entered, dropping, keep, start, stray, lose, byteOf, breakOf, silenceOf, wordOf}
-use Rattle.reader.specs.Promises.{freshOf, stepOf}
+use Rattle.reader.proofs.Computing as reader
 use Rattle.listing.specs.Lines.{byteIn, markIn, formatIn, saidBy}
 use Rattle.listing.specs.Bytes.{lineD, lineR, lineH, lineE}
 use Rattle.listing.specs.Listing.{listingOf}
-use Rattle.listing.specs.Machine as machine
-use Rattle.listing.specs.Machine.{fresh, formatted, worded, takenOf, endOf, frontOf, closedOf, lastOf, feedIn, finishIn, good, mostBytes}
+use Rattle.listing.specs.Machine.{fresh, fedByte, formatted, worded, takenOf, endOf, frontOf, closedOf, lastOf, feedIn, finishIn, good, mostBytes}
 use Rattle.listing.specs.Promises.{enough, feedOf, finishOf}
 use Rattle.listing.specs.Calls.{Call, listerAfter, takenBy, writtenBy}
 use Rattle.listing.specs.Examples.{paper}
 use Rattle.listing.specs.declared.Lister.{Lister}
 use Rattle.listing.proofs.Keeps.{fresh-is-good}
 use Rattle.listing.proofs.Calls.{takes-all, in-calls, ended-early, has-ended}
+
+-- what the calls compute with
+unfoldable computing : Unit {0}
+unfolding reader.computing feedOf finishOf feedIn finishIn lastOf closedOf endOf fedByte takenOf formatted worded frontOf good byteIn markIn formatIn saidBy lineD lineR lineH lineE digitsOf numberOf signedOf readV
+computing = tt
 
 -- a call with so many places, answered by the definition
 abbrev call : Lister → List ℕ → ℕ → Call
@@ -48,7 +45,7 @@ abbrev three : List Call
 three = first ∷ second ∷ third ∷ []
 
 pub stopped-short : second .answer .taken ≡ 15
-unfolding feedOf feedIn machine.byteOf takenOf formatted worded frontOf good reader.good byteIn markIn formatIn saidBy lineD lineR lineE digitsOf numberOf signedOf freshOf stepOf wordOf byteOf keep start stray lose breakOf silenceOf dropping entered known placed namedBy sizeBy markedBy fitsBy fitsAt fitsFirst fitsLater like reportBy readV untwos number bits bit
+unfolding computing
 stopped-short = refl
 
 -- an end with no room, and then one with forty places
@@ -56,15 +53,15 @@ abbrev after-three : Lister
 after-three = listerAfter fresh three
 
 pub no-room : finishOf after-three [] .listed .ended ≡ false
-unfolding feedOf finishOf feedIn finishIn lastOf closedOf endOf machine.byteOf takenOf formatted worded frontOf good reader.good byteIn markIn formatIn saidBy lineD lineR lineH lineE digitsOf numberOf signedOf freshOf stepOf wordOf byteOf keep start stray lose breakOf silenceOf dropping entered known placed namedBy sizeBy markedBy fitsBy fitsAt fitsFirst fitsLater like reportBy readV untwos number bits bit
+unfolding computing
 no-room = refl
 
 pub room : finishOf after-three (replicate 40 0) .listed .ended ≡ true
-unfolding feedOf finishOf feedIn finishIn lastOf closedOf endOf machine.byteOf takenOf formatted worded frontOf good reader.good byteIn markIn formatIn saidBy lineD lineR lineH lineE digitsOf numberOf signedOf freshOf stepOf wordOf byteOf keep start stray lose breakOf silenceOf dropping entered known placed namedBy sizeBy markedBy fitsBy fitsAt fitsFirst fitsLater like reportBy readV untwos number bits bit
+unfolding computing
 room = refl
 
 all-taken : takenBy three ≡ paper .input
-unfolding feedOf feedIn machine.byteOf takenOf formatted worded frontOf good reader.good byteIn markIn formatIn saidBy lineD lineR lineE digitsOf numberOf signedOf freshOf stepOf wordOf byteOf keep start stray lose breakOf silenceOf dropping entered known placed namedBy sizeBy markedBy fitsBy fitsAt fitsFirst fitsLater like reportBy readV untwos number bits bit
+unfolding computing
 all-taken = refl
 
 -- so that the calls and the end wrote the listing of the example
@@ -75,7 +72,7 @@ in-three-calls =
 
 -- B 5/ as the first line, whatever comes behind it: L 4/E 0001/
 pub bad-at-once : (rest : List ℕ) → 76 ∷ 9 ∷ 52 ∷ 10 ∷ 69 ∷ 9 ∷ 48 ∷ 48 ∷ 48 ∷ 49 ∷ 10 ∷ [] ≡ listingOf (66 ∷ 9 ∷ 53 ∷ 10 ∷ rest)
-unfolding feedOf feedIn machine.byteOf takenOf formatted worded frontOf good reader.good byteIn markIn formatIn saidBy lineE digitsOf numberOf freshOf stepOf known placed namedBy sizeBy markedBy
+unfolding computing
 bad-at-once rest = ended-early (call fresh (66 ∷ 9 ∷ 53 ∷ 10 ∷ []) 40 ∷ []) rest (refl, tt) refl
 
 -- n bytes c, where n is sixty thousand or more, with room for each

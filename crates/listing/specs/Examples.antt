@@ -5,7 +5,7 @@ use Prim.Native.Nat.{ℕ}
 use Rattle.numbers.specs.Bits.{number, bit, bits}
 use Rattle.numbers.specs.Signed.{untwos, signed}
 use Rattle.wire.specs.Line.{namedBy, sizeBy, markedBy, known}
-use Rattle.wire.specs.Fits.{like, fitsFirst, fitsLater, fitsAt, fitsBy}
+use Rattle.wire.specs.Places.{like, fitsFirst, fitsLater, fitsAt, fitsBy}
 use Rattle.wire.specs.Reading.{reportBy, readV, readU}
 use Rattle.text.specs.Decimals.{digitsOf, numberOf, signedOf}
 use Rattle.reader.specs.Good.{placed, good}

@@ -3,7 +3,8 @@ use Prim.Native.Nat.{ℕ, _+_, _-_, _*_, _^_}
 use mathlib.Core.Bool.{Bool, true, false, not, cond, _&&_}
 use mathlib.Core.List.{List, [], _∷_}
 use lib.Dec.{leb, eqb}
-use Rattle.wire.specs.Line.{break, silence, known}
+use Rattle.frames.specs.Words.{break, silence}
+use Rattle.wire.specs.Line.{known}
 use Rattle.listing.specs.declared.Line.{Line}
 use Rattle.listing.specs.declared.Line.the-variants as line
 
@@ -31,12 +32,12 @@ linesIn [] = []
 linesIn (c ∷ cs) = cond (eqb c newline) ([] ∷ linesIn cs) (front c (linesIn cs))
 
 -- "Decimals have no leading zeros"
-abbrev pub isDigit : ℕ → Bool
-isDigit c = leb 0x30 c && leb c 0x39
+abbrev pub isDecimal : ℕ → Bool
+isDecimal c = leb 0x30 c && leb c 0x39
 
 abbrev pub allDigits : List ℕ → Bool
 allDigits [] = true
-allDigits (c ∷ cs) = isDigit c && allDigits cs
+allDigits (c ∷ cs) = isDecimal c && allDigits cs
 
 abbrev pub noLeadingZero : List ℕ → Bool
 noLeadingZero [] = false

@@ -48,17 +48,17 @@ worded p n w =
     (answerItems (p .reader .format) n (stepOf (p .reader) w .answer)))
 
 -- what a line says, at line n
-abbrev pub obeyed : Place → ℕ → Line → Saying
-obeyed p n line.Bad = wrong p n
-obeyed p n (line.Format f) = formatted p n f
-obeyed p n (line.Word w) = worded p n w
+abbrev pub lineObeyed : Place → ℕ → Line → Saying
+lineObeyed p n line.Bad = wrong p n
+lineObeyed p n (line.Format f) = formatted p n f
+lineObeyed p n (line.Word w) = worded p n w
 
 -- a whole line: nothing after the end, and no line too many
 unfoldable pub takenOf : Place → Line → Saying
 takenOf p l =
     cond (p .ended) (saying p [])
     (cond (leb mostLines (p .line)) (saying (endedAt p) (Over ∷ []))
-    (obeyed p (p .line + 1) l))
+    (lineObeyed p (p .line + 1) l))
 
 -- the end of the input
 unfoldable pub endOf : Place → Saying
@@ -99,8 +99,8 @@ abbrev pub more : Lister → ℕ → Turning
 more m c = record { next = record { place = m .place; held = set (m .held) (m .count) c; count = m .count + 1 }; text = frontOf m }
 
 -- a newline ends the line, and no line has more than five bytes: a sixth that is no newline makes it bad at once
-unfoldable pub byteOf : Lister → ℕ → Turning
-byteOf m c =
+unfoldable pub fedByte : Lister → ℕ → Turning
+fedByte m c =
     cond (eqb c newline) (lineEnds m (takenOf (m .place) (saidBy (unfinished m))))
     (cond (ltb (m .count) 5) (more m c)
     (lineEnds m (takenOf (m .place) line.Bad)))
@@ -133,8 +133,8 @@ joined n text f = record { next = f .next; taken = n + f .taken; text = text ++ 
 unfoldable pub feedIn : Lister → List ℕ → ℕ → Feed
 feedIn m [] room = stopped m
 feedIn m (c ∷ cs) room =
-    cond (ltb room (length (byteOf m c .text))) (stopped m)
-    (joined 1 (byteOf m c .text) (feedIn (byteOf m c .next) cs (room - length (byteOf m c .text))))
+    cond (ltb room (length (fedByte m c .text))) (stopped m)
+    (joined 1 (fedByte m c .text) (feedIn (fedByte m c .next) cs (room - length (fedByte m c .text))))
 
 -- the end: all of it, or nothing where it has no room
 unfoldable pub finishIn : Lister → ℕ → Feed

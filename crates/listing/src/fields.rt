@@ -2,7 +2,7 @@
 ghost use mathlib.Core.Path.{_≡_};
 ghost use mathlib.Core.List.{[], _∷_};
 ghost use lib.ListN.{take};
-ghost use Rattle.listing.specs.Lines.{isDigit, byteIn, markIn, formatIn, saidBy};
+ghost use Rattle.listing.specs.Lines.{isDecimal, byteIn, markIn, formatIn, saidBy};
 use crate::Line;
 use reader::Reader;
 
@@ -29,7 +29,7 @@ fn format(c: u8) -> Line
 }
 
 fn is_digit(c: u8) -> bool
-    ensures { λ r. ⌜ r ≡ isDigit c ⌝ }
+    ensures { λ r. ⌜ r ≡ isDecimal c ⌝ }
 {
     (b'0' <= c) & (c <= b'9')
 }

@@ -2,7 +2,7 @@
 ghost use mathlib.Core.Path.{_≡_};
 ghost use Rattle.text.specs.Growth.{textOf};
 ghost use Rattle.listing.specs.Lines.{saidBy};
-ghost use Rattle.listing.specs.Machine.{endedAt, atLine, formatted, worded, takenOf, endOf, unfinished, frontOf, lineEnds, byteOf, closedOf, lastOf, good};
+ghost use Rattle.listing.specs.Machine.{endedAt, atLine, formatted, worded, takenOf, endOf, unfinished, frontOf, lineEnds, fedByte, closedOf, lastOf, good};
 ghost use Rattle.listing.specs.Texts.{said, turned};
 use crate::Line;
 use crate::Lister;
@@ -129,14 +129,13 @@ fn at_line(said: Said) -> Turn
 }
 
 impl Lister {
-    // Whether it keeps its rules: no line too many, five bytes at most, a good reader (a bad one refuses even a silence).
+    // Whether it keeps its rules: no line too many, five bytes at most, a good reader.
     pub(crate) fn good(self) -> bool
         ensures { λ r. ⌜ r ≡ good self ⌝ }
     {
         let place = self.place;
         let reader = place.reader;
-        let silent = reader.step(257);
-        (place.line <= MOST_LINES) & (self.count <= 5) & (silent.refusal == 0)
+        (place.line <= MOST_LINES) & (self.count <= 5) & reader.good()
     }
 
     // The opening, where nothing has been written yet.
@@ -168,7 +167,7 @@ impl Lister {
 
     // One byte.
     pub(crate) fn byte(self, b: u8) -> Turn
-        ensures { λ r. ⌜ r ≡ turned (byteOf self b) ⌝ }
+        ensures { λ r. ⌜ r ≡ turned (fedByte self b) ⌝ }
     {
         if b == b'\n' {
             return self.line(self.says());

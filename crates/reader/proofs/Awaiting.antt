@@ -1,33 +1,34 @@
 -- A fresh reader of U, T or W hands out nothing before the first silence, whatever the words.
 use Prim.Native.Nat.{ℕ}
-use mathlib.Core.Path.{_≡_, refl, _∙_, ap}
+use mathlib.Core.Path.{_≡_, refl, sym, _∙_, ap}
 use mathlib.Core.Bool.{Bool, true, false}
-use mathlib.Core.Logic.{_⊎_, inl, inr}
 use mathlib.Core.List.{List, [], _∷_}
 use native.Mathlib.Omega.{arith}
 use lib.Dec.{eqb}
 use lib.ListN.{length}
 use lib.IntN.{ℤ}
 use borrow.Author.Tests.{eqb-false}
-use Rattle.wire.specs.Line.{silence, letterOf, namedBy, markedBy, known}
+use Rattle.frames.specs.Words.{silence}
+use Rattle.wire.specs.Line.{letterOf, namedBy, markedBy, known}
 use Rattle.wire.specs.declared.Format.the-variants.{FiveByte}
 use Rattle.reader.specs.State.{fresh}
 use Rattle.reader.specs.Good.{good}
-use Rattle.reader.specs.Rules.{dropping, byteOf, breakOf, wordOf}
+use Rattle.reader.specs.Rules.{wordOf}
 use Rattle.reader.specs.Line.{Long, lineOf}
-use Rattle.reader.specs.Counts.{reportsIn, reportsAmong}
+use Rattle.reader.specs.Counts.{reportsIn, handedOut}
 use Rattle.reader.specs.Promises.{FreshPromise, ReadPromise, freshOf}
 use Rattle.reader.specs.Runs.{stepsOf, StepsPromise, answers, hasSilence}
 use Rattle.reader.specs.declared.Reader.{Reader}
 use Rattle.reader.specs.declared.NewReader.{NewReader}
 use Rattle.reader.specs.declared.Read.{Read}
 use Rattle.reader.specs.declared.Reading.{Reading}
-use Rattle.reader.specs.declared.Answer.{Answer}
-use Rattle.numbers.proofs.Choices.{cases, neither}
-use Rattle.reader.proofs.Word.{by-kind, word-format}
+use Rattle.numbers.proofs.Choices.{neither}
+use Rattle.numbers.proofs.Tested.{holds}
+use Rattle.reader.proofs.Word.{dropping-reports, by-word, word-format}
 use Rattle.reader.proofs.Keeps.{word-good}
-use Rattle.reader.proofs.View.{Stops, Takes, view}
+use Rattle.reader.proofs.View.{by-words}
 use Rattle.reader.proofs.Permitted.{steps-are}
+use Rattle.reader.proofs.Steps.{reports-first}
 use Rattle.reader.proofs.Goodness.{step-word, read-line, fresh-is-good}
 
 -- an awaiting reader of an unmarked format
@@ -41,53 +42,47 @@ record Waited (s : Read) : Type 0 where
   none : reportsIn (s .answer) ≡ 0
   still : s .next .awaiting ≡ true
 
-dropping-reports : (k : ℕ) → reportsIn (dropping k) ≡ 0
-unfolding dropping
-dropping-reports k = cases (λ (a : Answer). reportsIn a ≡ 0) (eqb k 0) (λ _. refl) (λ _. refl)
-
 word-waits : (r : Reader) (w : ℕ) → Waits r → eqb w silence ≡ false → Waited (wordOf r w)
-unfolding byteOf breakOf
 word-waits r w h n =
-    by-kind Waited r w
-    (λ _. rw (h .awaiting) (record { none = refl; still = refl }))
-    (λ _ _. record { none = dropping-reports (r .count); still = rw (h .unmarked) })
-    (λ _ e. absurd (eqb-false w silence n e))
+    by-word Waited r w (λ _ _. record { none = refl; still = h .awaiting }) (λ _ a. no a) (λ _ a. no a) (λ _ a. no a) (λ _ a. no a)
+    (λ _. record { none = dropping-reports (r .count); still = rw (h .unmarked) }) (λ e. absurd (eqb-false w silence n e))
     (λ _. record { none = refl; still = h .awaiting })
+  where
+    no : {A : Type 0} → r .awaiting ≡ false → A
+    no a = absurd (holds (sym a ∙ h .awaiting))
 
 next-waits : (r : Reader) (w : ℕ) → Waits r → eqb w silence ≡ false → Waits (wordOf r w .next)
 next-waits r w h n =
     record { is-good = word-good r (h .is-good) w; unmarked = rw (word-format r w) (h .unmarked); awaiting = word-waits r w h n .still }
 
 -- over steps
-steps-wait : (words : List ℕ) (r : Reader) → Waits r → hasSilence words ≡ false → reportsAmong (answers (stepsOf r words)) ≡ 0
-unfolding stepsOf reportsAmong hasSilence
+empty : {A : Type 0} (l : List A) → length l ≡ 0 → l ≡ []
+empty [] e = refl
+empty (x ∷ l) e = absurd (omega arith)
+
+steps-wait : (words : List ℕ) (r : Reader) → Waits r → hasSilence words ≡ false → handedOut (answers (stepsOf r words)) ≡ []
+unfolding stepsOf hasSilence
 steps-wait [] r h n = refl
 steps-wait (w ∷ words) r h n =
     let quiet = neither (eqb w silence) (hasSilence words) n .0 in
     let rest = steps-wait words (wordOf r w .next) (next-waits r w h quiet) (neither (eqb w silence) (hasSilence words) n .1) in
-    rw (step-word r w (h .is-good)) (omega (arith, word-waits r w h quiet .none, rest))
+    let s = wordOf r w in
+    rw (step-word r w (h .is-good)) (empty _ (omega (arith, reports-first (s .answer) (answers (stepsOf (s .next) words)), word-waits r w h quiet .none, ap length rest)))
 
 -- and over a line
-empty : (l : List ℤ) → length l ≡ 0 → l ≡ []
-empty [] e = refl
-empty (x ∷ l) e = absurd (omega arith)
-
 abbrev Nothing-out : List ℤ → Long → Type 0
 Nothing-out out l = (l .reading .reports ≡ 0) × (l .out ≡ out)
 
 line-waits : (words : List ℕ) (r : Reader) (out : List ℤ) → Waits r → hasSilence words ≡ false → Nothing-out out (lineOf r words out)
-unfolding lineOf hasSilence
-line-waits [] r out h n = (refl, refl)
-line-waits (w ∷ words) r out h n = go (line-waits words) (view r w out)
-  where
-    go : ((r : Reader) (out : List ℤ) → Waits r → hasSilence words ≡ false → Nothing-out out (lineOf r words out)) → Stops r w out ⊎ Takes r w out → Nothing-out out (lineOf r (w ∷ words) out)
-    go ih (inl s) = rw (s .is words) (refl, refl)
-    go ih (inr t) =
-        let quiet = neither (eqb w silence) (hasSilence words) n .0 in
-        let none : t .n ≡ 0 = t .reports ∙ word-waits r w h quiet .none in
-        let front : t .front ≡ [] = empty (t .front) (omega (arith, t .sized)) in
-        let rest = ih (wordOf r w .next) out (next-waits r w h quiet) (neither (eqb w silence) (hasSilence words) n .1) in
-        rw (t .is words, front, none) (omega (arith, rest .0), rest .1)
+unfolding hasSilence
+line-waits =
+    by-words (λ r words out l. Waits r → hasSilence words ≡ false → Nothing-out out l) (λ r out h n. (refl, refl)) (λ r w words out s h n. (refl, refl))
+    (λ r w words out t l ih h n.
+    let quiet = neither (eqb w silence) (hasSilence words) n in
+    let none : t .n ≡ 0 = t .reports ∙ word-waits r w h (quiet .0) .none in
+    let front : t .front ≡ [] = empty (t .front) (omega (arith, t .sized)) in
+    let rest = rw none at (ih (next-waits r w h (quiet .0)) (quiet .1)) in
+    rw (front, none) (omega (arith, rest .0), rest .1))
 
 -- a fresh reader of an unmarked format waits; so does that of U, which comes for a letter that is not in the table
 unmarked-U : markedBy (letterOf FiveByte) ≡ false
@@ -110,7 +105,7 @@ pub nothing-before-silence : (letter : ℕ) (a : NewReader) (words : List ℕ) (
     → FreshPromise letter a
     → hasSilence words ≡ false
     → StepsPromise (a .reader) words steps
-    → reportsAmong (answers steps) ≡ 0
+    → handedOut (answers steps) ≡ []
 nothing-before-silence letter a words steps m e n p =
     rw (steps-are (a .reader) words steps p) (steps-wait words (a .reader) (fresh-waits letter a m e) n)
 

@@ -3,17 +3,18 @@ use Prim.Native.Nat.{ℕ, _+_, _*_, _<_}
 use mathlib.Core.Path.{_≡_, refl, sym, _∙_, ap, subst}
 use mathlib.Core.Bool.{true}
 use mathlib.Core.Logic.{_⊎_, inl, inr}
-use mathlib.Core.List.{List, [], _∷_}
+use mathlib.Core.List.{List}
 use native.Mathlib.Numerals.{one-add}
 use native.Mathlib.Omega.{arith}
-use lib.ListN.{take, drop}
+use lib.ListN.{take}
 use lib.Dec.{eqb}
 use lib.IntN.{ℤ}
 use borrow.Author.Tests.{eqb-false}
-use Rattle.wire.specs.Line.{break, silence, sizeBy}
+use Rattle.frames.specs.Words.{break, silence}
+use Rattle.wire.specs.Line.{sizeBy}
 use Rattle.wire.specs.Numbers.{badState}
 use Rattle.reader.specs.Good.{good}
-use Rattle.reader.specs.Rules.{entered, dropping, finishes, keep, start, lose, breakOf, silenceOf, wordOf}
+use Rattle.reader.specs.Rules.{dropping, breakOf, silenceOf, wordOf}
 use Rattle.reader.specs.Line.{Long, lineOf}
 use Rattle.reader.specs.Counts.{byteIn, bytesIn, reportsIn, droppedIn}
 use Rattle.reader.specs.Promises.{StepPromise, ReadPromise, stepOf, readOf}
@@ -23,8 +24,8 @@ use Rattle.reader.specs.declared.Reading.{Reading}
 use Rattle.reader.specs.declared.Answer.{Answer}
 use Rattle.reader.specs.declared.Answer.the-variants.{Nothing, Report, Dropped}
 use Rattle.numbers.proofs.Choices.{cases}
-use Rattle.reader.proofs.Word.{by-rules, by-kind, Kept, dropping-is, word-kept, word-format}
-use Rattle.reader.proofs.View.{Stops, Takes, view}
+use Rattle.reader.proofs.Word.{by-word, Kept, dropping-is, word-kept, word-format}
+use Rattle.reader.proofs.View.{by-words}
 use Rattle.reader.proofs.Permitted.{step-is}
 use Rattle.reader.proofs.Goodness.{step-word}
 
@@ -41,17 +42,12 @@ abbrev Counted : ℕ → Reader → List ℕ → Reading → Type 0
 Counted size r words a = bytesIn (take (a .taken) words) + r .count ≡ size * a .reports + a .dropped + a .next .count
 
 line-counts : (size : ℕ) (words : List ℕ) (r : Reader) (out : List ℤ) → sizeBy (r .format) ≡ size → Counted size r words (lineOf r words out .reading)
-unfolding lineOf bytesIn
-line-counts size [] r out z = omega arith
-line-counts size (w ∷ words) r out z = go (line-counts size words) (view r w out)
-  where
-    go : ((r : Reader) (out : List ℤ) → sizeBy (r .format) ≡ size → Counted size r words (lineOf r words out .reading)) → Stops r w out ⊎ Takes r w out → Counted size r (w ∷ words) (lineOf r (w ∷ words) out .reading)
-    go ih (inl s) = rw (s .is words) (omega arith)
-    go ih (inr t) =
-        let next = wordOf r w .next in
-        let rest = lineOf next words (drop (5 * t .n) out) in
-        let k = rw z at (t .kept) in
-        rw (t .is words, one-add (rest .reading .taken)) (omega (arith, k, ih next (drop (5 * t .n) out) (ap sizeBy (word-format r w) ∙ z)))
+unfolding bytesIn
+line-counts size =
+    by-words (λ r words out l. sizeBy (r .format) ≡ size → Counted size r words (l .reading)) (λ r out z. omega arith) (λ r w words out s z. omega arith)
+    (λ r w words out t l ih z.
+    let k = rw z at (t .kept) in
+    rw (one-add (l .reading .taken)) (omega (arith, k, ih (ap sizeBy (word-format r w) ∙ z))))
 
 -- a long read, also at a stop for room and at a bad word
 pub read-counts : (r : Reader) (words : List ℕ) (out : List ℤ) (a : Reading) (after : List ℤ) → ReadPromise r words out a after
@@ -76,11 +72,9 @@ unfolding dropping
 dropping-some k = cases SomeDropped (eqb k 0) (λ _. tt) (λ e. let n = eqb-false k 0 e in omega arith)
 
 word-drops-some : (r : Reader) (w : ℕ) → Fine (wordOf r w)
-unfolding keep start lose breakOf silenceOf
 word-drops-some r w =
-    by-kind Fine r w
-    (λ _. by-rules Fine r (entered (r .format) w) (λ _. omega arith) (λ _ _. cases Fine (finishes r) (λ _. tt) (λ _. tt)) (λ _ _ _. dropping-some (r .count)) (λ _ _ _. omega arith))
-    (λ _ _. dropping-some (r .count)) (λ _ _. dropping-some (r .count)) (λ _. tt)
+    by-word Fine r w (λ _ _. omega arith) (λ _ _ _ _. tt) (λ _ _ _ _. tt) (λ _ _ _ _. dropping-some (r .count)) (λ _ _ _ _. omega arith)
+    (λ _. dropping-some (r .count)) (λ _. dropping-some (r .count)) (λ _. tt)
 
 pub never-dropped-none : (r : Reader) (w : ℕ) (s : Read) → StepPromise r w s → s .answer ≡ Dropped 0 → ⊥
 unfolding stepOf

@@ -6,24 +6,19 @@ use mathlib.Core.List.{List, [], _∷_}
 use native.Mathlib.Omega.{arith}
 use lib.ListN.{getD}
 use lib.IntN.{ℤ, pos}
-use Rattle.numbers.specs.Bits.{bit, bits, number}
-use Rattle.numbers.specs.Signed.{minus, twos, untwos, signed}
-use Rattle.wire.specs.Line.{letterOf, namedBy, sizeBy, markedBy, known, lineWords}
-use Rattle.wire.specs.Table.{bytesOf, bytesS, bytesT, bytesU}
-use Rattle.wire.specs.Holds.{holds, accepted}
-use Rattle.wire.specs.Fits.{like, fitsFirst, fitsLater, fitsAt, fitsBy}
-use Rattle.wire.specs.Reading.{readS, readT, readU, reportBy}
+use Rattle.numbers.specs.Signed.{minus}
+use Rattle.wire.specs.Line.{letterOf}
+use Rattle.wire.specs.Table.{bytesOf}
 use Rattle.wire.specs.Reading as reading
 use Rattle.wire.specs.Numbers.{success}
-use Rattle.wire.specs.Passages.{silent, finished, broken, nothing, report, Sound, Unbroken}
+use Rattle.wire.specs.Messages.{latchedIn, messageBytes, SoundIn}
 use Rattle.wire.specs.declared.Report.{Report}
 use Rattle.wire.specs.declared.Format.{Format}
 use Rattle.wire.specs.declared.Format.the-variants.{Mm, FiveByte, ThreeByte}
-use Rattle.frames.specs.Line.{Sub, none, gone, stays}
+use Rattle.frames.specs.Passages.{silent, finished, broken, nothing, first, Unbroken, Sub, none, gone, stays, of-finished, of-broken, of-going}
 use Rattle.reader.specs.State.{fresh}
-use Rattle.reader.specs.Good.{placed, good}
-use Rattle.reader.specs.Rules.{entered, dropping, keep, start, stray, lose, byteOf, breakOf, silenceOf, wordOf}
-use Rattle.reader.specs.Promises.{FreshPromise, ReadPromise, freshOf, stepOf}
+use Rattle.reader.specs.Counts.{handedOut}
+use Rattle.reader.specs.Promises.{FreshPromise, ReadPromise, freshOf}
 use Rattle.reader.specs.Runs.{stepsOf, StepsPromise, answers}
 use Rattle.reader.specs.declared.NewReader.{NewReader}
 use Rattle.reader.specs.declared.Read.{Read}
@@ -33,9 +28,10 @@ use Rattle.reader.specs.declared.Answer.the-variants.{Nothing, Dropped}
 use Rattle.reader.specs.declared.Answer.the-variants as answer
 use Rattle.reader.proofs.Permitted.{steps-are}
 use Rattle.reader.proofs.Framed.{fresh-named}
-use Rattle.reader.specs.DamagedLines.{no-word, a-break, HandsOut, HandsOutAt, Replaced, Within, EndsAt, of-finished, of-broken, of-going, handedOut}
+use Rattle.reader.specs.DamagedLines.{no-word, a-break, HandsOut, HandsOutAt, Replaced, Within, EndsAt}
 use Rattle.reader.proofs.Handed.{permitted}
 use Rattle.reader.proofs.Damaged.{marked, unmarked, exactly}
+use Rattle.reader.proofs.Computing.{computing}
 
 -- any fresh reader of f, by any steps that are permitted, gives the words these answers
 abbrev Answered : Format → List ℕ → List Answer → Type 0
@@ -53,28 +49,28 @@ pressed = reading.report 4 (minus 2) (pos 7)
 
 -- Marked. Behind the setting's own 256 stand 90 05 03, a silence, 8C 02 broken off, 8C 02 07, and 90 of a report that is going; the stretch 05 03
 -- 257 8C becomes 9A 7F FF. The report 8C 02 07 begins after it, and is the answer to word 9.
-replaced-S : Replaced Mm (finished Mm moved ∷ silent ∷ broken 2 Mm pressed ∷ finished Mm pressed ∷ []) (report 1 Mm moved)
+replaced-S : Replaced Mm (finished (latchedIn Mm moved) ∷ silent ∷ broken 2 (latchedIn Mm pressed) ∷ finished (latchedIn Mm pressed) ∷ []) (first 1 (latchedIn Mm moved))
     (256 ∷ []) (0x90 ∷ []) (0x05 ∷ 0x03 ∷ 257 ∷ 0x8C ∷ []) (0x9A ∷ 0x7F ∷ 0xFF ∷ []) (0x02 ∷ 256 ∷ 0x8C ∷ 0x02 ∷ 0x07 ∷ 0x90 ∷ [])
-unfolding lineWords accepted holds bytesS number bit
+unfolding computing
 replaced-S =
     record {
-      sound = ((refl, refl), (tt, ((refl, refl, omega arith), ((refl, refl), tt))));
-      sound-going = (refl, refl, omega arith);
+      sound = ((refl, refl), (tt, (((refl, refl), omega arith), ((refl, refl), tt))));
+      sound-going = ((refl, refl), omega arith);
       in-front = a-break;
       as-sent = refl;
       legal = refl;
     }
 
 pub marked-run : HandsOutAt Mm (256 ∷ 0x90 ∷ 0x9A ∷ 0x7F ∷ 0xFF ∷ 0x02 ∷ 256 ∷ 0x8C ∷ 0x02 ∷ 0x07 ∷ 0x90 ∷ []) 9 pressed
-unfolding bytesS
+unfolding computing
 marked-run =
-    marked Mm (finished Mm moved ∷ silent ∷ broken 2 Mm pressed ∷ finished Mm pressed ∷ []) (report 1 Mm moved)
+    marked Mm (finished (latchedIn Mm moved) ∷ silent ∷ broken 2 (latchedIn Mm pressed) ∷ finished (latchedIn Mm pressed) ∷ []) (first 1 (latchedIn Mm moved))
     (256 ∷ []) (0x90 ∷ []) (0x05 ∷ 0x03 ∷ 257 ∷ 0x8C ∷ []) (0x9A ∷ 0x7F ∷ 0xFF ∷ []) (0x02 ∷ 256 ∷ 0x8C ∷ 0x02 ∷ 0x07 ∷ 0x90 ∷ []) replaced-S
-    (finished Mm moved ∷ silent ∷ broken 2 Mm pressed ∷ []) pressed [] refl 9 refl refl (omega arith)
+    (finished (latchedIn Mm moved) ∷ silent ∷ broken 2 (latchedIn Mm pressed) ∷ []) (record { format = Mm; report = pressed }) [] refl 9 refl refl (omega arith)
 
 pub marked-answers : Answered Mm (256 ∷ 0x90 ∷ 0x9A ∷ 0x7F ∷ 0xFF ∷ 0x02 ∷ 256 ∷ 0x8C ∷ 0x02 ∷ 0x07 ∷ 0x90 ∷ [])
     (Nothing ∷ Nothing ∷ Dropped 1 ∷ Nothing ∷ Dropped 3 ∷ Dropped 1 ∷ Nothing ∷ Nothing ∷ Nothing ∷ answer.Report pressed ∷ Nothing ∷ [])
-unfolding stepsOf stepOf good known placed wordOf byteOf keep start stray lose breakOf silenceOf dropping entered namedBy sizeBy markedBy fitsBy fitsAt fitsFirst fitsLater like reportBy readS signed number bits bit
+unfolding computing
 marked-answers = computed Mm _ _ refl
 
 -- reports of U: a fast move to the left, 87 85 00 85 00, and a slow one, 87 01 02 03 04
@@ -86,45 +82,45 @@ slow = record { buttons = 0; x1 = pos 1; y1 = pos 2; x2 = pos 3; y2 = pos 4 }
 
 -- Unmarked, "readers that join a report halfway": the line is 87 85 00 85 00, a silence, and 87 01 02 03 04, and the 87 in front is lost. 85 would be a
 -- header with the middle button down: it is dropped, and the report behind the silence is the answer to word 9.
-joined-U : Replaced FiveByte (finished FiveByte fast ∷ silent ∷ finished FiveByte slow ∷ []) nothing
+joined-U : Replaced FiveByte (finished (latchedIn FiveByte fast) ∷ silent ∷ finished (latchedIn FiveByte slow) ∷ []) nothing
     [] [] (0x87 ∷ []) [] (0x85 ∷ 0x00 ∷ 0x85 ∷ 0x00 ∷ 257 ∷ 0x87 ∷ 0x01 ∷ 0x02 ∷ 0x03 ∷ 0x04 ∷ [])
-unfolding lineWords accepted holds bytesU number bit twos
+unfolding computing
 joined-U = record { sound = ((refl, refl), (tt, ((refl, refl), tt))); sound-going = tt; in-front = no-word; as-sent = refl; legal = refl }
 
 pub unmarked-run : HandsOutAt FiveByte (0x85 ∷ 0x00 ∷ 0x85 ∷ 0x00 ∷ 257 ∷ 0x87 ∷ 0x01 ∷ 0x02 ∷ 0x03 ∷ 0x04 ∷ []) 9 slow
-unfolding bytesU
+unfolding computing
 unmarked-run =
-    unmarked FiveByte (finished FiveByte fast ∷ silent ∷ finished FiveByte slow ∷ []) nothing
+    unmarked FiveByte (finished (latchedIn FiveByte fast) ∷ silent ∷ finished (latchedIn FiveByte slow) ∷ []) nothing
     [] [] (0x87 ∷ []) [] (0x85 ∷ 0x00 ∷ 0x85 ∷ 0x00 ∷ 257 ∷ 0x87 ∷ 0x01 ∷ 0x02 ∷ 0x03 ∷ 0x04 ∷ []) joined-U
-    (finished FiveByte fast ∷ silent ∷ []) slow [] refl 9 refl (finished FiveByte fast ∷ []) [] refl tt (omega arith)
+    (finished (latchedIn FiveByte fast) ∷ silent ∷ []) (record { format = FiveByte; report = slow }) [] refl 9 refl (finished (latchedIn FiveByte fast) ∷ []) [] refl tt (omega arith)
 
 pub unmarked-answers : Answered FiveByte (0x85 ∷ 0x00 ∷ 0x85 ∷ 0x00 ∷ 257 ∷ 0x87 ∷ 0x01 ∷ 0x02 ∷ 0x03 ∷ 0x04 ∷ [])
     (Dropped 1 ∷ Dropped 1 ∷ Dropped 1 ∷ Dropped 1 ∷ Nothing ∷ Nothing ∷ Nothing ∷ Nothing ∷ Nothing ∷ answer.Report slow ∷ [])
-unfolding stepsOf stepOf good known placed wordOf byteOf keep start stray lose breakOf silenceOf dropping entered namedBy sizeBy markedBy fitsBy fitsAt fitsFirst fitsLater like reportBy readU untwos number bits bit
+unfolding computing
 unmarked-answers = computed FiveByte _ _ refl
 
 -- Exactly: 90 05 03 loses its second byte, and of the two reports the other one is handed out
 pub exactly-run : HandsOut Mm (0x90 ∷ 0x03 ∷ 0x8C ∷ 0x02 ∷ 0x07 ∷ []) (pressed ∷ [])
-unfolding lineWords accepted holds bytesS number bit
+unfolding computing
 exactly-run =
     exactly Mm refl ((refl, refl), ((refl, refl), tt)) tt no-word
-    (of-finished [] (finished Mm pressed ∷ []) nothing moved (0x90 ∷ 0x03 ∷ []) (stays (gone (stays none))) (omega arith))
+    (of-finished [] (finished (latchedIn Mm pressed) ∷ []) nothing (latchedIn Mm moved) (0x90 ∷ 0x03 ∷ []) (stays (gone (stays none))) (omega arith))
 
 pub exactly-answers : Answered Mm (0x90 ∷ 0x03 ∷ 0x8C ∷ 0x02 ∷ 0x07 ∷ []) (Nothing ∷ Nothing ∷ Dropped 2 ∷ Nothing ∷ answer.Report pressed ∷ [])
-unfolding stepsOf stepOf good known placed wordOf byteOf keep start stray lose breakOf silenceOf dropping entered namedBy sizeBy markedBy fitsBy fitsAt fitsFirst fitsLater like reportBy readS signed number bits bit
+unfolding computing
 exactly-answers = computed Mm _ _ refl
 
 -- the broken-off 8C 02, and the same two bytes of a report that is going, lose the first: the finished report is handed out
 pub exactly-broken-run : HandsOut Mm (0x02 ∷ 256 ∷ 0x90 ∷ 0x05 ∷ 0x03 ∷ []) (moved ∷ [])
-unfolding accepted holds bytesS number bit
+unfolding computing
 exactly-broken-run =
-    exactly Mm refl ((refl, refl, omega arith), ((refl, refl), tt)) tt no-word
-    (of-broken [] (finished Mm moved ∷ []) nothing 2 pressed (0x02 ∷ []) (gone (stays none)))
+    exactly Mm refl (((refl, refl), omega arith), ((refl, refl), tt)) tt no-word
+    (of-broken [] (finished (latchedIn Mm moved) ∷ []) nothing 2 (latchedIn Mm pressed) (0x02 ∷ []) (gone (stays none)))
 
 pub exactly-going-run : HandsOut Mm (0x90 ∷ 0x05 ∷ 0x03 ∷ 0x02 ∷ []) (moved ∷ [])
-unfolding accepted holds bytesS number bit
+unfolding computing
 exactly-going-run =
-    exactly Mm refl ((refl, refl), tt) (refl, refl, omega arith) no-word (of-going (finished Mm moved ∷ []) 2 pressed (0x02 ∷ []) (gone (stays none)))
+    exactly Mm refl ((refl, refl), tt) ((refl, refl), omega arith) no-word (of-going (finished (latchedIn Mm moved) ∷ []) 2 (latchedIn Mm pressed) (0x02 ∷ []) (gone (stays none)))
 
 -- Room: a slice of six numbers has room for the one report found; the sixth stays
 pub room-run : (a : NewReader) (b : Reading) (after : List ℤ) → FreshPromise (letterOf Mm) a
@@ -152,15 +148,15 @@ three-five = reading.report 4 (pos 3) (pos 5)
 -- reader takes its 04 for the end of another, and waits for a third byte there.
 pub no-mark-answers : Answered ThreeByte (257 ∷ 0x01 ∷ 0x02 ∷ 0x04 ∷ 0x03 ∷ 0x05 ∷ [])
     (Nothing ∷ Nothing ∷ Nothing ∷ answer.Report (reading.report 1 (pos 2) (pos 4)) ∷ Nothing ∷ Nothing ∷ [])
-unfolding stepsOf stepOf good known placed wordOf byteOf keep start stray lose breakOf silenceOf dropping entered namedBy sizeBy markedBy fitsBy fitsAt fitsFirst fitsLater like reportBy readT untwos number bits bit
+unfolding computing
 no-mark-answers = computed ThreeByte _ _ refl
 
-pub mark-needed : Replaced ThreeByte (silent ∷ finished ThreeByte one-two ∷ finished ThreeByte three-five ∷ []) nothing
+pub mark-needed : Replaced ThreeByte (silent ∷ finished (latchedIn ThreeByte one-two) ∷ finished (latchedIn ThreeByte three-five) ∷ []) nothing
     [] (257 ∷ []) (0x00 ∷ []) [] (0x01 ∷ 0x02 ∷ 0x04 ∷ 0x03 ∷ 0x05 ∷ [])
-    × EndsAt ThreeByte (silent ∷ finished ThreeByte one-two ∷ []) [] (0x00 ∷ []) [] 5
-    × Within (silent ∷ finished ThreeByte one-two ∷ []) (257 ∷ []) (0x00 ∷ [])
+    × EndsAt ThreeByte (silent ∷ finished (latchedIn ThreeByte one-two) ∷ []) [] (0x00 ∷ []) [] 5
+    × Within (silent ∷ finished (latchedIn ThreeByte one-two) ∷ []) (257 ∷ []) (0x00 ∷ [])
     × (HandsOutAt ThreeByte (257 ∷ 0x01 ∷ 0x02 ∷ 0x04 ∷ 0x03 ∷ 0x05 ∷ []) 5 three-five → ⊥)
-unfolding lineWords accepted holds bytesT number bit twos
+unfolding computing
 mark-needed = (
   record { sound = (tt, ((refl, refl), ((refl, refl), tt))); sound-going = tt; in-front = no-word; as-sent = refl; legal = refl },
   refl,
@@ -174,16 +170,16 @@ pub no-silence-answers : Answered FiveByte (257 ∷ 0x85 ∷ 0x00 ∷ 0x85 ∷ 0
     (Nothing
     ∷ Nothing ∷ Nothing ∷ Nothing ∷ Nothing ∷ answer.Report (record { buttons = 2; x1 = pos 0; y1 = minus 123; x2 = pos 0; y2 = minus 121 })
     ∷ Dropped 1 ∷ Dropped 1 ∷ Dropped 1 ∷ Dropped 1 ∷ [])
-unfolding stepsOf stepOf good known placed wordOf byteOf keep start stray lose breakOf silenceOf dropping entered namedBy sizeBy markedBy fitsBy fitsAt fitsFirst fitsLater like reportBy readU untwos number bits bit
+unfolding computing
 no-silence-answers = computed FiveByte _ _ refl
 
-pub silence-needed : Replaced FiveByte (silent ∷ finished FiveByte fast ∷ finished FiveByte slow ∷ []) nothing
+pub silence-needed : Replaced FiveByte (silent ∷ finished (latchedIn FiveByte fast) ∷ finished (latchedIn FiveByte slow) ∷ []) nothing
     [] (257 ∷ []) (0x87 ∷ []) [] (0x85 ∷ 0x00 ∷ 0x85 ∷ 0x00 ∷ 0x87 ∷ 0x01 ∷ 0x02 ∷ 0x03 ∷ 0x04 ∷ [])
-    × EndsAt FiveByte (silent ∷ finished FiveByte fast ∷ []) [] (0x87 ∷ []) [] 9
-    × Within (silent ∷ finished FiveByte fast ∷ []) (257 ∷ []) (0x87 ∷ [])
-    × Unbroken (finished FiveByte fast ∷ [])
+    × EndsAt FiveByte (silent ∷ finished (latchedIn FiveByte fast) ∷ []) [] (0x87 ∷ []) [] 9
+    × Within (silent ∷ finished (latchedIn FiveByte fast) ∷ []) (257 ∷ []) (0x87 ∷ [])
+    × Unbroken (finished (latchedIn FiveByte fast) ∷ [])
     × (HandsOutAt FiveByte (257 ∷ 0x85 ∷ 0x00 ∷ 0x85 ∷ 0x00 ∷ 0x87 ∷ 0x01 ∷ 0x02 ∷ 0x03 ∷ 0x04 ∷ []) 9 slow → ⊥)
-unfolding lineWords accepted holds bytesU number bit twos
+unfolding computing
 silence-needed = (
   record { sound = (tt, ((refl, refl), ((refl, refl), tt))); sound-going = tt; in-front = no-word; as-sent = refl; legal = refl },
   refl,
@@ -196,17 +192,17 @@ silence-needed = (
 -- dropped
 pub broken-answers : Answered ThreeByte (0x09 ∷ 257 ∷ 0x00 ∷ 256 ∷ 0x04 ∷ 0x03 ∷ 0x05 ∷ [])
     (Dropped 1 ∷ Nothing ∷ Nothing ∷ Dropped 1 ∷ Dropped 1 ∷ Dropped 1 ∷ Dropped 1 ∷ [])
-unfolding stepsOf stepOf good known placed wordOf byteOf keep start stray lose breakOf silenceOf dropping entered namedBy sizeBy markedBy fitsBy fitsAt fitsFirst fitsLater like reportBy readT untwos number bits bit
+unfolding computing
 broken-answers = computed ThreeByte _ _ refl
 
-pub unbroken-needed : Replaced ThreeByte (silent ∷ broken 1 ThreeByte one-two ∷ finished ThreeByte three-five ∷ []) nothing
+pub unbroken-needed : Replaced ThreeByte (silent ∷ broken 1 (latchedIn ThreeByte one-two) ∷ finished (latchedIn ThreeByte three-five) ∷ []) nothing
     [] [] [] (0x09 ∷ []) (257 ∷ 0x00 ∷ 256 ∷ 0x04 ∷ 0x03 ∷ 0x05 ∷ [])
-    × EndsAt ThreeByte (silent ∷ broken 1 ThreeByte one-two ∷ []) [] [] (0x09 ∷ []) 6
+    × EndsAt ThreeByte (silent ∷ broken 1 (latchedIn ThreeByte one-two) ∷ []) [] [] (0x09 ∷ []) 6
     × Within [] [] []
     × (HandsOutAt ThreeByte (0x09 ∷ 257 ∷ 0x00 ∷ 256 ∷ 0x04 ∷ 0x03 ∷ 0x05 ∷ []) 6 three-five → ⊥)
-unfolding lineWords accepted holds bytesT number bit twos
+unfolding computing
 unbroken-needed = (
-  record { sound = (tt, ((refl, refl, omega arith), ((refl, refl), tt))); sound-going = tt; in-front = no-word; as-sent = refl; legal = refl },
+  record { sound = (tt, (((refl, refl), omega arith), ((refl, refl), tt))); sound-going = tt; in-front = no-word; as-sent = refl; legal = refl },
   refl,
   omega arith,
   λ h. let e = only broken-answers h in let z : _≡_ {A = ℕ} 0 1 = cc in omega arith,
@@ -214,11 +210,11 @@ unbroken-needed = (
 
 -- That a byte is removed is needed: where none is, the report itself is handed out too
 pub none-removed-answers : Answered Mm (0x90 ∷ 0x05 ∷ 0x03 ∷ []) (Nothing ∷ Nothing ∷ answer.Report moved ∷ [])
-unfolding stepsOf stepOf good known placed wordOf byteOf keep start stray lose breakOf silenceOf dropping entered namedBy sizeBy markedBy fitsBy fitsAt fitsFirst fitsLater like reportBy readS signed number bits bit
+unfolding computing
 none-removed-answers = computed Mm _ _ refl
 
-pub removal-needed : Sound Mm (finished Mm moved ∷ []) × Sub (0x90 ∷ 0x05 ∷ 0x03 ∷ []) (bytesOf Mm moved) × (HandsOut Mm (0x90 ∷ 0x05 ∷ 0x03 ∷ []) [] → ⊥)
-unfolding lineWords accepted holds bytesS number bit
+pub removal-needed : SoundIn Mm (finished (latchedIn Mm moved) ∷ []) × Sub (0x90 ∷ 0x05 ∷ 0x03 ∷ []) (bytesOf Mm moved) × (HandsOut Mm (0x90 ∷ 0x05 ∷ 0x03 ∷ []) [] → ⊥)
+unfolding computing
 removal-needed = (
   ((refl, refl), tt),
   stays (stays (stays none)),

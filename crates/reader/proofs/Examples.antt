@@ -1,73 +1,79 @@
 -- Worked reads: the conditions of the laws, met and not met.
+use Prim.Native.Nat.{ℕ}
 use mathlib.Core.Path.{_≡_, refl}
 use mathlib.Core.Bool.{false}
-use mathlib.Core.List.{[], _∷_}
+use mathlib.Core.List.{List, [], _∷_, _++_}
 use lib.ListN.{replicate}
 use lib.IntN.{ℤ, pos}
-use Rattle.numbers.specs.Bits.{bit, bits, number}
-use Rattle.numbers.specs.Signed.{signed, untwos, minus}
-use Rattle.wire.specs.Line.{break, silence, namedBy, sizeBy, markedBy, known}
-use Rattle.wire.specs.Fits.{like, fitsFirst, fitsLater, fitsAt, fitsBy}
-use Rattle.wire.specs.Reading.{readS, readU, reportBy, plusZero, settledBy}
+use Rattle.numbers.specs.Signed.{minus}
+use Rattle.frames.specs.Words.{break, silence}
+use Rattle.wire.specs.Reading.{settledBy}
 use Rattle.reader.specs.State.{reader, fresh, ready}
-use Rattle.reader.specs.Good.{placed, good}
-use Rattle.reader.specs.Rules.{entered, dropping, keep, start, lose, byteOf, breakOf, silenceOf, wordOf}
-use Rattle.reader.specs.Line.{whole, lineOf}
+use Rattle.reader.specs.Line.{Long, whole}
 use Rattle.reader.specs.Promises.{readOf}
+use Rattle.reader.specs.declared.Reader.{Reader}
+use Rattle.reader.proofs.Computing.{computing}
 
--- numbers that a lent slice held before
-abbrev old : ℤ
-old = pos 9
+-- places of a lent slice with the numbers that they held before; the numbers of a report that is all zero
+abbrev old : ℕ → List ℤ
+old places = replicate places (pos 9)
+
+abbrev zero : List ℤ
+zero = replicate 5 (pos 0)
+
+-- what a long read gives back: its number, the reader, the words taken, the reports and the bytes dropped, and the slice
+abbrev gives : ℕ → Reader → ℕ → ℕ → ℕ → List ℤ → Long
+gives n next taken reports dropped out = whole (record { refusal = n; next = next; taken = taken; reports = reports; dropped = dropped }) out
 
 -- S with seven places: one report, words that finish none, and a stop before the word that would finish the next
-pub stop : readOf (fresh 0x53) (0x98 ∷ 0 ∷ 0 ∷ 0x94 ∷ 5 ∷ 3 ∷ []) (replicate 7 old) ≡ whole (record { refusal = 0; next = reader 0x53 (0x94 ∷ 5 ∷ 0 ∷ 0 ∷ 0 ∷ []) 2 false; taken = 5; reports = 1; dropped = 0 }) (pos 0 ∷ pos 0 ∷ pos 0 ∷ pos 0 ∷ pos 0 ∷ old ∷ old ∷ [])
-unfolding readOf lineOf good known placed wordOf byteOf keep start lose breakOf silenceOf dropping entered namedBy sizeBy markedBy fitsBy fitsAt fitsFirst fitsLater like reportBy readS readU signed untwos number bits bit
+pub stop : readOf (fresh 0x53) (0x98 ∷ 0 ∷ 0 ∷ 0x94 ∷ 5 ∷ 3 ∷ []) (old 7) ≡ gives 0 (reader 0x53 (0x94 ∷ 5 ∷ 0 ∷ 0 ∷ 0 ∷ []) 2 false) 5 1 0 (zero ++ old 2)
+unfolding computing
 stop = refl
 
 -- a bad word behind that stop is not reached
-pub behind-the-stop : readOf (fresh 0x53) (0x98 ∷ 0 ∷ 0 ∷ 0x94 ∷ 5 ∷ 3 ∷ 300 ∷ []) (replicate 7 old) ≡ whole (record { refusal = 0; next = reader 0x53 (0x94 ∷ 5 ∷ 0 ∷ 0 ∷ 0 ∷ []) 2 false; taken = 5; reports = 1; dropped = 0 }) (pos 0 ∷ pos 0 ∷ pos 0 ∷ pos 0 ∷ pos 0 ∷ old ∷ old ∷ [])
-unfolding readOf lineOf good known placed wordOf byteOf keep start lose breakOf silenceOf dropping entered namedBy sizeBy markedBy fitsBy fitsAt fitsFirst fitsLater like reportBy readS readU signed untwos number bits bit
+pub behind-the-stop : readOf (fresh 0x53) (0x98 ∷ 0 ∷ 0 ∷ 0x94 ∷ 5 ∷ 3 ∷ 300 ∷ []) (old 7) ≡ gives 0 (reader 0x53 (0x94 ∷ 5 ∷ 0 ∷ 0 ∷ 0 ∷ []) 2 false) 5 1 0 (zero ++ old 2)
+unfolding computing
 behind-the-stop = refl
 
 -- and before it ends the read with 4
-pub before-the-stop : readOf (fresh 0x53) (0x98 ∷ 0 ∷ 0 ∷ 0x94 ∷ 300 ∷ 5 ∷ 3 ∷ []) (replicate 7 old) ≡ whole (record { refusal = 4; next = reader 0x53 (0x94 ∷ 0 ∷ 0 ∷ 0 ∷ 0 ∷ []) 1 false; taken = 4; reports = 1; dropped = 0 }) (pos 0 ∷ pos 0 ∷ pos 0 ∷ pos 0 ∷ pos 0 ∷ old ∷ old ∷ [])
-unfolding readOf lineOf good known placed wordOf byteOf keep start lose breakOf silenceOf dropping entered namedBy sizeBy markedBy fitsBy fitsAt fitsFirst fitsLater like reportBy readS readU signed untwos number bits bit
+pub before-the-stop : readOf (fresh 0x53) (0x98 ∷ 0 ∷ 0 ∷ 0x94 ∷ 300 ∷ 5 ∷ 3 ∷ []) (old 7) ≡ gives 4 (reader 0x53 (0x94 ∷ 0 ∷ 0 ∷ 0 ∷ 0 ∷ []) 1 false) 4 1 0 (zero ++ old 2)
+unfolding computing
 before-the-stop = refl
 
 -- the rest of the first line, with the reader that came back and new places
-pub the-rest : readOf (reader 0x53 (0x94 ∷ 5 ∷ 0 ∷ 0 ∷ 0 ∷ []) 2 false) (3 ∷ []) (replicate 5 old) ≡ whole (record { refusal = 0; next = ready 0x53; taken = 1; reports = 1; dropped = 0 }) (pos 4 ∷ pos 5 ∷ minus 3 ∷ pos 0 ∷ pos 0 ∷ [])
-unfolding readOf lineOf good known placed wordOf byteOf keep start lose breakOf silenceOf dropping entered namedBy sizeBy markedBy fitsBy fitsAt fitsFirst fitsLater like reportBy readS readU signed untwos number bits bit
+pub the-rest : readOf (reader 0x53 (0x94 ∷ 5 ∷ 0 ∷ 0 ∷ 0 ∷ []) 2 false) (3 ∷ []) (old 5) ≡ gives 0 (ready 0x53) 1 1 0 (pos 4 ∷ pos 5 ∷ minus 3 ∷ pos 0 ∷ pos 0 ∷ [])
+unfolding computing
 the-rest = refl
 
 -- S, 94 05 98 00 00: two dropped, one zero report
-pub two-dropped : readOf (fresh 0x53) (0x94 ∷ 5 ∷ 0x98 ∷ 0 ∷ 0 ∷ []) (replicate 5 old) ≡ whole (record { refusal = 0; next = ready 0x53; taken = 5; reports = 1; dropped = 2 }) (pos 0 ∷ pos 0 ∷ pos 0 ∷ pos 0 ∷ pos 0 ∷ [])
-unfolding readOf lineOf good known placed wordOf byteOf keep start lose breakOf silenceOf dropping entered namedBy sizeBy markedBy fitsBy fitsAt fitsFirst fitsLater like reportBy readS readU signed untwos number bits bit
+pub two-dropped : readOf (fresh 0x53) (0x94 ∷ 5 ∷ 0x98 ∷ 0 ∷ 0 ∷ []) (old 5) ≡ gives 0 (ready 0x53) 5 1 2 zero
+unfolding computing
 two-dropped = refl
 
 -- a fresh reader of U hands out nothing, also after a break
-pub no-silence : readOf (fresh 0x55) (0x85 ∷ break ∷ 0x85 ∷ 5 ∷ 0xFD ∷ 0x85 ∷ 0 ∷ []) (replicate 5 old) ≡ whole (record { refusal = 0; next = fresh 0x55; taken = 7; reports = 0; dropped = 6 }) (replicate 5 old)
-unfolding readOf lineOf good known placed wordOf byteOf keep start lose breakOf silenceOf dropping entered namedBy sizeBy markedBy fitsBy fitsAt fitsFirst fitsLater like reportBy readS readU signed untwos number bits bit
+pub no-silence : readOf (fresh 0x55) (0x85 ∷ break ∷ 0x85 ∷ 5 ∷ 0xFD ∷ 0x85 ∷ 0 ∷ []) (old 5) ≡ gives 0 (fresh 0x55) 7 0 6 (old 5)
+unfolding computing
 no-silence = refl
 
 -- and the report after a silence
-pub a-silence : readOf (fresh 0x55) (0x85 ∷ silence ∷ 0x85 ∷ 5 ∷ 0xFD ∷ 0x85 ∷ 0 ∷ []) (replicate 5 old) ≡ whole (record { refusal = 0; next = ready 0x55; taken = 7; reports = 1; dropped = 1 }) (pos 2 ∷ pos 5 ∷ minus 3 ∷ minus 123 ∷ pos 0 ∷ [])
-unfolding readOf lineOf good known placed wordOf byteOf keep start lose breakOf silenceOf dropping entered namedBy sizeBy markedBy fitsBy fitsAt fitsFirst fitsLater like reportBy readS readU signed untwos number bits bit
+pub a-silence : readOf (fresh 0x55) (0x85 ∷ silence ∷ 0x85 ∷ 5 ∷ 0xFD ∷ 0x85 ∷ 0 ∷ []) (old 5) ≡ gives 0 (ready 0x55) 7 1 1 (pos 2 ∷ pos 5 ∷ minus 3 ∷ minus 123 ∷ pos 0 ∷ [])
+unfolding computing
 a-silence = refl
 
 -- inside a report of U a byte that looks like a header is data
-pub header-is-data : readOf (ready 0x55) (0x85 ∷ 0x85 ∷ 0xFD ∷ 0x85 ∷ 0 ∷ []) (replicate 5 old) ≡ whole (record { refusal = 0; next = ready 0x55; taken = 5; reports = 1; dropped = 0 }) (pos 2 ∷ minus 123 ∷ minus 3 ∷ minus 123 ∷ pos 0 ∷ [])
-unfolding readOf lineOf good known placed wordOf byteOf keep start lose breakOf silenceOf dropping entered namedBy sizeBy markedBy fitsBy fitsAt fitsFirst fitsLater like reportBy readS readU signed untwos number bits bit
+pub header-is-data : readOf (ready 0x55) (0x85 ∷ 0x85 ∷ 0xFD ∷ 0x85 ∷ 0 ∷ []) (old 5) ≡ gives 0 (ready 0x55) 5 1 0 (pos 2 ∷ minus 123 ∷ minus 3 ∷ minus 123 ∷ pos 0 ∷ [])
+unfolding computing
 header-is-data = refl
 
 -- a minus zero comes back with its sign bit set to 1, on one axis or on both; any other bytes come back as they are
 pub minus-zero : settledBy 0x53 (0x80 ∷ 0 ∷ 0 ∷ []) ≡ 0x98 ∷ 0 ∷ 0 ∷ []
-unfolding settledBy namedBy plusZero number bits bit
+unfolding computing
 minus-zero = refl
 
 pub minus-zero-y : settledBy 0x53 (0x94 ∷ 5 ∷ 0 ∷ []) ≡ 0x9C ∷ 5 ∷ 0 ∷ []
-unfolding settledBy namedBy plusZero number bits bit
+unfolding computing
 minus-zero-y = refl
 
 pub no-minus-zero : settledBy 0x53 (0x94 ∷ 5 ∷ 3 ∷ []) ≡ 0x94 ∷ 5 ∷ 3 ∷ []
-unfolding settledBy namedBy plusZero number bits bit
+unfolding computing
 no-minus-zero = refl

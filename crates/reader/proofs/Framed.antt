@@ -11,8 +11,9 @@ use lib.Dec.{leb, eqb}
 use borrow.Author.Tests.{leb-true, leb-false, eqb-true, eqb-false, ne-eqb}
 use Rattle.reader.proofs.Sentences.{awaits-only-unmarked}
 use Rattle.numbers.proofs.Tested.{left, right}
-use Rattle.wire.specs.Line.{isByte, letterOf, namedBy, sizeOf, markedOf, sizeBy, markedBy, known, lineWords}
-use Rattle.wire.specs.Fits.{fitsAt}
+use Rattle.frames.specs.Words.{isByte, lineWords}
+use Rattle.wire.specs.Line.{letterOf, namedBy, sizeOf, markedOf, sizeBy, markedBy, known}
+use Rattle.wire.specs.Places.{fitsAt}
 use Rattle.wire.specs.Reading.{reportOf, reportBy}
 use Rattle.wire.specs.Numbers.{success}
 use Rattle.wire.specs.declared.Report.{Report}
@@ -21,9 +22,8 @@ use Rattle.wire.specs.declared.Named.the-variants.{Known}
 use Rattle.wire.proofs.Letters.{letter-named, size-named, marked-named, fits-named}
 use Rattle.wire.proofs.Front.{same-front, size-between}
 use Rattle.wire.proofs.Codec.{fits-byte, mark}
-use Rattle.frames.specs.Frame.{Frame, State, has, waits, moveOf, fresh, whole, keep, step}
+use Rattle.frames.specs.Frame.{Frame, Laws, Marked, State, has, waits, moveOf, fresh, complete, keep, step}
 use Rattle.frames.specs.Frame as frame
-use Rattle.frames.specs.Line.{Laws, Marked}
 use Rattle.reader.specs.State.{keptIn}
 use Rattle.reader.specs.State as reader
 use Rattle.reader.specs.Good.{good}
@@ -36,7 +36,8 @@ use Rattle.reader.specs.declared.NewReader.{NewReader}
 use Rattle.reader.specs.declared.Read.{Read}
 use Rattle.reader.specs.declared.Answer.{Answer}
 use Rattle.reader.specs.declared.Answer.the-variants as answer
-use Rattle.reader.proofs.Good.{Parts, parts, one-more}
+use Rattle.reader.proofs.Entered.{byte-enters, enteredWord, enteredAll}
+use Rattle.reader.proofs.Parts.{Parts, parts, one-more}
 use Rattle.reader.proofs.Word.{by-rules, word-format}
 use Rattle.reader.proofs.Keeps.{word-good}
 use Rattle.reader.proofs.Goodness.{step-word, fresh-is-good}
@@ -68,25 +69,13 @@ pub record Like (s : Read) (x : State × frame.Answer Report) : Type 0 where
   pub answered : s .answer ≡ told (x .1)
   pub next : stateOf (s .next) ≡ x .0
 
--- the frame's step at a byte, rule by rule
-module _ (f : Format) (w : ℕ) (byte : w < 256) where
-  waits-on : markedOf f ≡ false → step (frameOf f) waits w ≡ (waits, frame.dropped 1)
-  unfolding moveOf
-  waits-on m = rw (ne-eqb w 257 (λ e. omega arith), ne-eqb w 256 (λ e. omega arith), m)
+-- the frame's step at a byte
+at-byte : (f : Format) (s : State) (w : ℕ) → w < 256
+    → step (frameOf f) s w ≡ frame.act (frameOf f) (cond (frame.inPlace (frameOf f) s w) frame.fit (cond (markedOf f && fitsAt f 0 w) frame.start frame.bad)) (frame.kept s) w
+unfolding moveOf
+at-byte f s w byte = rw (ne-eqb w 257 (λ e. omega arith), ne-eqb w 256 (λ e. omega arith))
 
-  keeps : (k : List ℕ) → fitsAt f (length k) w ≡ true → step (frameOf f) (has k) w ≡ keep (frameOf f) (k ++ (w ∷ []))
-  unfolding moveOf
-  keeps k h = rw (ne-eqb w 257 (λ e. omega arith), ne-eqb w 256 (λ e. omega arith), h)
-
-  starts : (k : List ℕ) → fitsAt f (length k) w ≡ false → markedOf f && fitsAt f 0 w ≡ true → step (frameOf f) (has k) w ≡ (has (w ∷ []), frame.drops (length k))
-  unfolding moveOf
-  starts k h s = rw (ne-eqb w 257 (λ e. omega arith), ne-eqb w 256 (λ e. omega arith), h, s)
-
-  loses : (k : List ℕ) → fitsAt f (length k) w ≡ false → markedOf f && fitsAt f 0 w ≡ false → step (frameOf f) (has k) w ≡ (fresh (frameOf f), frame.dropped (suc (length k)))
-  unfolding moveOf
-  loses k h s = rw (ne-eqb w 257 (λ e. omega arith), ne-eqb w 256 (λ e. omega arith), h, s)
-
-whole-is : (f : Format) (k : List ℕ) (w : ℕ) → whole (frameOf f) (k ++ (w ∷ [])) ≡ eqb (suc (length k)) (sizeOf f)
+whole-is : (f : Format) (k : List ℕ) (w : ℕ) → complete (frameOf f) (k ++ (w ∷ [])) ≡ eqb (suc (length k)) (sizeOf f)
 whole-is f [] w = refl
 whole-is f (a ∷ k) w = rw (length-append k (w ∷ []), add-one (length k))
 
@@ -128,7 +117,7 @@ module _ (f : Format) (r : Reader) (g : good r ≡ true) (named : namedBy (r .fo
       go false = refl
 
   -- the last byte gives the report of those kept and it
-  report-like : (w : ℕ) → suc (r .count) ≡ sizeOf f → reportBy (r .format) (more r w) ≡ reportOf f (keptIn r ++ (w ∷ []))
+  pub report-like : (w : ℕ) → suc (r .count) ≡ sizeOf f → reportBy (r .format) (more r w) ≡ reportOf f (keptIn r ++ (w ∷ []))
   unfolding reportBy
   report-like w e =
       rw (named, ← take-suc-set (r .kept) (r .count) w room)
@@ -150,10 +139,10 @@ module _ (f : Format) (r : Reader) (g : good r ≡ true) (named : namedBy (r .fo
   unfolding rules.start rules.lose
   byte-like w b =
       by-rules (λ s. Like s (step (frameOf f) (stateOf r) w)) r w
-      (λ a. rw (waiting a, waits-on f w b (sym marked-is ∙ awaits-only-unmarked r g a .0)) (record { taken = refl; answered = refl; next = waiting a }))
-      (λ a h. rw (keeping a, keeps f w b (keptIn r) (fit h)) (kept-like w))
-      (λ a h s. rw (keeping a, starts f w b (keptIn r) (fit h) (start s), count-is) (record { taken = refl; answered = dropping-told (r .count); next = refl }))
-      (λ a h s. rw (keeping a, loses f w b (keptIn r) (fit h) (start s), count-is) (record { taken = refl; answered = ap answer.Dropped (add-one (r .count)); next = fresh-like }))
+      (λ a. rw (waiting a, at-byte f waits w b, sym marked-is ∙ awaits-only-unmarked r g a .0) (record { taken = refl; answered = refl; next = waiting a }))
+      (λ a h. rw (keeping a, at-byte f (has (keptIn r)) w b, fit h) (kept-like w))
+      (λ a h s. rw (keeping a, at-byte f (has (keptIn r)) w b, fit h, start s, count-is) (record { taken = refl; answered = dropping-told (r .count); next = refl }))
+      (λ a h s. rw (keeping a, at-byte f (has (keptIn r)) w b, fit h, start s, count-is) (record { taken = refl; answered = ap answer.Dropped (add-one (r .count)); next = fresh-like }))
     where
       waiting : r .awaiting ≡ true → stateOf r ≡ waits
       waiting a = rw a
@@ -167,31 +156,33 @@ module _ (f : Format) (r : Reader) (g : good r ≡ true) (named : namedBy (r .fo
       start : {t : Bool} → starting r w ≡ t → markedOf f && fitsAt f 0 w ≡ t
       start h = rw (marked-is, fits-named (r .format) named 0 w) at h
 
-  word-like : (w : ℕ) → w ≤ 257 → Like (wordOf r w) (step (frameOf f) (stateOf r) w)
-  unfolding wordOf entered breakOf silenceOf moveOf
+  -- a word, as it enters
+  word-like : (w : ℕ) → w ≤ 257 → Like (wordOf r w) (step (frameOf f) (stateOf r) (enteredWord (r .format) w))
+  unfolding wordOf breakOf silenceOf moveOf
   word-like w l = go (isByte w) refl (eqb w 256) refl
     where
-      go : (t : Bool) → isByte w ≡ t → (u : Bool) → eqb w 256 ≡ u → Like (wordOf r w) (step (frameOf f) (stateOf r) w)
-      go true e u q = rw e (byte-like w (omega (arith, leb-true w 255 e)))
+      go : (t : Bool) → isByte w ≡ t → (u : Bool) → eqb w 256 ≡ u → Like (wordOf r w) (step (frameOf f) (stateOf r) (enteredWord (r .format) w))
+      go true e u q = rw e (byte-like (entered (r .format) w) (omega (arith, byte-enters (r .format) w (leb-true w 255 e))))
       go false e true q = rw (eqb-true w 256 q, kept-count) (record { taken = refl; answered = dropping-told (r .count); next = fresh-like })
       go false e false q =
           let h : w ≡ 257 = omega (arith, leb-false w 255 e, eqb-false w 256 q) in
           rw (h, kept-count) (record { taken = refl; answered = dropping-told (r .count); next = refl })
 
   -- so that the public step does what the frame's step does
-  pub step-like : (w : ℕ) → w ≤ 257 → Like (stepOf r w) (step (frameOf f) (stateOf r) w)
+  pub step-like : (w : ℕ) → w ≤ 257 → Like (stepOf r w) (step (frameOf f) (stateOf r) (enteredWord (r .format) w))
   step-like w l = rw (step-word r w g) (word-like w l)
 
--- over legal words
+-- over legal words, as they enter
 module _ (f : Format) where
   steps-like : (words : List ℕ) (r : Reader) → good r ≡ true → namedBy (r .format) ≡ Known f → lineWords words ≡ true
-      → answers (stepsOf r words) ≡ map told (frame.answers (frameOf f) (stateOf r) words)
+      → answers (stepsOf r words) ≡ map told (frame.answers (frameOf f) (stateOf r) (enteredAll (r .format) words))
   unfolding stepsOf lineWords
   steps-like [] r g named l = refl
   steps-like (w ∷ words) r g named l =
       let like = step-like f r g named w (leb-true w 257 (left (leb w 257) (lineWords words) l)) in
-      let rest = steps-like words (stepOf r w .next) (rw (step-word r w g) (word-good r g w)) (rw (step-word r w g, word-format r w) named) (right (leb w 257) (lineWords words) l) in
-      rw (like .answered, rest, like .next)
+      let same : stepOf r w .next .format ≡ r .format = rw (step-word r w g) (word-format r w) in
+      let rest = steps-like words (stepOf r w .next) (rw (step-word r w g) (word-good r g w)) (rw same named) (right (leb w 257) (lineWords words) l) in
+      rw (like .answered, rest, like .next, ap (λ (letter : ℕ). enteredAll letter words) same)
 
   -- a fresh reader
   pub fresh-named : (a : NewReader) → FreshPromise (letterOf f) a → a .reader ≡ reader.fresh (letterOf f)
@@ -199,11 +190,13 @@ module _ (f : Format) where
   fresh-named a e = rw (e, letter-named f)
 
   pub framed : (words : List ℕ) (a : NewReader) (steps : List Read) → lineWords words ≡ true → FreshPromise (letterOf f) a → StepsPromise (a .reader) words steps
-      → answers steps ≡ map told (frame.answers (frameOf f) (fresh (frameOf f)) words)
+      → answers steps ≡ map told (frame.answers (frameOf f) (fresh (frameOf f)) (enteredAll (letterOf f) words))
   framed words a steps l e p =
       let i = fresh-named a e in
       let g = fresh-is-good (letterOf f) a e in
       let named : namedBy (a .reader .format) ≡ Known f = rw i (letter-named f) in
       let like = rw i at (fresh-like f (a .reader) g named) in
       rw (steps-are (a .reader) words steps p)
-      (steps-like words (a .reader) g named l ∙ ap (λ (s : State). map told (frame.answers (frameOf f) s words)) (ap stateOf i ∙ like))
+      (steps-like words (a .reader) g named l
+      ∙ ap (λ (s : State). map told (frame.answers (frameOf f) s (enteredAll (a .reader .format) words))) (ap stateOf i ∙ like)
+      ∙ ap (λ (r : Reader). map told (frame.answers (frameOf f) (fresh (frameOf f)) (enteredAll (r .format) words))) i)

@@ -1,10 +1,8 @@
 -- No reader that we make is ever refused: a fresh one is good, and every step and read of a good one gives a good one of the same format.
-use Prim.Native.Nat.{ℕ, _*_}
+use Prim.Native.Nat.{ℕ}
 use mathlib.Core.Path.{_≡_, refl, _∙_, ap}
 use mathlib.Core.Bool.{true}
-use mathlib.Core.Logic.{_⊎_, inl, inr}
-use mathlib.Core.List.{List, [], _∷_}
-use lib.ListN.{drop}
+use mathlib.Core.List.{List}
 use lib.IntN.{ℤ}
 use Rattle.wire.specs.Line.{letterOf, namedBy, known}
 use Rattle.wire.specs.declared.Format.the-variants.{FiveByte}
@@ -19,7 +17,7 @@ use Rattle.reader.specs.declared.Reading.{Reading}
 use Rattle.numbers.proofs.Choices.{cases}
 use Rattle.reader.proofs.Word.{word-format}
 use Rattle.reader.proofs.Keeps.{fresh-good, word-good}
-use Rattle.reader.proofs.View.{Stops, Takes, view}
+use Rattle.reader.proofs.View.{by-words}
 use Rattle.reader.proofs.Permitted.{step-is}
 
 -- to a good reader a step is the word
@@ -47,13 +45,9 @@ abbrev Stays : Reader → Reader → Type 0
 Stays r next = (good next ≡ true) × (next .format ≡ r .format)
 
 pub line-stays-good : (words : List ℕ) (r : Reader) (out : List ℤ) → good r ≡ true → Stays r (lineOf r words out .reading .next)
-unfolding lineOf
-line-stays-good [] r out g = (g, refl)
-line-stays-good (w ∷ words) r out g = go (line-stays-good words) (view r w out)
-  where
-    go : ((r : Reader) (out : List ℤ) → good r ≡ true → Stays r (lineOf r words out .reading .next)) → Stops r w out ⊎ Takes r w out → Stays r (lineOf r (w ∷ words) out .reading .next)
-    go ih (inl s) = rw (s .is words) (g, refl)
-    go ih (inr t) = let h = ih (wordOf r w .next) (drop (5 * t .n) out) (word-good r g w) in rw (t .is words) (h .0, h .1 ∙ word-format r w)
+line-stays-good =
+    by-words (λ r words out l. good r ≡ true → Stays r (l .reading .next)) (λ r out g. (g, refl)) (λ r w words out s g. (g, refl))
+    (λ r w words out t l ih g. let h = ih (word-good r g w) in (h .0, h .1 ∙ word-format r w))
 
 pub read-stays-good : (r : Reader) (words : List ℕ) (out : List ℤ) (a : Reading) (after : List ℤ) → good r ≡ true → ReadPromise r words out a after → (good (a .next) ≡ true) × (a .next .format ≡ r .format)
 read-stays-good r words out a after g e =

@@ -9,14 +9,18 @@ use native.Mathlib.Omega.{arith}
 use lib.ListN.{length, getD, take, drop, List·getD-map}
 use lib.Seq.{drop-at}
 use lib.IntN.{ℤ}
-use Rattle.wire.specs.Line.{break, letterOf, markedOf, lineWords}
+use Rattle.numbers.proofs.Choices.{both}
+use Rattle.frames.specs.Words.{break, lineWords}
+use Rattle.wire.specs.Line.{letterOf, markedOf}
 use Rattle.wire.specs.declared.Report.{Report}
 use Rattle.wire.specs.declared.Format.{Format}
 use Rattle.frames.specs.Frame.{State, has, waits, moveOf, fresh, step}
 use Rattle.frames.specs.Frame as frame
+use Rattle.frames.proofs.Words.{passing}
 use Rattle.frames.proofs.Reading.{on}
 use Rattle.frames.proofs.Replaced as replaced
 use Rattle.reader.specs.State.{fiveOf}
+use Rattle.reader.specs.Counts.{handedOut, numbers}
 use Rattle.reader.specs.Promises.{FreshPromise}
 use Rattle.reader.specs.Runs.{stepsOf, StepsPromise, answers}
 use Rattle.reader.specs.declared.Reader.{Reader}
@@ -24,8 +28,10 @@ use Rattle.reader.specs.declared.NewReader.{NewReader}
 use Rattle.reader.specs.declared.Read.{Read}
 use Rattle.reader.specs.declared.Answer.{Answer}
 use Rattle.reader.specs.declared.Answer.the-variants as answer
-use Rattle.reader.specs.DamagedLines.{Given, no-word, a-break, HandsOut, HandsOutAt, handedOut, numbers}
+use Rattle.reader.specs.DamagedLines.{Given, no-word, a-break, HandsOut, HandsOutAt}
+use Rattle.reader.proofs.Entered.{enteredAll}
 use Rattle.reader.proofs.Framed.{frameOf, told, framed}
+use Rattle.reader.proofs.AsSent.{plain, asSent, break-plain}
 use Rattle.reader.proofs.Took.{took}
 
 -- the steps of the definition are permitted
@@ -62,8 +68,9 @@ numbers-at : (l : List Report) (p : Report) (m : List Report) (rest : List ℤ) 
 numbers-at l p m rest =
     rw (numbers-append l (p ∷ m), append-assoc (numbers l), drop-at (numbers l) (fiveOf p ++ (numbers m ++ rest)) (5 * length l) (numbers-length l))
 
-module _ (f : Format) (words : List ℕ) (legal : lineWords words ≡ true) where
-  pub hands-out : (found : List Report) → frame.read (frameOf f) (fresh (frameOf f)) words ≡ found → HandsOut f words found
+-- `seen` is what enters of the words
+module _ (f : Format) (words seen : List ℕ) (legal : lineWords words ≡ true) (enters : enteredAll (letterOf f) words ≡ seen) where
+  pub hands-out : (found : List Report) → frame.read (frameOf f) (fresh (frameOf f)) seen ≡ found → HandsOut f words found
   hands-out found e =
       record {
         by-steps = all;
@@ -75,9 +82,9 @@ module _ (f : Format) (words : List ℕ) (legal : lineWords words ≡ true) wher
       }
     where
       all : (a : NewReader) (steps : List Read) → FreshPromise (letterOf f) a → StepsPromise (a .reader) words steps → handedOut (answers steps) ≡ found
-      all a steps p q = ap handedOut (framed f words a steps legal p q) ∙ (same-reports (frame.answers (frameOf f) (fresh (frameOf f)) words) ∙ e)
+      all a steps p q = ap handedOut (rw enters at (framed f words a steps legal p q)) ∙ (same-reports (frame.answers (frameOf f) (fresh (frameOf f)) seen) ∙ e)
 
-  pub hands-out-at : (i : ℕ) (p : Report) → replaced.Handed (frameOf f) words i p → HandsOutAt f words i p
+  pub hands-out-at : (i : ℕ) (p : Report) → replaced.Handed (frameOf f) seen i p → HandsOutAt f words i p
   hands-out-at i p h =
       record {
         by-steps = all;
@@ -92,7 +99,7 @@ module _ (f : Format) (words : List ℕ) (legal : lineWords words ≡ true) wher
       }
     where
       all : (a : NewReader) (steps : List Read) → FreshPromise (letterOf f) a → StepsPromise (a .reader) words steps → getD (answers steps) i answer.Nothing ≡ answer.Report p
-      all a steps x y = rw (framed f words a steps legal x y) (List·getD-map told (frame.answers (frameOf f) (fresh (frameOf f)) words) i frame.nothing ∙ ap told h)
+      all a steps x y = rw (framed f words a steps legal x y, enters) (List·getD-map told (frame.answers (frameOf f) (fresh (frameOf f)) seen) i frame.nothing ∙ ap told h)
 
 -- a fresh reader answers a break by nothing and is fresh again
 module _ (f : Format) where
@@ -114,7 +121,7 @@ module _ (f : Format) where
   read-given no-word words = refl
   read-given a-break words = ap frame.reports (on (frameOf f) (fresh (frameOf f)) break words break-step)
 
-pub given-legal : {given : List ℕ} → Given given → lineWords given ≡ true
-unfolding lineWords
-given-legal no-word = refl
-given-legal a-break = refl
+pub given-sent : (f : Format) {given : List ℕ} → Given given → asSent f given ≡ true
+unfolding passing
+given-sent f no-word = refl
+given-sent f a-break = both (plain f break) true (break-plain f) refl

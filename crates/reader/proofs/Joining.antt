@@ -3,20 +3,17 @@
 use Prim.Native.Nat.{ℕ, _+_, _*_}
 use mathlib.Core.Path.{_≡_, refl, sym, _∙_, ap}
 use mathlib.Core.Bool.{Bool, true, false}
-use mathlib.Core.Logic.{_⊎_, inl, inr}
 use mathlib.Core.List.{List, [], _∷_, _++_}
 use native.Mathlib.Omega.{arith}
 use lib.ListN.{length, take, drop}
 use lib.Seq.{take-append-add, drop-append-add}
 use lib.IntN.{ℤ}
 use Rattle.reader.specs.Good.{good}
-use Rattle.reader.specs.Rules.{wordOf}
 use Rattle.reader.specs.Line.{Long, whole, joined, unused, asOne, lineOf}
 use Rattle.reader.specs.Promises.{ReadPromise, readOf}
 use Rattle.reader.specs.declared.Reader.{Reader}
 use Rattle.reader.specs.declared.Reading.{Reading}
-use Rattle.reader.proofs.View.{Stops, Takes, view}
-use Rattle.reader.proofs.Joined.{joined-none, joined-joined}
+use Rattle.reader.proofs.View.{by-words, joined-none, joined-joined}
 use Rattle.reader.proofs.Goodness.{line-stays-good}
 
 -- what was read, and then what is read of a part behind it
@@ -39,21 +36,12 @@ then-joined t n d front l q h =
     rw (take-seam front (l .out) n (l .reading .reports) h, drop-seam front (l .out) n (l .reading .reports) h)
     (sym (joined-joined t n d _ _ _ front _ _))
 
-join-line : (p q : List ℕ) (r : Reader) (out : List ℤ) → lineOf r p out .reading .taken ≡ length p → lineOf r (p ++ q) out ≡ thenLine (lineOf r p out) q
-unfolding lineOf
-join-line [] q r out h = sym (joined-none (lineOf r q out))
-join-line (w ∷ p) q r out h = go (join-line p q) (view r w out)
-  where
-    go : ((r : Reader) (out : List ℤ) → lineOf r p out .reading .taken ≡ length p → lineOf r (p ++ q) out ≡ thenLine (lineOf r p out) q) → Stops r w out ⊎ Takes r w out → lineOf r (w ∷ (p ++ q)) out ≡ thenLine (lineOf r (w ∷ p) out) q
-    go ih (inl s) = let z = rw (s .is p) at h in absurd (omega arith)
-    go ih (inr t) =
-        let z = rw (t .is p) at h in
-        let next = wordOf r w .next in
-        let e : lineOf next p (drop (5 * t .n) out) .reading .taken ≡ length p = omega arith in
-        t .is (p ++ q)
-        ∙ ap (joined 1 (t .n) (t .d) (t .front)) (ih next (drop (5 * t .n) out) e)
-        ∙ sym (then-joined 1 (t .n) (t .d) (t .front) (lineOf next p (drop (5 * t .n) out)) q (t .sized))
-        ∙ ap (λ (l : Long). thenLine l q) (sym (t .is p))
+join-line : (q p : List ℕ) (r : Reader) (out : List ℤ) → lineOf r p out .reading .taken ≡ length p → lineOf r (p ++ q) out ≡ thenLine (lineOf r p out) q
+join-line q =
+    by-words (λ r p out l. l .reading .taken ≡ length p → lineOf r (p ++ q) out ≡ thenLine l q) (λ r out h. sym (joined-none (lineOf r q out)))
+    (λ r w p out s h. absurd (omega arith))
+    (λ r w p out t l ih h.
+    t .is (p ++ q) ∙ ap (joined 1 (t .n) (t .d) (t .front)) (ih (omega arith)) ∙ sym (then-joined 1 (t .n) (t .d) (t .front) l q (t .sized)))
 
 -- the same of three reads: of p ++ q, of p, and of q with the reader that came back and the unused part of the slice
 join-read : (p q : List ℕ) (r : Reader) (out : List ℤ) (b : Long) → b ≡ readOf r p out → b .reading .taken ≡ length p
@@ -65,7 +53,7 @@ join-read p q r out b e t = go (good r) refl p q e t
         → readOf r (p ++ q) out ≡ asOne (b .reading) (b .out) (readOf (b .reading .next) q (unused (b .reading) (b .out)))
     go true g p q e t =
         let i = rw g at e in
-        rw g (rw (i, line-stays-good p r out g .0) (join-line p q r out (rw i at t)))
+        rw g (rw (i, line-stays-good p r out g .0) (join-line q p r out (rw i at t)))
     go false g [] q e t = rw (g, rw g at e, g)
     go false g (w ∷ p) q e t = absurd (omega (arith, rw (rw g at e) at t))
 

@@ -10,16 +10,15 @@ use lib.Dec.{ltb, eqb}
 use borrow.Author.Tests.{lt-ltb, le-ltb, ltb-true, ltb-false, eqb-true, eqb-false}
 use Rattle.numbers.proofs.Tested.{right}
 use Rattle.wire.specs.Line.{sizeBy, markedBy, known}
-use Rattle.wire.specs.Fits.{fitsBy}
+use Rattle.wire.specs.Places.{fitsBy}
 use Rattle.reader.specs.State.{reader, unmarked, noBytes, fresh, ready}
 use Rattle.reader.specs.Good.{placed, good}
-use Rattle.reader.specs.Rules.{entered, fitting, more, finishes, keep, start, lose, byteOf, breakOf, silenceOf, wordOf}
+use Rattle.reader.specs.Rules.{entered, fitting, more, wordOf}
 use Rattle.reader.specs.declared.Reader.{Reader}
 use Rattle.reader.specs.declared.Read.{Read}
-use Rattle.numbers.proofs.Choices.{cases}
 use Rattle.wire.proofs.Letters.{at-least-three, size-positive}
-use Rattle.reader.proofs.Good.{Parts, parts, made, one-more}
-use Rattle.reader.proofs.Word.{by-rules, by-kind}
+use Rattle.reader.proofs.Parts.{Parts, parts, made, one-more}
+use Rattle.reader.proofs.Word.{by-word}
 
 -- a reader that has no bytes
 none-good : (letter : ℕ) (awaiting : Bool) → known letter ≡ true → not awaiting || unmarked letter ≡ true → good (noBytes letter awaiting) ≡ true
@@ -83,16 +82,14 @@ module _ (r : Reader) (g : good r ≡ true) where
         awaits = refl;
       })
 
-  byte-good : (b : ℕ) → Fine (byteOf r b)
-  unfolding keep start lose
-  byte-good b =
-      by-rules Fine r b (λ _. g)
-      (λ _ fit. cases Fine (finishes r) (λ _. ready-good (r .format) (p .of-known)) (λ e. kept-good b fit (eqb-false (r .count + 1) (sizeBy (r .format)) e)))
-      (λ _ _ s. started-good (r .format) b (p .of-known) (omega (arith, at-least-three (r .format) (r .count) (p .below))) (right (markedBy (r .format)) (fitsBy (r .format) 0 b) s))
-      (λ _ _ _. fresh-good (r .format) (p .of-known))
-
   pub word-good : (w : ℕ) → good (wordOf r w .next) ≡ true
-  unfolding breakOf silenceOf
   word-good w =
-      by-kind Fine r w (λ _. byte-good (entered (r .format) w)) (λ _ _. fresh-good (r .format) (p .of-known))
-      (λ _ _. ready-good (r .format) (p .of-known)) (λ _. g)
+      by-word Fine r w (λ _ _. g) (λ _ _ _ _. is-ready) (λ _ _ fit e. kept-good (entered (r .format) w) fit (eqb-false (r .count + 1) (sizeBy (r .format)) e))
+      (λ _ _ _ s. started-good (r .format) (entered (r .format) w) (p .of-known) (omega (arith, at-least-three (r .format) (r .count) (p .below))) (right (markedBy (r .format)) _ s))
+      (λ _ _ _ _. is-fresh) (λ _. is-fresh) (λ _. is-ready) (λ _. g)
+    where
+      is-ready : good (ready (r .format)) ≡ true
+      is-ready = ready-good (r .format) (p .of-known)
+
+      is-fresh : good (fresh (r .format)) ≡ true
+      is-fresh = fresh-good (r .format) (p .of-known)

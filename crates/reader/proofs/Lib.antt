@@ -1,12 +1,14 @@
 -- The laws of the reader: one answer (Permitted), what a refusal leaves (Refusals), Room, how far a long read goes (Bounds), word by word (Steps), good readers
 -- stay good (Goodness), Counting, Joining, There and Back, nothing before a silence (Awaiting), Useless, sentences of the paper (Sentences, Nowhere), demand 3's
--- half of the reader (Damaged) with its worked lines (DamagedRuns), Examples, wrong answers (Wrong); and what their proofs and those of the functions share.
-pub mod Good
+-- half of the reader (Damaged) with its worked lines (DamagedRuns), Examples, wrong answers (Wrong); what enters (Entered); and what their proofs and those of the
+-- functions share.
+pub mod Computing
+pub mod Parts
+pub mod Entered
 pub mod Word
 pub mod Keeps
 pub mod Turn
 pub mod View
-pub mod Joined
 pub mod Loop
 pub mod Bounds
 pub mod Permitted
@@ -23,10 +25,10 @@ pub mod Useless
 pub mod Sentences
 pub mod Nowhere
 pub mod Framed
+pub mod AsSent
 pub mod Took
-pub mod Segments
+pub mod Lines
 pub mod Handed
-pub mod Stretch
 pub mod Damaged
 pub mod DamagedRuns
 pub mod Examples

@@ -10,16 +10,16 @@ use lib.ListN.{length, getD, take, drop, length-append, length-drop, take-append
 use lib.Seq.{take-all, drop-cons, take-at, drop-at, length-take-le}
 use lib.IntN.{ℤ}
 use borrow.Rule.Slice.PartMut.{putMid}
-use Rattle.wire.specs.Line.{isByte, sizeBy}
+use Rattle.frames.specs.Words.{isByte}
+use Rattle.wire.specs.Line.{sizeBy}
 use Rattle.reader.specs.Rules.{wordOf}
 use Rattle.reader.specs.Counts.{byteIn}
 use Rattle.reader.specs.Line.{Long, whole, stopped, joined, lineOf}
 use Rattle.reader.specs.declared.Reader.{Reader}
 use Rattle.reader.specs.declared.Reading.{Reading}
-use Rattle.reader.proofs.View.{Stops, Takes, view}
+use Rattle.reader.proofs.View.{Stops, Takes, view, joined-joined}
 use Rattle.reader.proofs.Word.{word-format, word-below}
 use Rattle.numbers.proofs.Choices.{cases}
-use Rattle.reader.proofs.Joined.{joined-joined}
 
 -- where the loop stands: what is done, and what is left
 abbrev pub standing : List ℕ → List ℤ → Reader → ℕ → ℕ → ℕ → ℕ → Long
@@ -34,24 +34,16 @@ pub record Turned (r : Reader) (w : ℕ) (o : List ℤ) (t : Reading) (last : Li
   pub sized : length front ≡ 5 * t .reports
   pub room : 5 * t .reports ≤ length o
   pub few : t .dropped + t .next .count ≤ 1 + r .count
-  pub format : t .next .format ≡ r .format
-  pub below : r .count < sizeBy (r .format) → t .next .count < sizeBy (r .format)
+  pub below : r .count < sizeBy (r .format) → t .next .count < sizeBy (t .next .format)
   pub wrote : last ≡ front ++ drop (5 * t .reports) o
   pub is : (ws : List ℕ) → lineOf r (w ∷ ws) o ≡ joined 1 (t .reports) (t .dropped) front (lineOf (t .next) ws (drop (5 * t .reports) o))
 
 module _ (r : Reader) (w : ℕ) (o : List ℤ) where
-  pub stops : (t : Reading) (last : List ℤ) → whole t last ≡ lineOf r (w ∷ []) o → t .taken ≡ 0 → (ws : List ℕ) → lineOf r (w ∷ ws) o ≡ stopped (t .refusal) r o
-  stops t last e z ws = go (view r w o)
+  stops : (t : Reading) (last : List ℤ) → whole t last ≡ lineOf r (w ∷ []) o → t .taken ≡ 0 → ((ws : List ℕ) → lineOf r (w ∷ ws) o ≡ stopped (t .refusal) r o) × (last ≡ o)
+  stops t last e z = go (view r w o)
     where
-      go : Stops r w o ⊎ Takes r w o → lineOf r (w ∷ ws) o ≡ stopped (t .refusal) r o
-      go (inl s) = s .is ws ∙ ap (λ (n : ℕ). stopped n r o) (sym (ap (λ (l : Long). l .reading .refusal) (e ∙ s .is [])))
-      go (inr x) = absurd (omega (arith, ap (λ (l : Long). l .reading .taken) (e ∙ x .is [])))
-
-  pub still : (t : Reading) (last : List ℤ) → whole t last ≡ lineOf r (w ∷ []) o → t .taken ≡ 0 → last ≡ o
-  still t last e z = go (view r w o)
-    where
-      go : Stops r w o ⊎ Takes r w o → last ≡ o
-      go (inl s) = ap (λ (l : Long). l .out) (e ∙ s .is [])
+      go : Stops r w o ⊎ Takes r w o → ((ws : List ℕ) → lineOf r (w ∷ ws) o ≡ stopped (t .refusal) r o) × (last ≡ o)
+      go (inl s) = let is = e ∙ s .is [] in (λ ws. s .is ws ∙ ap (λ (l : Long). stopped (l .reading .refusal) r o) (sym is), ap (λ (l : Long). l .out) is)
       go (inr x) = absurd (omega (arith, ap (λ (l : Long). l .reading .taken) (e ∙ x .is [])))
 
   pub turned : (t : Reading) (last : List ℤ) → whole t last ≡ lineOf r (w ∷ []) o → (t .taken ≡ 0 → ⊥) → Turned r w o t last
@@ -70,8 +62,7 @@ module _ (r : Reader) (w : ℕ) (o : List ℤ) where
             sized = rw n (x .sized);
             room = rw n (x .room);
             few = rw (d, m) (omega (arith, x .kept, one-byte w));
-            format = rw m (word-format r w);
-            below = λ h. rw m (word-below r w h);
+            below = λ h. rw (m, word-format r w) (word-below r w h);
             wrote = rw n (ap (λ (l : Long). l .out) f);
             is = rw (n, d, m) (x .is);
           }
@@ -134,7 +125,7 @@ module _ (words : List ℕ) (out : List ℤ) (r : Reader) (at used reports dropp
 
   pub ends-before : (t : Reading) (last : List ℤ) → whole t last ≡ lineOf r (getD words at 0 ∷ []) (drop used out) → t .taken ≡ 0
       → whole (record { refusal = t .refusal; next = r; taken = at; reports = reports; dropped = dropped }) out ≡ standing words out r at used reports dropped
-  ends-before t last e z = ends words out r at used reports dropped (t .refusal) (ap (λ (l : List ℕ). lineOf r l (drop used out)) words-is ∙ stops r (getD words at 0) (drop used out) t last e z (drop (at + 1) words))
+  ends-before t last e z = ends words out r at used reports dropped (t .refusal) (ap (λ (l : List ℕ). lineOf r l (drop used out)) words-is ∙ stops r (getD words at 0) (drop used out) t last e z .0 (drop (at + 1) words))
 
   pub unchanged : (t : Reading) (last : List ℤ) → whole t last ≡ lineOf r (getD words at 0 ∷ []) (drop used out) → t .taken ≡ 0 → putMid used (length out - used) out last ≡ out
-  unchanged t last e z = rw (back out last used, still r (getD words at 0) (drop used out) t last e z) (take-append-drop used out)
+  unchanged t last e z = rw (back out last used, stops r (getD words at 0) (drop used out) t last e z .1) (take-append-drop used out)

@@ -1,104 +1,113 @@
 -- "(wrong fixed bits, odd count of ones in A or B, 128 and over in V, in W no hex digit, or a first digit above 7)": such a byte "is dropped
 -- with the k kept, k+1; U, T, W then await silence".
 use Prim.Native.Nat.{ℕ, _+_, _<_, _≤_}
-use mathlib.Core.Path.{_≡_, refl}
-use mathlib.Core.Bool.{Bool, true, false, not, cond, and-false}
+use mathlib.Core.Path.{_≡_, refl, _∙_}
+use mathlib.Core.Bool.{Bool, true, false, not, _&&_, _||_, and-false}
 use native.Mathlib.Omega.{arith}
-use lib.Dec.{ltb, eqb}
-use borrow.Author.Tests.{le-ltb, lt-leb}
+use lib.Dec.{T, leb, ltb, eqb}
+use lib.Count.{ones, onesIn}
+use borrow.Author.Tests.{lt-leb, le-leb, lt-ltb}
 use Rattle.numbers.specs.Bits.{bit}
 use Rattle.numbers.specs.Parity.{even}
-use Rattle.numbers.proofs.Tested.{agree-if}
-use Rattle.wire.specs.Line.{namedBy, markedOf, markedBy}
-use Rattle.wire.specs.Fits.{like, isDigit, fitsAt, fitsFirst, fitsLater, fitsBy}
+use Rattle.numbers.specs.Tests.{each}
+use Rattle.numbers.proofs.Choices.{cases, neither}
+use Rattle.numbers.proofs.Tested.{same, agree-if}
+use Rattle.wire.specs.Line.{letterOf, namedBy, markedOf}
+use Rattle.wire.specs.Digits.{between, isDigit}
+use Rattle.wire.specs.Places.{like, fitsAt, fitsFirst, fitsLater}
 use Rattle.wire.specs.declared.Format.{Format}
-use Rattle.wire.specs.declared.Format.the-variants.{Mm, Microsoft, Absolute, Relative, Hexadecimal}
+use Rattle.wire.specs.declared.Format.the-variants.{Mm, Microsoft, Absolute, Relative, FiveByte, ThreeByte, Hexadecimal}
 use Rattle.wire.specs.declared.Named.the-variants.{Known}
+use Rattle.wire.proofs.Letters.{letter-named, marked-named, fits-named}
 use Rattle.reader.specs.State.{fresh}
 use Rattle.reader.specs.Good.{good}
-use Rattle.reader.specs.Rules.{answered}
+use Rattle.reader.specs.Rules.{entered, answered}
 use Rattle.reader.specs.Promises.{StepPromise}
 use Rattle.reader.specs.declared.Reader.{Reader}
 use Rattle.reader.specs.declared.Read.{Read}
 use Rattle.reader.specs.declared.Answer.the-variants.{Dropped}
+use Rattle.reader.proofs.Entered.{as-it-is, enters-outside-V}
 use Rattle.reader.proofs.Sentences.{never-awaits, lost}
 
--- a byte that is valid neither first nor later
-no-place : (f : Format) (place b : ℕ) → fitsFirst f b ≡ false → fitsLater f b ≡ false → fitsAt f place b ≡ false
+-- bytes that pass a test are valid neither first nor later: computed at every byte
+no-place : (f : Format) (test : ℕ → Bool) → T (each (λ n. not (test n) || same (fitsFirst f n || fitsLater f n) false) 256)
+    → (place b : ℕ) → b ≤ 255 → test b ≡ true → fitsAt f place b ≡ false
 unfolding fitsAt
-no-place f place b first later = go (eqb place 0)
-  where
-    go : (t : Bool) → cond t (fitsFirst f b) (fitsLater f b) ≡ false
-    go true = first
-    go false = later
+no-place f test t place b h e =
+    let none = neither (fitsFirst f b) (fitsLater f b) (agree-if test (λ n. fitsFirst f n || fitsLater f n) (λ n. false) 256 t b (omega arith) e) in
+    cases (λ (u : Bool). u ≡ false) (eqb place 0) (λ _. none .0) (λ _. none .1)
 
--- S: wrong fixed bits in a byte that has the mark
-above-9F : (place b : ℕ) → 0xA0 ≤ b → b ≤ 255 → fitsAt Mm place b ≡ false
-unfolding fitsFirst fitsLater like bit
-above-9F place b h k =
-    no-place Mm place b
-    (agree-if (λ n. not (ltb n 0xA0)) (fitsFirst Mm) (λ n. false) 256 tt b (omega arith) (rw (le-ltb b 0xA0 h)))
-    (agree-if (λ n. not (ltb n 0xA0)) (fitsLater Mm) (λ n. false) 256 tt b (omega arith) (rw (le-ltb b 0xA0 h)))
+module _ (r : Reader) (w : ℕ) (s : Read) (g : good r ≡ true) (byte : w ≤ 255) (e : StepPromise r w s) where
+  abbrev Lost : Type 0
+  Lost = s ≡ answered (fresh (r .format)) (Dropped (r .count + 1))
 
--- V: 128 and over
-over-127 : (place b : ℕ) → 128 ≤ b → b ≤ 255 → fitsAt Microsoft place b ≡ false
-unfolding fitsFirst fitsLater like bit
-over-127 place b h k =
-    no-place Microsoft place b
-    (agree-if (λ n. not (ltb n 128)) (fitsFirst Microsoft) (λ n. false) 256 tt b (omega arith) (rw (le-ltb b 128 h)))
-    (agree-if (λ n. not (ltb n 128)) (fitsLater Microsoft) (λ n. false) 256 tt b (omega arith) (rw (le-ltb b 128 h)))
+  -- a byte of the format that enters as it is
+  module _ (f : Format) (is : r .format ≡ letterOf f) (enters : entered (letterOf f) w ≡ w) where
+    named : namedBy (r .format) ≡ Known f
+    named = rw is (letter-named f)
 
--- A, B: an odd count of ones
-odd-A : (place b : ℕ) → even b ≡ false → fitsAt Absolute place b ≡ false
-unfolding fitsFirst fitsLater
-odd-A place b o = no-place Absolute place b (simp (o, and-false)) (simp (o, and-false))
+    same-byte : entered (r .format) w ≡ w
+    same-byte = rw is enters
 
-odd-B : (place b : ℕ) → even b ≡ false → fitsAt Relative place b ≡ false
-unfolding fitsFirst fitsLater
-odd-B place b o = no-place Relative place b (simp (o, and-false)) (simp (o, and-false))
+    unfit : r .awaiting ≡ false → fitsAt f (r .count) w ≡ false → markedOf f && fitsAt f 0 w ≡ false → Lost
+    unfit waits h k =
+        lost r w s g byte e waits (rw same-byte (fits-named (r .format) named (r .count) w ∙ h))
+        (rw (same-byte, marked-named (r .format) named, fits-named (r .format) named 0 w) k)
 
--- W: no hex digit; and a first digit above 7
-no-digit : (place b : ℕ) → isDigit b ≡ false → b ≤ 255 → fitsAt Hexadecimal place b ≡ false
-unfolding fitsFirst fitsLater
-no-digit place b n k =
-    no-place Hexadecimal place b
-    (agree-if (λ n. not (isDigit n)) (fitsFirst Hexadecimal) (λ n. false) 256 tt b (omega arith) (rw n))
-    n
+    marked-lost : markedOf f ≡ true → (test : ℕ → Bool) → T (each (λ n. not (test n) || same (fitsFirst f n || fitsLater f n) false) 256) → test w ≡ true → Lost
+    marked-lost m test t h =
+        unfit (never-awaits r g (marked-named (r .format) named ∙ m)) (no-place f test t (r .count) w byte h)
+        (rw (no-place f test t 0 w byte h) (and-false (markedOf f)))
 
-first-above-7 : (b : ℕ) → 0x37 < b → fitsAt Hexadecimal 0 b ≡ false
-unfolding fitsAt fitsFirst
-first-above-7 b h = simp (lt-leb b 0x37 h, and-false)
+    unmarked-lost : markedOf f ≡ false → r .awaiting ≡ false → fitsAt f (r .count) w ≡ false → Lost
+    unmarked-lost m waits h = unfit waits h (rw m)
 
-module _ (r : Reader) (b : ℕ) (s : Read) (g : good r ≡ true) (byte : b ≤ 255) (e : StepPromise r b s) where
-  marked-dropped : (f : Format) → namedBy (r .format) ≡ Known f → markedOf f ≡ true → ((place : ℕ) → fitsAt f place b ≡ false) → s ≡ answered (fresh (r .format)) (Dropped (r .count + 1))
-  unfolding fitsBy markedBy
-  marked-dropped f n m h =
-      lost r b s g byte e (never-awaits r g (rw n m)) (rw n (h (r .count))) (rw (n, h 0) (and-false (markedOf f)))
+  -- S: 1 0 0 SX SY L M R, and later bytes below 128
+  pub wrong-bits-S : r .format ≡ 0x53 → 0xA0 ≤ w → Lost
+  unfolding fitsFirst fitsLater like bit
+  wrong-bits-S f h = marked-lost Mm f (enters-outside-V 0x53 w refl) refl (leb 0xA0) tt (le-leb 0xA0 w h)
 
-  unmarked-dropped : (f : Format) → namedBy (r .format) ≡ Known f → markedOf f ≡ false → r .awaiting ≡ false → fitsAt f (r .count) b ≡ false → s ≡ answered (fresh (r .format)) (Dropped (r .count + 1))
-  unfolding fitsBy markedBy
-  unmarked-dropped f n m w h = lost r b s g byte e w (rw n h) (rw (n, m))
+  -- V: 128 and over
+  pub over-127-in-V : r .format ≡ 0x56 → 128 ≤ w → Lost
+  unfolding fitsFirst fitsLater like bit
+  over-127-in-V f h = marked-lost Microsoft f (as-it-is 0x56 w) refl (leb 128) tt (le-leb 128 w h)
 
-  pub wrong-bits-S : r .format ≡ 0x53 → 0xA0 ≤ b → s ≡ answered (fresh (r .format)) (Dropped (r .count + 1))
-  unfolding namedBy
-  wrong-bits-S f h = marked-dropped Mm (rw f) refl (λ place. above-9F place b h byte)
+  -- A, B: P 1 0 L M R 0 0, and later bytes P 0 and six bits; an odd count of ones
+  pub wrong-bits-A : r .format ≡ 0x41 → bit 6 w && (bit 5 w || (bit 1 w || bit 0 w)) ≡ true → Lost
+  unfolding fitsFirst fitsLater like bit ones onesIn
+  wrong-bits-A f h = marked-lost Absolute f (enters-outside-V 0x41 w refl) refl (λ n. bit 6 n && (bit 5 n || (bit 1 n || bit 0 n))) tt h
 
-  pub over-127-in-V : r .format ≡ 0x56 → 128 ≤ b → s ≡ answered (fresh (r .format)) (Dropped (r .count + 1))
-  unfolding namedBy
-  over-127-in-V f h = marked-dropped Microsoft (rw f) refl (λ place. over-127 place b h byte)
+  pub wrong-bits-B : r .format ≡ 0x42 → bit 6 w && (bit 5 w || (bit 1 w || bit 0 w)) ≡ true → Lost
+  unfolding fitsFirst fitsLater like bit ones onesIn
+  wrong-bits-B f h = marked-lost Relative f (enters-outside-V 0x42 w refl) refl (λ n. bit 6 n && (bit 5 n || (bit 1 n || bit 0 n))) tt h
 
-  pub odd-in-A : r .format ≡ 0x41 → even b ≡ false → s ≡ answered (fresh (r .format)) (Dropped (r .count + 1))
-  unfolding namedBy
-  odd-in-A f o = marked-dropped Absolute (rw f) refl (λ place. odd-A place b o)
+  pub odd-in-A : r .format ≡ 0x41 → even w ≡ false → Lost
+  unfolding fitsFirst fitsLater like bit ones onesIn
+  odd-in-A f o = marked-lost Absolute f (enters-outside-V 0x41 w refl) refl (λ n. not (even n)) tt (rw o)
 
-  pub odd-in-B : r .format ≡ 0x42 → even b ≡ false → s ≡ answered (fresh (r .format)) (Dropped (r .count + 1))
-  unfolding namedBy
-  odd-in-B f o = marked-dropped Relative (rw f) refl (λ place. odd-B place b o)
+  pub odd-in-B : r .format ≡ 0x42 → even w ≡ false → Lost
+  unfolding fitsFirst fitsLater like bit ones onesIn
+  odd-in-B f o = marked-lost Relative f (enters-outside-V 0x42 w refl) refl (λ n. not (even n)) tt (rw o)
 
-  pub no-digit-in-W : r .format ≡ 0x57 → r .awaiting ≡ false → isDigit b ≡ false → s ≡ answered (fresh (r .format)) (Dropped (r .count + 1))
-  unfolding namedBy
-  no-digit-in-W f w n = unmarked-dropped Hexadecimal (rw f) refl w (no-digit (r .count) b n byte)
+  -- U: a first byte that is not 1 0 0 0 0 L* M* R*; T: one that is not 0 0 0 0 0 L M R
+  pub wrong-bits-U : r .format ≡ 0x55 → r .awaiting ≡ false → r .count ≡ 0 → between 0x80 0x87 w ≡ false → Lost
+  unfolding fitsAt fitsFirst like bit
+  wrong-bits-U f waits z h =
+      unmarked-lost FiveByte f (enters-outside-V 0x55 w refl) refl waits
+      (rw z (agree-if (λ n. not (between 0x80 0x87 n)) (fitsFirst FiveByte) (λ n. false) 256 tt w (omega arith) (rw h)))
 
-  pub first-above-7-in-W : r .format ≡ 0x57 → r .awaiting ≡ false → r .count ≡ 0 → 0x37 < b → s ≡ answered (fresh (r .format)) (Dropped (r .count + 1))
-  unfolding namedBy
-  first-above-7-in-W f w z h = unmarked-dropped Hexadecimal (rw f) refl w (rw z (first-above-7 b h))
+  pub wrong-bits-T : r .format ≡ 0x54 → r .awaiting ≡ false → r .count ≡ 0 → 7 < w → Lost
+  unfolding fitsAt fitsFirst like bit
+  wrong-bits-T f waits z h =
+      unmarked-lost ThreeByte f (enters-outside-V 0x54 w refl) refl waits
+      (rw z (agree-if (ltb 7) (fitsFirst ThreeByte) (λ n. false) 256 tt w (omega arith) (lt-ltb 7 w h)))
+
+  -- W: no hex digit; a first digit above 7
+  pub no-digit-in-W : r .format ≡ 0x57 → r .awaiting ≡ false → isDigit w ≡ false → Lost
+  unfolding fitsFirst fitsLater
+  no-digit-in-W f waits n =
+      unmarked-lost Hexadecimal f (enters-outside-V 0x57 w refl) refl waits (no-place Hexadecimal (λ n. not (isDigit n)) tt (r .count) w byte (rw n))
+
+  pub first-above-7-in-W : r .format ≡ 0x57 → r .awaiting ≡ false → r .count ≡ 0 → 0x37 < w → Lost
+  unfolding fitsAt fitsFirst
+  first-above-7-in-W f waits z h = unmarked-lost Hexadecimal f (enters-outside-V 0x57 w refl) refl waits (rw z (simp (lt-leb w 0x37 h, and-false)))

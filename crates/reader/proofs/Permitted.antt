@@ -1,15 +1,14 @@
 -- "Each public operation's promise determines one answer, and every number in the lent slice after it, refused or not".
 use Prim.Native.Nat.{ℕ}
 use mathlib.Core.Path.{_≡_, refl, sym, _∙_, ap}
+use mathlib.Core.Bool.{Bool, cond}
 use mathlib.Core.List.{List, [], _∷_}
-use native.Mathlib.Omega.{arith}
-use lib.ListN.{length}
-use lib.IntN.{ℤ}
-use Rattle.wire.specs.declared.Report.{Report}
-use Rattle.wire.proofs.Codec.Accepted.{same-report}
-use Rattle.reader.specs.State.{fiveOf, numbersOf}
+use lib.ListN.{length, getD}
+use lib.Dec.{eqb}
+use lib.IntN.{ℤ, pos, natAbs}
+use Rattle.reader.specs.State.{numbersOf}
 use Rattle.reader.specs.Line.{Long}
-use Rattle.reader.specs.Promises.{Step, FreshPromise, StepPromise, ReadPromise, stepOf}
+use Rattle.reader.specs.Promises.{Step, FreshPromise, GoodPromise, StepPromise, ReadPromise, stepOf}
 use Rattle.reader.specs.Runs.{stepsOf, StepsPromise}
 use Rattle.reader.specs.declared.Reader.{Reader}
 use Rattle.reader.specs.declared.NewReader.{NewReader}
@@ -19,22 +18,19 @@ use Rattle.reader.specs.declared.Answer.{Answer}
 use Rattle.reader.specs.declared.Answer.the-variants as answer
 
 -- an answer is told by its numbers
-none-some : {A : Type 0} {x : ℤ} {l : List ℤ} → [] ≡ x ∷ l → A
-none-some e = absurd (omega (arith, ap length e))
+abbrev told : List ℤ → Answer
+told l =
+    cond (eqb (length l) 0) answer.Nothing
+    (cond (eqb (length l) 1) (answer.Dropped (natAbs (getD l 0 (pos 0))))
+    (answer.Report (record { buttons = natAbs (getD l 0 (pos 0)); x1 = getD l 1 (pos 0); y1 = getD l 2 (pos 0); x2 = getD l 3 (pos 0); y2 = getD l 4 (pos 0) })))
 
-one-five : {A : Type 0} {k : ℤ} {p : Report} → k ∷ [] ≡ fiveOf p → A
-one-five e = absurd (omega (arith, ap length e))
+told-is : (a : Answer) → told (numbersOf a) ≡ a
+told-is answer.Nothing = refl
+told-is (answer.Report p) = refl
+told-is (answer.Dropped k) = refl
 
 pub by-numbers : (a b : Answer) → numbersOf a ≡ numbersOf b → a ≡ b
-by-numbers answer.Nothing answer.Nothing e = refl
-by-numbers answer.Nothing (answer.Report q) e = none-some e
-by-numbers answer.Nothing (answer.Dropped j) e = none-some e
-by-numbers (answer.Report p) answer.Nothing e = none-some (sym e)
-by-numbers (answer.Report p) (answer.Report q) e = ap answer.Report (same-report (cc) (cc) (cc) (cc) (cc))
-by-numbers (answer.Report p) (answer.Dropped j) e = one-five (sym e)
-by-numbers (answer.Dropped k) answer.Nothing e = none-some (sym e)
-by-numbers (answer.Dropped k) (answer.Report q) e = one-five e
-by-numbers (answer.Dropped k) (answer.Dropped j) e = cc
+by-numbers a b e = sym (told-is a) ∙ ap told e ∙ told-is b
 
 -- so that what a step's promise permits is its definition's answer
 same-read : {s t : Read} → s .refusal ≡ t .refusal → s .next ≡ t .next → s .answer ≡ t .answer → s ≡ t
@@ -55,6 +51,9 @@ steps-are r (w ∷ words) (s ∷ steps) e = let i = step-is r w s (e .0) in let 
 -- one answer
 pub one-fresh : (letter : ℕ) (a b : NewReader) → FreshPromise letter a → FreshPromise letter b → a ≡ b
 one-fresh letter a b e f = e ∙ sym f
+
+pub one-good : (r : Reader) (a b : Bool) → GoodPromise r a → GoodPromise r b → a ≡ b
+one-good r a b e f = e ∙ sym f
 
 pub one-step : (r : Reader) (w : ℕ) (a b : Read) → StepPromise r w a → StepPromise r w b → a ≡ b
 one-step r w a b e f = step-is r w a e ∙ sym (step-is r w b f)

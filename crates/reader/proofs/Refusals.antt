@@ -1,28 +1,30 @@
 -- Refusals: 6 before 4, the old reader, no answer, counts of 0 and an unchanged slice; and 4 in a long read.
-use Prim.Native.Nat.{ℕ, _<_, _≤_, _+_, _*_}
-use mathlib.Core.Path.{_≡_, refl, sym, _∙_, ap}
+use Prim.Native.Nat.{ℕ, _<_, _≤_, _*_}
+use mathlib.Core.Path.{_≡_, refl, sym, _∙_, ap, subst}
 use mathlib.Core.Bool.{Bool, true, false}
-use mathlib.Core.Logic.{_⊎_, inl, inr}
-use mathlib.Core.List.{List, [], _∷_, _++_}
+use mathlib.Core.Logic.{_⊎_, inl, inr, ⊎-elim}
+use mathlib.Core.List.{List, _∷_, _++_, List·Memᴰ·head, List·Memᴰ·tail}
 use native.Mathlib.Numerals.{one-add}
 use native.Mathlib.Omega.{arith}
-use lib.ListN.{length, getD, drop}
+use lib.ListN.{length, getD, take, drop}
 use lib.IntN.{ℤ}
 use borrow.Author.Tests.{lt-leb, ne-eqb}
-use Rattle.wire.specs.Line.{break, silence, known, letterOf}
+use Rattle.frames.specs.Words.{break, silence}
+use Rattle.wire.specs.Line.{known, letterOf}
 use Rattle.wire.specs.Numbers.{success, badState, badLetter, badWord}
 use Rattle.wire.specs.declared.Format.the-variants.{FiveByte}
 use Rattle.reader.specs.State.{fresh}
 use Rattle.reader.specs.Good.{good}
 use Rattle.reader.specs.Rules.{refusing, wordOf}
 use Rattle.reader.specs.Line.{Long, whole, stopped, joined, lineOf, withRefusal}
-use Rattle.reader.specs.Promises.{FreshPromise, StepPromise, ReadPromise, newReader, freshOf, stepOf, readOf}
+use Rattle.reader.specs.Promises.{FreshPromise, StepPromise, ReadPromise, accepted, refusal, FreshRefusal, StepRefusal, ReadRefusal, newReader, freshOf, stepOf, readOf}
 use Rattle.reader.specs.declared.Reader.{Reader}
 use Rattle.reader.specs.declared.NewReader.{NewReader}
 use Rattle.reader.specs.declared.Read.{Read}
 use Rattle.reader.specs.declared.Reading.{Reading}
-use Rattle.reader.proofs.Word.{Numbered, word-number}
-use Rattle.reader.proofs.View.{Stops, Takes, view}
+use Rattle.numbers.proofs.Choices.{cases}
+use Rattle.reader.proofs.Word.{word-number}
+use Rattle.reader.proofs.View.{Takes, by-words}
 use Rattle.reader.proofs.Permitted.{step-is}
 use Rattle.reader.proofs.Goodness.{step-word, read-line}
 
@@ -52,29 +54,18 @@ bad-word r w s g h e = step-is r w s e ∙ step-word r w g ∙ above r w h
 
 -- and no other: a good reader takes every line word
 pub word-taken : (r : Reader) (w : ℕ) → w ≤ silence → wordOf r w .refusal ≡ success
-word-taken r w h = go (word-number r w)
-  where
-    go : Numbered w (wordOf r w) → wordOf r w .refusal ≡ success
-    go (inl z) = z
-    go (inr b) = absurd (omega (arith, b .1))
+word-taken r w h = ⊎-elim (λ z. z) (λ b. absurd (omega (arith, b .1))) (word-number r w)
 
 pub takes-line-words : (r : Reader) (w : ℕ) (s : Read) → good r ≡ true → w ≤ silence → StepPromise r w s → s .refusal ≡ success
 takes-line-words r w s g h e = rw (step-is r w s e ∙ step-word r w g) (word-taken r w h)
 
-line-bad-word : (p q : List ℕ) (w : ℕ) (r : Reader) (out : List ℤ) → silence < w → lineOf r p out .reading .taken ≡ length p → lineOf r (p ++ w ∷ q) out ≡ withRefusal badWord (lineOf r p out)
+line-bad-word : (q : List ℕ) (w : ℕ) → silence < w → (p : List ℕ) (r : Reader) (out : List ℤ) → lineOf r p out .reading .taken ≡ length p
+    → lineOf r (p ++ w ∷ q) out ≡ withRefusal badWord (lineOf r p out)
 unfolding lineOf
-line-bad-word [] q w r out b h = rw (above r w b)
-line-bad-word (v ∷ p) q w r out b h = go (line-bad-word p q w) (view r v out)
-  where
-    go : ((r : Reader) (out : List ℤ) → silence < w → lineOf r p out .reading .taken ≡ length p → lineOf r (p ++ w ∷ q) out ≡ withRefusal badWord (lineOf r p out)) → Stops r v out ⊎ Takes r v out → lineOf r (v ∷ (p ++ w ∷ q)) out ≡ withRefusal badWord (lineOf r (v ∷ p) out)
-    go ih (inl s) = let z = rw (s .is p) at h in absurd (omega arith)
-    go ih (inr t) =
-        let z = rw (t .is p) at h in
-        let next = wordOf r v .next in
-        let e : lineOf next p (drop (5 * t .n) out) .reading .taken ≡ length p = omega arith in
-        t .is (p ++ w ∷ q)
-        ∙ ap (joined 1 (t .n) (t .d) (t .front)) (ih next (drop (5 * t .n) out) b e)
-        ∙ ap (withRefusal badWord) (sym (t .is p))
+line-bad-word q w b =
+    by-words (λ r p out l. l .reading .taken ≡ length p → lineOf r (p ++ w ∷ q) out ≡ withRefusal badWord l) (λ r out h. rw (above r w b))
+    (λ r v p out s h. absurd (omega arith))
+    (λ r v p out t l ih h. t .is (p ++ w ∷ q) ∙ ap (joined 1 (t .n) (t .d) (t .front)) (ih (omega arith)))
 
 pub bad-word-read : (r : Reader) (p q : List ℕ) (w : ℕ) (out : List ℤ) (a b : Reading) (x y : List ℤ)
     → good r ≡ true
@@ -85,45 +76,63 @@ pub bad-word-read : (r : Reader) (p q : List ℕ) (w : ℕ) (out : List ℤ) (a 
     → whole a x ≡ withRefusal badWord (whole b y)
 bad-word-read r p q w out a b x y g h f t e =
     let i = f ∙ read-line r p out g in
-    e ∙ read-line r (p ++ w ∷ q) out g ∙ line-bad-word p q w r out h (sym (ap (λ (l : Long). l .reading .taken) i) ∙ t) ∙ ap (withRefusal badWord) (sym i)
+    e ∙ read-line r (p ++ w ∷ q) out g ∙ line-bad-word q w h p r out (sym (ap (λ (l : Long). l .reading .taken) i) ∙ t) ∙ ap (withRefusal badWord) (sym i)
 
--- a long read of a good reader ends with 0, or with 4 before a word above 257
-abbrev Ends : List ℕ → Reading → Type 0
-Ends words a = (a .refusal ≡ success) ⊎ ((a .refusal ≡ badWord) × (silence < getD words (a .taken) 0))
+-- a long read of a good reader ends with 0, or with 4 before a word above 257: the outcome of the words before it, but for the number
+abbrev Ends : Reader → List ℕ → List ℤ → Long → Type 0
+Ends r words out l =
+    (l .reading .refusal ≡ success)
+    ⊎ ((l ≡ withRefusal badWord (lineOf r (take (l .reading .taken) words) out)) × (silence < getD words (l .reading .taken) 0))
 
-line-ends : (words : List ℕ) (r : Reader) (out : List ℤ) → Ends words (lineOf r words out .reading)
+line-ends : (words : List ℕ) (r : Reader) (out : List ℤ) → Ends r words out (lineOf r words out)
 unfolding lineOf
-line-ends [] r out = inl refl
-line-ends (w ∷ words) r out = go (line-ends words) (view r w out)
+line-ends = by-words Ends (λ r out. inl refl) (λ r w words out s. stop r w words out (s .n) (s .why)) later
   where
-    later : (a : Reading) → Ends words a → (a .refusal ≡ success) ⊎ ((a .refusal ≡ badWord) × (silence < getD (w ∷ words) (1 + a .taken) 0))
-    later a (inl z) = inl z
-    later a (inr b) = inr (b .0, rw (one-add (a .taken)) (b .1))
+    stop : (r : Reader) (w : ℕ) (words : List ℕ) (out : List ℤ) (n : ℕ) → (n ≡ success) ⊎ ((n ≡ badWord) × (silence < w)) → Ends r (w ∷ words) out (stopped n r out)
+    stop r w words out n (inl z) = inl z
+    stop r w words out n (inr b) = inr (ap (λ (m : ℕ). stopped m r out) (b .0), b .1)
 
-    stop : (s : Stops r w out) → Ends (w ∷ words) (stopped (s .n) r out .reading)
-    stop s = s .why
-
-    go : ((r : Reader) (out : List ℤ) → Ends words (lineOf r words out .reading)) → Stops r w out ⊎ Takes r w out → Ends (w ∷ words) (lineOf r (w ∷ words) out .reading)
-    go ih (inl s) = rw (s .is words) (stop s)
-    go ih (inr t) = rw (t .is words) (later (lineOf (wordOf r w .next) words (drop (5 * t .n) out) .reading) (ih (wordOf r w .next) (drop (5 * t .n) out)))
+    later : (r : Reader) (w : ℕ) (words : List ℕ) (out : List ℤ) (t : Takes r w out) (l : Long) → Ends (wordOf r w .next) words (drop (5 * t .n) out) l
+        → Ends r (w ∷ words) out (joined 1 (t .n) (t .d) (t .front) l)
+    later r w words out t l (inl z) = inl z
+    later r w words out t l (inr b) =
+        let n = l .reading .taken in
+        let is = ap (joined 1 (t .n) (t .d) (t .front)) (b .0) ∙ ap (withRefusal badWord) (sym (t .is (take n words))) in
+        inr (rw (one-add n) (rw (one-add n) at is, b .1))
 
 pub read-ends : (r : Reader) (words : List ℕ) (out : List ℤ) (a : Reading) (after : List ℤ) → good r ≡ true → ReadPromise r words out a after
     → (a .refusal ≡ success) ⊎ ((a .refusal ≡ badWord) × (silence < getD words (a .taken) 0))
-read-ends r words out a after g e = rw (ap (λ (l : Long). l .reading) (e ∙ read-line r words out g)) (line-ends words r out)
+read-ends r words out a after g e =
+    ⊎-elim inl (λ b. inr (ap (λ (l : Long). l .reading .refusal) (b .0), b .1))
+    (subst (Ends r words out) (sym (e ∙ read-line r words out g)) (line-ends words r out))
+
+-- every answer is a success, or a refusal with a number from the list and what it leaves
+pub fresh-refusals : (letter : ℕ) (a : NewReader) → FreshPromise letter a → FreshRefusal a
+unfolding freshOf
+fresh-refusals letter a e = rw e (cases FreshRefusal (known letter) (λ _. accepted refl) (λ _. refusal (List·Memᴰ·head refl)))
+
+pub step-refusals : (r : Reader) (w : ℕ) (s : Read) → StepPromise r w s → StepRefusal r s
+unfolding stepOf
+step-refusals r w s e =
+    rw (step-is r w s e)
+    (cases (StepRefusal r) (good r) (λ _. ⊎-elim accepted (λ b. refusal (List·Memᴰ·tail (List·Memᴰ·head (above r w (b .1))))) (word-number r w))
+    (λ _. refusal (List·Memᴰ·head refl)))
+
+pub read-refusals : (r : Reader) (words : List ℕ) (out : List ℤ) (a : Reading) (after : List ℤ) → ReadPromise r words out a after → ReadRefusal r words out a after
+unfolding readOf
+read-refusals r words out a after e = go (good r) refl
+  where
+    go : (t : Bool) → good r ≡ t → ReadRefusal r words out a after
+    go true g =
+        ⊎-elim accepted (λ b. refusal (List·Memᴰ·tail (List·Memᴰ·head (b .0 ∙ ap (withRefusal badWord) (sym (read-line r (take (a .taken) words) out g))))))
+        (subst (Ends r words out) (sym (e ∙ read-line r words out g)) (line-ends words r out))
+    go false g = refusal (List·Memᴰ·head (rw g at e))
 
 -- "a bad word behind a stop for room is not reached": where words are left, what follows them changes nothing
-line-stopped : (p q : List ℕ) (r : Reader) (out : List ℤ) → lineOf r p out .reading .taken < length p → lineOf r (p ++ q) out ≡ lineOf r p out
-unfolding lineOf
-line-stopped [] q r out h = absurd (omega arith)
-line-stopped (v ∷ p) q r out h = go (line-stopped p q) (view r v out)
-  where
-    go : ((r : Reader) (out : List ℤ) → lineOf r p out .reading .taken < length p → lineOf r (p ++ q) out ≡ lineOf r p out) → Stops r v out ⊎ Takes r v out → lineOf r (v ∷ (p ++ q)) out ≡ lineOf r (v ∷ p) out
-    go ih (inl s) = s .is (p ++ q) ∙ sym (s .is p)
-    go ih (inr t) =
-        let z = rw (t .is p) at h in
-        let next = wordOf r v .next in
-        let e : lineOf next p (drop (5 * t .n) out) .reading .taken < length p = omega arith in
-        t .is (p ++ q) ∙ ap (joined 1 (t .n) (t .d) (t .front)) (ih next (drop (5 * t .n) out) e) ∙ sym (t .is p)
+line-stopped : (q p : List ℕ) (r : Reader) (out : List ℤ) → lineOf r p out .reading .taken < length p → lineOf r (p ++ q) out ≡ lineOf r p out
+line-stopped q =
+    by-words (λ r p out l. l .reading .taken < length p → lineOf r (p ++ q) out ≡ l) (λ r out h. absurd (omega arith)) (λ r v p out s h. s .is (p ++ q))
+    (λ r v p out t l ih h. t .is (p ++ q) ∙ ap (joined 1 (t .n) (t .d) (t .front)) (ih (omega arith)))
 
 pub not-reached : (r : Reader) (p q : List ℕ) (out : List ℤ) (a b : Reading) (x y : List ℤ)
     → ReadPromise r p out b y
@@ -136,6 +145,6 @@ not-reached r p q out a b x y f t e = go (good r) refl
     go : (u : Bool) → good r ≡ u → (a ≡ b) × (x ≡ y)
     go true g =
         let i = rw g at f in
-        let j = (rw g at e) ∙ line-stopped p q r out (rw (ap (λ (l : Long). l .reading .taken) i) at t) ∙ sym i in
+        let j = (rw g at e) ∙ line-stopped q p r out (rw (ap (λ (l : Long). l .reading .taken) i) at t) ∙ sym i in
         (ap (λ (l : Long). l .reading) j, ap (λ (l : Long). l .out) j)
     go false g = let i = (rw g at e) ∙ sym (rw g at f) in (ap (λ (l : Long). l .reading) i, ap (λ (l : Long). l .out) i)

@@ -10,7 +10,7 @@ use lib.Dec.{eqb, eqb·suc-zero}
 use borrow.Author.Tests.{le-leb, le-ltb, eqb-true, ne-eqb}
 use Rattle.numbers.proofs.Tested.{refused, holds}
 use Rattle.wire.specs.Line.{namedBy, ofNamed, sizeBy, markedOf, markedBy}
-use Rattle.wire.specs.Fits.{fitsAt, fitsBy}
+use Rattle.wire.specs.Places.{fitsAt, fitsBy}
 use Rattle.wire.specs.declared.Named.{Named}
 use Rattle.wire.specs.declared.Named.the-variants.{Known, Unknown}
 use Rattle.wire.proofs.Letters.{at-most-five, at-least-three}
@@ -22,7 +22,7 @@ use Rattle.reader.specs.Promises.{StepPromise}
 use Rattle.reader.specs.declared.Reader.{Reader}
 use Rattle.reader.specs.declared.Read.{Read}
 use Rattle.reader.specs.declared.Answer.the-variants.{Dropped}
-use Rattle.reader.proofs.Good.{parts}
+use Rattle.reader.proofs.Parts.{parts}
 use Rattle.reader.proofs.Word.{lost-is}
 use Rattle.reader.proofs.Permitted.{step-is}
 use Rattle.reader.proofs.Goodness.{step-word}
@@ -64,11 +64,14 @@ zeros r g z =
     ext-getD 0 (r .kept) (replicate 5 0) (p .five)
     (λ i h. eqb-true (getD (r .kept) i 0) 0 (rw (le-ltb i (r .count) (omega arith)) at (p .places i (omega (arith, p .five)))) ∙ sym (getD-replicate 5 i 0 0 (omega (arith, p .five))))
 
--- a byte, by the rule that takes it
-module _ (r : Reader) (b : ℕ) (s : Read) (g : good r ≡ true) (byte : b ≤ 255) (e : StepPromise r b s) where
+-- a byte b, as it enters, by the rule that takes it
+module _ (r : Reader) (w : ℕ) (s : Read) (g : good r ≡ true) (byte : w ≤ 255) (e : StepPromise r w s) where
+  abbrev b : ℕ
+  b = entered (r .format) w
+
   byte-is : s ≡ byteOf r b
-  unfolding wordOf entered
-  byte-is = step-is r b s e ∙ step-word r b g ∙ rw (le-leb b 255 byte)
+  unfolding wordOf
+  byte-is = step-is r w s e ∙ step-word r w g ∙ rw (le-leb w 255 byte)
 
   -- "A valid first byte of a marked format starts a report anywhere; k kept bytes are dropped."
   pub starts-anywhere : markedBy (r .format) ≡ true → fitsBy (r .format) 0 b ≡ true → s ≡ answered (reader (r .format) (b ∷ 0 ∷ 0 ∷ 0 ∷ 0 ∷ []) 1 false) (dropping (r .count))
@@ -84,7 +87,7 @@ module _ (r : Reader) (b : ℕ) (s : Read) (g : good r ≡ true) (byte : b ≤ 2
   -- "A byte that none of these rules takes [..] is dropped with the k kept, k+1; U, T, W then await silence"
   pub lost : r .awaiting ≡ false → fitsBy (r .format) (r .count) b ≡ false → markedBy (r .format) && fitsBy (r .format) 0 b ≡ false → s ≡ answered (fresh (r .format)) (Dropped (r .count + 1))
   unfolding lose
-  lost w f h = byte-is ∙ lost-is r b w f h
+  lost waits f h = byte-is ∙ lost-is r b waits f h
 
   -- "In a marked format with none kept, a valid later byte is dropped alone": the reader is as it was
   pub later-alone : markedBy (r .format) ≡ true → r .count ≡ 0 → fitsBy (r .format) 1 b ≡ true → s ≡ answered r (Dropped 1)
@@ -95,4 +98,4 @@ module _ (r : Reader) (b : ℕ) (s : Read) (g : good r ≡ true) (byte : b ≤ 2
   -- "where each byte is dropped alone"
   pub awaiting-alone : r .awaiting ≡ true → s ≡ answered r (Dropped 1)
   unfolding byteOf
-  awaiting-alone w = byte-is ∙ rw w
+  awaiting-alone waits = byte-is ∙ rw waits

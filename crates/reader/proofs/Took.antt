@@ -2,44 +2,24 @@
 use Prim.Native.Nat.{ℕ, suc, _*_, _≤_}
 use mathlib.Core.Path.{_≡_, refl, _∙_, ap}
 use mathlib.Core.Bool.{true}
-use mathlib.Core.List.{List, [], _∷_, _++_}
-use native.Mathlib.Nat.{zero-add}
-use native.Mathlib.Numerals.{one-add}
+use mathlib.Core.List.{List, [], _∷_}
 use lib.ListN.{length}
 use lib.IntN.{ℤ}
-use Rattle.wire.specs.Line.{letterOf, lineWords}
-use Rattle.wire.specs.declared.Report.{Report}
+use Rattle.frames.specs.Words.{lineWords}
+use Rattle.wire.specs.Line.{letterOf}
 use Rattle.wire.specs.declared.Format.{Format}
-use Rattle.reader.specs.State.{fiveOf}
 use Rattle.reader.specs.Line.{Long}
-use Rattle.reader.specs.Counts.{reportsAmong, writtenAmong}
+use Rattle.reader.specs.Counts.{handedOut}
 use Rattle.reader.specs.Promises.{FreshPromise, ReadPromise}
 use Rattle.reader.specs.Runs.{stepsOf, StepsPromise, answers}
 use Rattle.reader.specs.declared.Reader.{Reader}
 use Rattle.reader.specs.declared.NewReader.{NewReader}
 use Rattle.reader.specs.declared.Read.{Read}
 use Rattle.reader.specs.declared.Reading.{Reading}
-use Rattle.reader.specs.declared.Answer.{Answer}
-use Rattle.reader.specs.declared.Answer.the-variants as answer
 use Rattle.reader.proofs.Goodness.{fresh-is-good}
 use Rattle.reader.proofs.Permitted.{steps-are}
 use Rattle.reader.proofs.Steps.{word-by-word}
-use Rattle.reader.specs.DamagedLines.{Took, handedOut, numbers}
-
--- the reports among answers are as many as are counted, and their numbers are those written
-counted : (l : List Answer) → reportsAmong l ≡ length (handedOut l)
-unfolding reportsAmong
-counted [] = refl
-counted (answer.Nothing ∷ l) = zero-add (reportsAmong l) ∙ counted l
-counted (answer.Report p ∷ l) = one-add (reportsAmong l) ∙ ap suc (counted l)
-counted (answer.Dropped k ∷ l) = zero-add (reportsAmong l) ∙ counted l
-
-written-is : (l : List Answer) → writtenAmong l ≡ numbers (handedOut l)
-unfolding writtenAmong
-written-is [] = refl
-written-is (answer.Nothing ∷ l) = written-is l
-written-is (answer.Report p ∷ l) = ap (λ (x : List ℤ). fiveOf p ++ x) (written-is l)
-written-is (answer.Dropped k ∷ l) = written-is l
+use Rattle.reader.specs.DamagedLines.{Took}
 
 -- a step for each word
 step-each : (r : Reader) (words : List ℕ) → length (stepsOf r words) ≡ length words
@@ -55,11 +35,10 @@ pub took : (f : Format) (words : List ℕ) (a : NewReader) (steps : List Read) (
     → ReadPromise (a .reader) words out b after
     → Took words (handedOut (answers steps)) out b after
 took f words a steps out after b l e p room q =
-    let count = counted (answers steps) in
-    let is = word-by-word (a .reader) words out after steps b (fresh-is-good (letterOf f) a e) l p (rw count room) q in
+    let is = word-by-word (a .reader) words out after steps b (fresh-is-good (letterOf f) a e) l p room q in
     record {
       refusal = ap (λ (x : Long). x .reading .refusal) is;
       taken = ap (λ (x : Long). x .reading .taken) is ∙ ap length (steps-are (a .reader) words steps p) ∙ step-each (a .reader) words;
-      reports = ap (λ (x : Long). x .reading .reports) is ∙ count;
-      written = ap (λ (x : Long). x .out) is ∙ rw (written-is (answers steps), count);
+      reports = ap (λ (x : Long). x .reading .reports) is;
+      written = ap (λ (x : Long). x .out) is;
     }

@@ -1,10 +1,11 @@
 -- One word of a long read: which case of the definition holds.
-use mathlib.Core.Path.{_≡_, refl, _∙_}
+use mathlib.Core.Path.{_≡_, _∙_}
 use mathlib.Core.List.{List, [], _∷_, _++_}
 use Prim.Native.Nat.{ℕ, _<_, _≤_}
 use native.Mathlib.Nat.{add-zero}
 use native.Mathlib.Omega.{arith}
 use lib.ListN.{length, getD, take, drop, set}
+use lib.Seq.{sets-eq}
 use lib.IntN.{ℤ, pos}
 use borrow.Author.Tests.{eq-eqb, ne-eqb, lt-ltb, le-ltb}
 use Rattle.wire.specs.declared.Report.{Report}
@@ -16,16 +17,8 @@ use Rattle.reader.specs.declared.Read.{Read}
 use Rattle.reader.specs.declared.Answer.the-variants as answer
 
 -- five stores at the front
-pub five : (l : List ℤ) (a b c d e : ℤ) → 5 ≤ length l → set (set (set (set (set l 0 a) 1 b) 2 c) 3 d) 4 e ≡ a ∷ b ∷ c ∷ d ∷ e ∷ drop 5 l
-five [] a b c d e h = absurd (omega arith)
-five (v ∷ []) a b c d e h = absurd (omega arith)
-five (v ∷ w ∷ []) a b c d e h = absurd (omega arith)
-five (v ∷ w ∷ x ∷ []) a b c d e h = absurd (omega arith)
-five (v ∷ w ∷ x ∷ y ∷ []) a b c d e h = absurd (omega arith)
-five (v ∷ w ∷ x ∷ y ∷ z ∷ l) a b c d e h = refl
-
 pub put-is : (l : List ℤ) (p : Report) (a b c d e : ℤ) → 5 ≤ length l → a ≡ pos (p .buttons) → b ≡ p .x1 → c ≡ p .y1 → d ≡ p .x2 → e ≡ p .y2 → set (set (set (set (set l 0 a) 1 b) 2 c) 3 d) 4 e ≡ fiveOf p ++ drop 5 l
-put-is l p a b c d e h ea eb ec ed ee = five l a b c d e h ∙ rw (ea, eb, ec, ed, ee)
+put-is l p a b c d e h ea eb ec ed ee = sets-eq (a ∷ b ∷ c ∷ d ∷ e ∷ []) l 0 h ∙ rw (ea, eb, ec, ed, ee)
 
 module _ (r : Reader) (words : List ℕ) (out : List ℤ) (s : Read) (some : 0 < length words) (is : s ≡ wordOf r (getD words 0 0)) where
   -- a read of one word is one turn

@@ -5,22 +5,18 @@ use mathlib.Core.List.{List, [], _∷_}
 use native.Mathlib.Omega.{arith}
 use lib.ListN.{replicate}
 use lib.IntN.{ℤ, pos}
-use Rattle.numbers.specs.Bits.{bit}
-use Rattle.wire.specs.Line.{namedBy, sizeBy, markedBy, known}
-use Rattle.wire.specs.Fits.{like, fitsFirst, fitsLater, fitsAt, fitsBy}
 use Rattle.reader.specs.State.{ready}
-use Rattle.reader.specs.Good.{placed, good}
-use Rattle.reader.specs.Rules.{entered, keep, byteOf, wordOf}
-use Rattle.reader.specs.Line.{Long, lineOf}
+use Rattle.reader.specs.Line.{Long}
 use Rattle.reader.specs.Promises.{ReadPromise, readOf}
 use Rattle.reader.specs.declared.Reader.{Reader}
+use Rattle.reader.proofs.Computing.{computing}
 
 -- "a long read that reads its first report and skips the rest"
 pub skipping-the-rest : (read : Reader → List ℕ → List ℤ → Long)
     → ((r : Reader) (words : List ℕ) (out : List ℤ) → ReadPromise r words out (read r words out .reading) (read r words out .out))
     → ((r : Reader) (words : List ℕ) (out : List ℤ) → read r words out .reading .reports ≤ 1)
     → ⊥
-unfolding readOf lineOf good known placed wordOf byteOf keep entered namedBy sizeBy markedBy fitsBy fitsAt fitsFirst fitsLater like bit
+unfolding computing
 skipping-the-rest read promised skips =
     let words : List ℕ = 0x98 ∷ 0 ∷ 0 ∷ 0x98 ∷ 0 ∷ 0 ∷ [] in
     let out : List ℤ = replicate 10 (pos 0) in

@@ -1,24 +1,33 @@
--- A word in front of a line: either the read stops before it, or it is taken.
+-- A word in front of a line: either the read stops before it, or it is taken and what the later words give is joined to it.
 use Prim.Native.Nat.{ℕ, _+_, _*_, _<_, _≤_}
 use mathlib.Core.Path.{_≡_, refl}
 use mathlib.Core.Bool.{Bool, true, false}
 use mathlib.Core.Logic.{_⊎_, inl, inr}
-use mathlib.Core.List.{List, [], _∷_}
+use mathlib.Core.List.{List, [], _∷_, _++_, append-assoc}
+use native.Mathlib.Nat.{zero-add, add-assoc}
 use native.Mathlib.Omega.{arith}
 use lib.ListN.{length, drop}
 use lib.Dec.{eqb}
 use lib.IntN.{ℤ}
 use borrow.Author.Tests.{eqb-true, ltb-false}
-use Rattle.wire.specs.Line.{silence, sizeBy}
+use Rattle.frames.specs.Words.{silence}
+use Rattle.wire.specs.Line.{sizeBy}
 use Rattle.wire.specs.Numbers.{success, badWord}
 use Rattle.reader.specs.State.{fiveOf}
 use Rattle.reader.specs.Rules.{wordOf}
-use Rattle.reader.specs.Line.{stopped, joined, noRoom, lineOf}
+use Rattle.reader.specs.Line.{Long, stopped, joined, noRoom, lineOf}
 use Rattle.reader.specs.Counts.{byteIn, reportsIn}
 use Rattle.reader.specs.declared.Reader.{Reader}
 use Rattle.reader.specs.declared.Answer.{Answer}
 use Rattle.reader.specs.declared.Answer.the-variants.{Nothing, Report, Dropped}
 use Rattle.reader.proofs.Word.{word-number, word-kept}
+
+-- what was read and what a later part gives, joined
+pub joined-none : (l : Long) → joined 0 0 0 [] l ≡ l
+joined-none l = simp zero-add
+
+pub joined-joined : (t n d t′ n′ d′ : ℕ) (f f′ : List ℤ) (l : Long) → joined t n d f (joined t′ n′ d′ f′ l) ≡ joined (t + t′) (n + n′) (d + d′) (f ++ f′) l
+joined-joined t n d t′ n′ d′ f f′ l = simp (add-assoc, append-assoc)
 
 -- the read stops before the word, whatever follows it
 pub record Stops (r : Reader) (w : ℕ) (out : List ℤ) : Type 0 where
@@ -50,3 +59,18 @@ view r w out = go (eqb (wordOf r w .refusal) 0) refl (wordOf r w .answer) refl (
     go true e (Report p) ea true eu = inl (record { n = 0; why = inl refl; is = λ ws. rw (e, ea, eu) })
     go true e (Report p) ea false eu =
         inr (record { n = 1; d = 0; front = fiveOf p; reports = rw ea; sized = refl; room = ltb-false _ _ eu; kept = rw ea at (word-kept r w (eqb-true _ _ e)); is = λ ws. rw (e, ea, eu) })
+
+-- what holds of a line: of no words, of a stop before a word, and of a word that is taken where it holds of what the words behind it give
+module _ (P : Reader → List ℕ → List ℤ → Long → Type 0)
+    (none : (r : Reader) (out : List ℤ) → P r [] out (stopped success r out))
+    (stop : (r : Reader) (w : ℕ) (words : List ℕ) (out : List ℤ) (s : Stops r w out) → P r (w ∷ words) out (stopped (s .n) r out))
+    (take : (r : Reader) (w : ℕ) (words : List ℕ) (out : List ℤ) (t : Takes r w out) (l : Long) → P (wordOf r w .next) words (drop (5 * t .n) out) l
+    → P r (w ∷ words) out (joined 1 (t .n) (t .d) (t .front) l)) where
+  pub by-words : (words : List ℕ) (r : Reader) (out : List ℤ) → P r words out (lineOf r words out)
+  unfolding lineOf
+  by-words [] r out = none r out
+  by-words (w ∷ words) r out = go (by-words words) (view r w out)
+    where
+      go : ((r : Reader) (out : List ℤ) → P r words out (lineOf r words out)) → Stops r w out ⊎ Takes r w out → P r (w ∷ words) out (lineOf r (w ∷ words) out)
+      go ih (inl s) = rw (s .is words) (stop r w words out s)
+      go ih (inr t) = rw (t .is words) (take r w words out t _ (ih _ _))

@@ -3,17 +3,22 @@ use Prim.Native.Nat.{ℕ, _+_, _*_, _<_}
 use mathlib.Core.Path.{_≡_, refl, sym, _∙_}
 use mathlib.Core.Bool.{true, false, cond, _&&_}
 use mathlib.Core.Logic.{_⊎_, inl, inr}
+use mathlib.Core.List.{[], _∷_}
 use native.Mathlib.Omega.{arith}
 use lib.Dec.{eqb}
 use borrow.Author.Tests.{eqb-true, eqb-false, leb-false}
 use Rattle.numbers.proofs.Tested.{left, right, holds}
-use Rattle.wire.specs.Line.{isByte, break, silence, sizeBy, markedBy}
-use Rattle.wire.specs.Fits.{fitsBy}
+use Rattle.frames.specs.Words.{isByte, break, silence}
+use Rattle.wire.specs.Line.{sizeBy, markedBy}
+use Rattle.wire.specs.Places.{fitsBy}
+use Rattle.wire.specs.Reading.{reportBy}
 use Rattle.wire.specs.Numbers.{success, badWord}
-use Rattle.reader.specs.Rules.{entered, refusing, dropping, alone, fitting, finishes, starting, straying, keep, start, stray, lose, byteOf, breakOf, silenceOf, wordOf}
+use Rattle.reader.specs.State.{reader, fresh, ready}
+use Rattle.reader.specs.Rules.{entered, answered, more, refusing, dropping, alone, fitting, finishes, starting, straying, keep, start, stray, lose, byteOf, breakOf, silenceOf, wordOf}
 use Rattle.reader.specs.Counts.{byteIn, reportsIn, droppedIn}
 use Rattle.reader.specs.declared.Reader.{Reader}
 use Rattle.reader.specs.declared.Read.{Read}
+use Rattle.reader.specs.declared.Answer.the-variants.{Nothing, Report, Dropped}
 use Rattle.numbers.proofs.Choices.{cases}
 use Rattle.wire.proofs.Letters.{at-least-three}
 
@@ -45,44 +50,39 @@ lost-is r b w f s =
     by-rules (λ (t : Read). t ≡ lose r) r b (λ e. absurd (holds (sym w ∙ e))) (λ _ e. absurd (holds (sym f ∙ e)))
     (λ _ _ e. absurd (holds (sym s ∙ e))) (λ _ _ _. refl)
 
--- and a word is a byte, a break, a silence or refused
-pub by-kind : (P : Read → Type 0) (r : Reader) (w : ℕ)
-    → (isByte w ≡ true → P (byteOf r (entered (r .format) w)))
-    → (isByte w ≡ false → w ≡ break → P (breakOf r))
-    → (isByte w ≡ false → w ≡ silence → P (silenceOf r))
-    → (silence < w → P (refusing badWord r))
-    → P (wordOf r w)
-unfolding wordOf
-by-kind P r w byte broken quiet bad =
-    cases P (isByte w) byte
-    (λ n. cases P (eqb w break) (λ e. broken n (eqb-true w break e))
-    (λ b. cases P (eqb w silence) (λ e. quiet n (eqb-true w silence e))
-    (λ s. bad (omega (arith, leb-false w 255 n, eqb-false w break b, eqb-false w silence s)))))
+-- and a word, its byte entered: such a byte, the last of a report or not; a break; a silence; or none of these
+module _ (P : Read → Type 0) (r : Reader) (w : ℕ) where
+  abbrev b : ℕ
+  b = entered (r .format) w
+
+  pub by-word : (isByte w ≡ true → r .awaiting ≡ true → P (alone r))
+      → (isByte w ≡ true → r .awaiting ≡ false → fitting r b ≡ true → finishes r ≡ true → P (answered (ready (r .format)) (Report (reportBy (r .format) (more r b)))))
+      → (isByte w ≡ true → r .awaiting ≡ false → fitting r b ≡ true → finishes r ≡ false → P (answered (reader (r .format) (more r b) (r .count + 1) false) Nothing))
+      → (isByte w ≡ true → r .awaiting ≡ false → fitting r b ≡ false → starting r b ≡ true → P (answered (reader (r .format) (b ∷ 0 ∷ 0 ∷ 0 ∷ 0 ∷ []) 1 false) (dropping (r .count))))
+      → (isByte w ≡ true → r .awaiting ≡ false → fitting r b ≡ false → starting r b ≡ false → P (answered (fresh (r .format)) (Dropped (r .count + 1))))
+      → (w ≡ break → P (answered (fresh (r .format)) (dropping (r .count))))
+      → (w ≡ silence → P (answered (ready (r .format)) (dropping (r .count))))
+      → (silence < w → P (refusing badWord r))
+      → P (wordOf r w)
+  unfolding wordOf keep start lose breakOf silenceOf
+  by-word waits ends keeps starts loses broken quiet bad =
+      cases P (isByte w)
+      (λ i. by-rules P r b (waits i) (λ a f. cases P (finishes r) (ends i a f) (keeps i a f)) (starts i) (loses i))
+      (λ n. cases P (eqb w break) (λ e. broken (eqb-true w break e))
+      (λ k. cases P (eqb w silence) (λ e. quiet (eqb-true w silence e))
+      (λ s. bad (omega (arith, leb-false w 255 n, eqb-false w break k, eqb-false w silence s)))))
 
 -- the format stays
-abbrev Same : Reader → Read → Type 0
-Same r s = s .next .format ≡ r .format
-
 pub word-format : (r : Reader) (w : ℕ) → wordOf r w .next .format ≡ r .format
-unfolding keep start lose breakOf silenceOf
 word-format r w =
-    by-kind (Same r) r w
-    (λ _. by-rules (Same r) r (entered (r .format) w) (λ _. refl) (λ _ _. cases (Same r) (finishes r) (λ _. refl) (λ _. refl)) (λ _ _ _. refl) (λ _ _ _. refl))
-    (λ _ _. refl) (λ _ _. refl) (λ _. refl)
+    by-word (λ s. s .next .format ≡ r .format) r w
+    (λ _ _. refl) (λ _ _ _ _. refl) (λ _ _ _ _. refl) (λ _ _ _ _. refl) (λ _ _ _ _. refl) (λ _. refl) (λ _. refl) (λ _. refl)
 
 -- the bytes kept stay below a size that is above them
-abbrev Below : ℕ → Read → Type 0
-Below size s = s .next .count < size
-
 pub word-below : (r : Reader) (w : ℕ) → r .count < sizeBy (r .format) → wordOf r w .next .count < sizeBy (r .format)
-unfolding keep start lose breakOf silenceOf
 word-below r w h =
-    by-kind (Below (sizeBy (r .format))) r w
-    (λ _. by-rules (Below (sizeBy (r .format))) r (entered (r .format) w) (λ _. h)
-    (λ _ _. cases (Below (sizeBy (r .format))) (finishes r) (λ _. omega arith) (λ e. omega (arith, eqb-false (r .count + 1) (sizeBy (r .format)) e)))
-    (λ _ _ _. omega (arith, at-least-three (r .format) (r .count) h))
-    (λ _ _ _. omega arith))
-    (λ _ _. omega arith) (λ _ _. omega arith) (λ _. h)
+    by-word (λ s. s .next .count < sizeBy (r .format)) r w (λ _ _. h) (λ _ _ _ _. omega arith) (λ _ _ _ e. omega (arith, eqb-false (r .count + 1) (sizeBy (r .format)) e))
+    (λ _ _ _ _. omega (arith, at-least-three (r .format) (r .count) h)) (λ _ _ _ _. omega arith) (λ _. omega arith) (λ _. omega arith) (λ _. h)
 
 -- a word's bytes, with those kept before, are those in its report, dropped and kept after
 abbrev pub Kept : Reader → ℕ → Read → Type 0
@@ -93,30 +93,23 @@ unfolding dropping
 dropping-is size k =
     cases (λ a. size * reportsIn a + droppedIn a ≡ k) (eqb k 0) (λ e. omega (arith, eqb-true k 0 e)) (λ e. omega arith)
 
-byte-kept : (r : Reader) (b : ℕ) → Kept r 1 (byteOf r b)
-unfolding keep start lose
-byte-kept r b =
-    by-rules (Kept r 1) r b (λ _ _. omega arith)
-    (λ _ _. cases (Kept r 1) (finishes r) (λ e _. omega (arith, eqb-true (r .count + 1) (sizeBy (r .format)) e)) (λ _ _. omega arith))
-    (λ _ _ _ _. omega (arith, dropping-is (sizeBy (r .format)) (r .count)))
-    (λ _ _ _ _. omega arith)
+pub dropping-reports : (k : ℕ) → reportsIn (dropping k) ≡ 0
+dropping-reports k = omega (arith, dropping-is 0 k, dropping-is 1 k)
 
 pub word-kept : (r : Reader) (w : ℕ) → Kept r (byteIn w) (wordOf r w)
-unfolding breakOf silenceOf
 word-kept r w =
-    by-kind (Kept r (byteIn w)) r w
-    (λ e. rw e (byte-kept r (entered (r .format) w)))
-    (λ e _ _. rw e (omega (arith, dropping-is (sizeBy (r .format)) (r .count))))
-    (λ e _ _. rw e (omega (arith, dropping-is (sizeBy (r .format)) (r .count))))
-    (λ _ e. absurd (eqb-false 4 0 refl e))
+    by-word (Kept r (byteIn w)) r w (λ i _ _. rw i (omega arith)) (λ i _ _ e _. rw i (omega (arith, eqb-true (r .count + 1) (sizeBy (r .format)) e)))
+    (λ i _ _ _ _. rw i (omega arith)) (λ i _ _ _ _. rw i (omega (arith, all))) (λ i _ _ _ _. rw i (omega arith))
+    (λ e _. rw e (omega (arith, all))) (λ e _. rw e (omega (arith, all))) (λ _ e. absurd (eqb-false 4 0 refl e))
+  where
+    all : sizeBy (r .format) * reportsIn (dropping (r .count)) + droppedIn (dropping (r .count)) ≡ r .count
+    all = dropping-is (sizeBy (r .format)) (r .count)
 
 -- a word is refused with 4 where it is above 257, and else not
 abbrev pub Numbered : ℕ → Read → Type 0
 Numbered w s = (s .refusal ≡ success) ⊎ ((s .refusal ≡ badWord) × (silence < w))
 
 pub word-number : (r : Reader) (w : ℕ) → Numbered w (wordOf r w)
-unfolding keep start lose breakOf silenceOf
 word-number r w =
-    by-kind (Numbered w) r w
-    (λ _. by-rules (Numbered w) r (entered (r .format) w) (λ _. inl refl) (λ _ _. cases (Numbered w) (finishes r) (λ _. inl refl) (λ _. inl refl)) (λ _ _ _. inl refl) (λ _ _ _. inl refl))
-    (λ _ _. inl refl) (λ _ _. inl refl) (λ h. inr (refl, h))
+    by-word (Numbered w) r w (λ _ _. inl refl) (λ _ _ _ _. inl refl) (λ _ _ _ _. inl refl) (λ _ _ _ _. inl refl) (λ _ _ _ _. inl refl)
+    (λ _. inl refl) (λ _. inl refl) (λ h. inr (refl, h))

@@ -1,41 +1,30 @@
 -- What the theorems on damaged lines speak of: lines of one format, what is sent on them, what is lost, and what is handed out.
-use Prim.Native.Nat.{ℕ, suc, _+_, _*_, _≤_, _<_}
+use Prim.Native.Nat.{ℕ, suc, _+_, _*_, _≤_}
 use mathlib.Core.Path.{_≡_}
 use mathlib.Core.Bool.{true}
 use mathlib.Core.List.{List, [], _∷_, _++_}
 use lib.ListN.{length, take, drop, getD}
 use lib.IntN.{ℤ}
-use Rattle.wire.specs.Line.{break, letterOf, sizeOf, lineWords}
-use Rattle.wire.specs.Table.{bytesOf}
-use Rattle.wire.specs.Passages.{Passage, finished, broken, passageWords, Sound, SoundGoing, Going, report, goingWords}
+use Rattle.frames.specs.Passages.{Passage, UnderWay, passageWords, partWords}
+use Rattle.frames.specs.Words.{break, lineWords}
+use Rattle.wire.specs.Line.{letterOf, sizeOf}
+use Rattle.wire.specs.Messages.{Message, messageBytes, SoundIn, SoundEnd}
 use Rattle.wire.specs.Numbers.{success}
 use Rattle.wire.specs.declared.Report.{Report}
 use Rattle.wire.specs.declared.Format.{Format}
-use Rattle.frames.specs.Line.{Sub}
 use Rattle.reader.specs.State.{fiveOf}
+use Rattle.reader.specs.Counts.{handedOut, numbers}
 use Rattle.reader.specs.Promises.{FreshPromise, ReadPromise}
 use Rattle.reader.specs.Runs.{StepsPromise, answers}
 use Rattle.reader.specs.declared.NewReader.{NewReader}
 use Rattle.reader.specs.declared.Read.{Read}
 use Rattle.reader.specs.declared.Reading.{Reading}
-use Rattle.reader.specs.declared.Answer.{Answer}
 use Rattle.reader.specs.declared.Answer.the-variants as answer
 
 -- what the command that sets a box's format itself gives, in front of the line: no word, or 256
 pub data Given : List ℕ → Type 0 where
   no-word : Given []
   a-break : Given (break ∷ [])
-
--- the reports among answers, and the numbers of reports, one after the other
-abbrev pub handedOut : List Answer → List Report
-handedOut [] = []
-handedOut (answer.Nothing ∷ l) = handedOut l
-handedOut (answer.Report p ∷ l) = p ∷ handedOut l
-handedOut (answer.Dropped k ∷ l) = handedOut l
-
-abbrev pub numbers : List Report → List ℤ
-numbers [] = []
-numbers (p ∷ reports) = fiveOf p ++ numbers reports
 
 -- a long read that took every word of a line and wrote the reports found: no refusal, the counts, and every number of the lent slice after it,
 -- those of the reports and then its old ones
@@ -65,28 +54,17 @@ pub record HandsOutAt (f : Format) (words : List ℕ) (i : ℕ) (p : Report) : T
       × (take 5 (drop (5 * length (handedOut (take i (answers steps)))) after) ≡ fiveOf p)
 
 -- A line of the format f, `passages` and then `going`; of its words the stretch `old` was replaced by the legal words `new`; `given` stands in front.
-pub record Replaced (f : Format) (passages : List Passage) (going : Going) (given pre old new post : List ℕ) : Type 0 where
-  pub sound : Sound f passages
-  pub sound-going : SoundGoing f going
+pub record Replaced (f : Format) (passages : List (Passage Message)) (going : UnderWay Message) (given pre old new post : List ℕ) : Type 0 where
+  pub sound : SoundIn f passages
+  pub sound-going : SoundEnd f going
   pub in-front : Given given
-  pub as-sent : passageWords passages ++ goingWords going ≡ pre ++ (old ++ post)
+  pub as-sent : passageWords messageBytes passages ++ partWords messageBytes going ≡ pre ++ (old ++ post)
   pub legal : lineWords new ≡ true
 
 -- the stretch `old`, behind `pre`, ends before the words of what stands behind these passages
-abbrev pub Within : List Passage → List ℕ → List ℕ → Type 0
-Within before pre old = length pre + length old ≤ length (passageWords before)
+abbrev pub Within : List (Passage Message) → List ℕ → List ℕ → Type 0
+Within before pre old = length pre + length old ≤ length (passageWords messageBytes before)
 
 -- i is the place of the word that ends a report of f behind these passages, when `old` was replaced by `new`, with `given` in front of all
-abbrev pub EndsAt : Format → List Passage → List ℕ → List ℕ → List ℕ → ℕ → Type 0
-EndsAt f before given old new i = suc i + length old ≡ length given + length (passageWords before) + sizeOf f + length new
-
--- A line of the format f of which one report lost bytes, neighbours or not, and nothing else: what was sent, `passages` and then `going`; the words
--- that are left; and the passages other than that report. Of a finished report one byte or more is missing; of a broken-off one, or of the one
--- that is going, any number is, or none.
-pub data Lost (f : Format) : List Passage → Going → List ℕ → List Passage → Type 0 where
-  of-finished : (before after : List Passage) (going : Going) (r : Report) (left : List ℕ) → Sub left (bytesOf f r) → length left < sizeOf f
-      → Lost f (before ++ (finished f r ∷ after)) going (passageWords before ++ (left ++ (passageWords after ++ goingWords going))) (before ++ after)
-  of-broken : (before after : List Passage) (going : Going) (n : ℕ) (r : Report) (left : List ℕ) → Sub left (take n (bytesOf f r))
-      → Lost f (before ++ (broken n f r ∷ after)) going (passageWords before ++ (left ++ (break ∷ (passageWords after ++ goingWords going)))) (before ++ after)
-  of-going : (passages : List Passage) (n : ℕ) (r : Report) (left : List ℕ) → Sub left (take n (bytesOf f r))
-      → Lost f passages (report n f r) (passageWords passages ++ left) passages
+abbrev pub EndsAt : Format → List (Passage Message) → List ℕ → List ℕ → List ℕ → ℕ → Type 0
+EndsAt f before given old new i = suc i + length old ≡ length given + length (passageWords messageBytes before) + sizeOf f + length new

@@ -5,7 +5,7 @@ use lib.ListN.{length, getD}
 use lib.Dec.{ltb, eqb}
 use Rattle.numbers.specs.Tests.{each}
 use Rattle.wire.specs.Line.{sizeBy, known}
-use Rattle.wire.specs.Fits.{fitsBy}
+use Rattle.wire.specs.Places.{fitsBy}
 use Rattle.reader.specs.State.{unmarked}
 use Rattle.reader.specs.declared.Reader.{Reader}
 

@@ -1,20 +1,26 @@
--- What is promised of `Reader::fresh`, `Reader::step` and `Reader::read`. "Tested in that order, where they apply; 0 is success."
+-- What is promised of `Reader::fresh`, `Reader::good`, `Reader::step` and `Reader::read`. "Tested in that order, where they apply; 0 is success."
 use Prim.Native.Nat.{ℕ}
 use mathlib.Core.Path.{_≡_}
-use mathlib.Core.Bool.{cond}
-use mathlib.Core.List.{List}
+use mathlib.Core.Bool.{Bool, cond}
+use mathlib.Core.List.{List, [], _∷_, List·Memᴰ}
+use lib.ListN.{take}
 use lib.IntN.{ℤ}
 use Rattle.wire.specs.Line.{letterOf, known}
-use Rattle.wire.specs.Numbers.{success, badState, badLetter}
+use Rattle.wire.specs.Numbers.{success, badState, badLetter, badWord}
 use Rattle.wire.specs.declared.Format.the-variants.{FiveByte}
 use Rattle.reader.specs.State.{fresh, numbersOf}
 use Rattle.reader.specs.Good.{good}
 use Rattle.reader.specs.Rules.{refusing, wordOf}
-use Rattle.reader.specs.Line.{Long, whole, stopped, lineOf}
+use Rattle.reader.specs.Line.{Long, whole, stopped, withRefusal, lineOf}
 use Rattle.reader.specs.declared.Reader.{Reader}
 use Rattle.reader.specs.declared.NewReader.{NewReader}
 use Rattle.reader.specs.declared.Read.{Read}
 use Rattle.reader.specs.declared.Reading.{Reading}
+
+-- "A refusal has a number from the list": an answer that is no refusal, or one of the refusals that may be
+pub data RefusesRightly {A : Type 0} (number : A → ℕ) (refusals : List A) (a : A) : Type 0 where
+  accepted : number a ≡ success → RefusesRightly number refusals a
+  refusal : List·Memᴰ a refusals → RefusesRightly number refusals a
 
 -- "a format letter not in the table", 1; "(1 for a new reader: a fresh one of U)"
 abbrev pub newReader : ℕ → Reader → NewReader
@@ -23,12 +29,23 @@ newReader n r = record { refusal = n; reader = r }
 unfoldable pub freshOf : ℕ → NewReader
 freshOf letter = cond (known letter) (newReader success (fresh letter)) (newReader badLetter (fresh (letterOf FiveByte)))
 
+abbrev pub FreshRefusal : NewReader → Type 0
+FreshRefusal answer = RefusesRightly (λ (n : NewReader). n .refusal) (newReader badLetter (fresh (letterOf FiveByte)) ∷ []) answer
+
 abbrev pub FreshPromise : ℕ → NewReader → Type 0
 FreshPromise letter answer = answer ≡ freshOf letter
+
+-- `good(self)`
+abbrev pub GoodPromise : Reader → Bool → Type 0
+GoodPromise r answer = answer ≡ good r
 
 -- "a state that breaks the rules below", 6, before "a line word above 257", 4
 unfoldable pub stepOf : Reader → ℕ → Read
 stepOf r w = cond (good r) (wordOf r w) (refusing badState r)
+
+-- "A refusal returns the old state", and answers nothing
+abbrev pub StepRefusal : Reader → Read → Type 0
+StepRefusal r answer = RefusesRightly (λ (s : Read). s .refusal) (refusing badState r ∷ refusing badWord r ∷ []) answer
 
 -- what a step leaves behind: the number given back, the reader, and the numbers of the answer
 pub record Step : Type 0 where
@@ -45,6 +62,15 @@ StepPromise r w answer = outcome answer ≡ outcome (stepOf r w)
 -- a long read: 6 before all, and then the line
 unfoldable pub readOf : Reader → List ℕ → List ℤ → Long
 readOf r words out = cond (good r) (lineOf r words out) (stopped badState r out)
+
+-- 6 leaves all as it was, with counts of 0; "except 4 in a long read, which returns the reader, reports and counts as they stand before the bad word":
+-- what the words before it gave, but for the number
+abbrev pub beforeBad : Reader → List ℕ → List ℤ → Reading → Long
+beforeBad r words out answer = withRefusal badWord (readOf r (take (answer .taken) words) out)
+
+abbrev pub ReadRefusal : Reader → List ℕ → List ℤ → Reading → List ℤ → Type 0
+ReadRefusal r words before answer after =
+    RefusesRightly (λ (l : Long). l .reading .refusal) (stopped badState r before ∷ beforeBad r words before answer ∷ []) (whole answer after)
 
 abbrev pub ReadPromise : Reader → List ℕ → List ℤ → Reading → List ℤ → Type 0
 ReadPromise r words before answer after = whole answer after ≡ readOf r words before

@@ -4,8 +4,9 @@ use mathlib.Core.Bool.{Bool, false, cond, _&&_}
 use mathlib.Core.List.{List, [], _∷_}
 use lib.ListN.{set}
 use lib.Dec.{eqb}
-use Rattle.wire.specs.Line.{isByte, break, silence, sizeBy, markedBy}
-use Rattle.wire.specs.Fits.{fitsBy}
+use Rattle.frames.specs.Words.{isByte, break, silence}
+use Rattle.wire.specs.Line.{sizeBy, markedBy}
+use Rattle.wire.specs.Places.{fitsBy}
 use Rattle.wire.specs.Reading.{reportBy}
 use Rattle.wire.specs.Numbers.{success, badWord}
 use Rattle.reader.specs.State.{reader, unmarked, noBytes, ready}

@@ -1,12 +1,30 @@
-// The reader: line words in, reports out.
+// The reader: line words in, reports out. Here stand its parts, its words and numbers, and what a user calls.
 ghost use Rattle.reader.specs.Promises.{FreshPromise, StepPromise, ReadPromise};
-use crate::words::no_bytes;
-use crate::words::refusing;
+use crate::rules::refusing;
+use crate::state::no_bytes;
 use wire::Report;
 
-mod many;
-mod places;
-mod words;
+mod good;
+mod line;
+mod rules;
+mod state;
+
+// The words that are no bytes.
+pub(crate) const BREAK: u16 = 256;
+
+pub(crate) const SILENCE: u16 = 257;
+
+// The numbers given back.
+pub(crate) const SUCCESS: u8 = 0;
+
+pub(crate) const BAD_LETTER: u8 = 1;
+
+pub(crate) const BAD_WORD: u8 = 4;
+
+pub(crate) const BAD_STATE: u8 = 6;
+
+// The letter of the five byte format.
+pub(crate) const FORMAT_U: u8 = b'U';
 
 // A format by its letter, the bytes kept and how many, and whether it awaits a silence.
 pub struct Reader {
@@ -52,12 +70,12 @@ impl Reader {
     {
         if wire::size(letter) == 0 {
             return NewReader {
-                refusal: 1,
-                reader: no_bytes(b'U', true),
+                refusal: BAD_LETTER,
+                reader: no_bytes(FORMAT_U, true),
             };
         }
         NewReader {
-            refusal: 0,
+            refusal: SUCCESS,
             reader: no_bytes(letter, !wire::marked(letter)),
         }
     }
@@ -66,29 +84,25 @@ impl Reader {
     pub fn step(self, word: u16) -> Read
         ensures { λ r. ⌜ StepPromise self word r ⌝ }
     {
-        let size = wire::size(self.format);
-        let marked = wire::marked(self.format);
-        if !self.good(size, marked) {
-            return refusing(6, self);
+        if !self.good() {
+            return refusing(BAD_STATE, self);
         }
-        self.word(size, marked, word)
+        self.word(word)
     }
 
     // A line of words, and the numbers of its reports to a lent slice.
     pub fn read(self, words: &[u16], out: &mut [i16]) -> Reading
         ensures { λ r. ⌜ ReadPromise self (now (words .entry)) (now (out .entry)) r (now (out .exit)) ⌝ }
     {
-        let size = wire::size(self.format);
-        let marked = wire::marked(self.format);
-        if !self.good(size, marked) {
+        if !self.good() {
             return Reading {
-                refusal: 6,
+                refusal: BAD_STATE,
                 next: self,
                 taken: 0,
                 reports: 0,
                 dropped: 0,
             };
         }
-        self.line(size, marked, words, out)
+        self.line(words, out)
     }
 }

@@ -10,15 +10,15 @@ use lib.Dec.{eqb, ltb}
 use lib.IntN.{pos}
 use Rattle.wire.proofs.Front.{size-small}
 use Rattle.numbers.proofs.Choices.{cases}
-use Rattle.wire.proofs.Accepts.{accepts}
+use Rattle.wire.proofs.Accepts.{buttons-first, movement-next, room-last, accepts}
+use Rattle.wire.proofs.Refusals.{refusals}
 use Rattle.wire.proofs.Letters.{letter-named}
-use Rattle.numbers.proofs.Tested.{left, right}
 use Rattle.wire.specs.Line.{letterOf, namedBy, sizeOf}
 use Rattle.wire.specs.Table.{bytesOf}
 use Rattle.wire.specs.Holds.{pressable, holds, accepted}
-use Rattle.wire.specs.Encoder.{Encoding, refusalOf, lengthOf, outcome, refused, written, encodeIn}
-use Rattle.wire.specs.Numbers.{success, badButtons, badMovement, shortBuffer}
-use Rattle.wire.specs.Promises.{SizePromise, MarkedPromise, FitsPromise, ReportPromise, EncodePromise, RefusalPromise, LengthPromise}
+use Rattle.wire.specs.Encoder.{Encoding, refusalOf, lengthOf, outcome, encodeIn}
+use Rattle.wire.specs.Numbers.{success}
+use Rattle.wire.specs.Promises.{KnownPromise, SizePromise, MarkedPromise, FitsPromise, ReportPromise, EncodePromise, RefusesRightly, accepted as taken, refusal, RefusalPromise, LengthPromise}
 use Rattle.wire.specs.declared.Report.{Report}
 use Rattle.wire.specs.declared.Format.{Format}
 use Rattle.wire.specs.declared.Format.the-variants.{FiveByte}
@@ -29,6 +29,9 @@ use Rattle.wire.specs.declared.Encoded.the-variants.{Written, NoSuchLett
 use Rattle.wire.proofs.Codec.{second-unheld, second-unheld-y}
 
 -- two answers that meet a promise are equal
+pub one-known : (letter : ℕ) {a b : Bool} → KnownPromise letter a → KnownPromise letter b → a ≡ b
+one-known letter p q = p ∙ sym q
+
 pub one-size : (letter : ℕ) {a b : ℕ} → SizePromise letter a → SizePromise letter b → a ≡ b
 one-size letter p q = p ∙ sym q
 
@@ -70,26 +73,12 @@ one-encoding letter r before {a} {b} p q =
     (sym (same-answer a) ∙ ap₂ answerOf (ap (λ (x : Encoding). x .refusal) e) (ap (λ (x : Encoding). x .told) e) ∙ same-answer b, ap (λ (x : Encoding). x .buffer) e)
 
 -- a refusal tells no length and writes nothing, whatever the letter, the report and the buffer
-unwritten : (pressed held short : Bool) (f : Format) (r : Report) (before : List ℕ) {x : Encoding} → x ≡ cond (not pressed) (refused badButtons before) (cond (not held) (refused badMovement before) (cond short (refused shortBuffer before) (written f r before))) → (x .refusal ≡ success → ⊥) → x .buffer ≡ before
-unwritten false held short f r before e n = ap (λ (x : Encoding). x .buffer) e
-unwritten true false short f r before e n = ap (λ (x : Encoding). x .buffer) e
-unwritten true true true f r before e n = ap (λ (x : Encoding). x .buffer) e
-unwritten true true false f r before e n = absurd (n (ap (λ (x : Encoding). x .refusal) e))
-
-unchanged : (named : Named) (r : Report) (before : List ℕ) {x : Encoding} → x ≡ encodeIn named r before → (x .refusal ≡ success → ⊥) → x .buffer ≡ before
-unfolding encodeIn
-unchanged Unknown r before e n = ap (λ (x : Encoding). x .buffer) e
-unchanged (Known f) r before e n = unwritten (pressable r) (holds f r) (ltb (length before) (sizeOf f)) f r before e n
-
-no-length : (a : Encoded) → (refusalOf a ≡ success → ⊥) → lengthOf a ≡ 0
-no-length (Written n) h = absurd (h refl)
-no-length NoSuchLetter h = refl
-no-length ButtonsAboveSeven h = refl
-no-length MovementNotHeld h = refl
-no-length BufferTooShort h = refl
-
 pub refusal-leaves : (letter : ℕ) (r : Report) (before after : List ℕ) (a : Encoded) → EncodePromise letter r before a after → (refusalOf a ≡ success → ⊥) → (lengthOf a ≡ 0) × (after ≡ before)
-refusal-leaves letter r before after a p n = (no-length a n, unchanged (namedBy letter) r before p n)
+refusal-leaves letter r before after a p n = go (refusals letter r before after a p)
+  where
+    go : RefusesRightly before (outcome a after) → (lengthOf a ≡ 0) × (after ≡ before)
+    go (taken e) = absurd (n e)
+    go (refusal m l e) = (ap (λ (x : Encoding). x .told) e, ap (λ (x : Encoding). x .buffer) e)
 
 -- an answer is what the definition says of a format
 told : (f : Format) (r : Report) (before : List ℕ) {a b : Encoded} {after behind : List ℕ} → EncodePromise (letterOf f) r before a after → outcome b behind ≡ encodeIn (Known f) r before → (a ≡ b) × (after ≡ behind)
@@ -105,17 +94,13 @@ unfolding encodeIn
 letter-refused letter r before after a e p = one-encoding letter r before p (rw e)
 
 pub buttons-refused : (f : Format) (r : Report) (before after : List ℕ) (a : Encoded) → 7 < r .buttons → EncodePromise (letterOf f) r before a after → (a ≡ ButtonsAboveSeven) × (after ≡ before)
-unfolding encodeIn
-buttons-refused f r before after a h p = told f r before p (simp (lt-leb (r .buttons) 7 h))
+buttons-refused f r before after a h p = told f r before p (sym (buttons-first f r before (lt-leb (r .buttons) 7 h)))
 
 pub movement-refused : (f : Format) (r : Report) (before after : List ℕ) (a : Encoded) → r .buttons ≤ 7 → holds f r ≡ false → EncodePromise (letterOf f) r before a after → (a ≡ MovementNotHeld) × (after ≡ before)
-unfolding encodeIn
-movement-refused f r before after a h e p = told f r before p (simp (le-leb (r .buttons) 7 h, e))
+movement-refused f r before after a h e p = told f r before p (sym (movement-next f r before (le-leb (r .buttons) 7 h) e))
 
 pub room-refused : (f : Format) (r : Report) (before after : List ℕ) (a : Encoded) → accepted f r ≡ true → length before < sizeOf f → EncodePromise (letterOf f) r before a after → (a ≡ BufferTooShort) × (after ≡ before)
-unfolding accepted encodeIn
-room-refused f r before after a e h p =
-    told f r before p (simp (left (pressable r) (holds f r) e, right (pressable r) (holds f r) e, lt-ltb (length before) (sizeOf f) h))
+room-refused f r before after a e h p = told f r before p (sym (room-last f r before e (lt-ltb (length before) (sizeOf f) h)))
 
 -- a second pair outside U is refused
 pub second-refused : (f : Format) (r : Report) (before after : List ℕ) (a : Encoded) → (f ≡ FiveByte → ⊥) → r .buttons ≤ 7 → (r .x2 ≡ pos 0 → ⊥) → EncodePromise (letterOf f) r before a after → (a ≡ MovementNotHeld) × (after ≡ before)

@@ -26,12 +26,12 @@ use Rattle.numbers.proofs.Tested.{same, agree-if, refused, holds as so}
 use Rattle.wire.specs.Line.{sizeOf, markedOf}
 use Rattle.wire.specs.Table.{bytesOf, bytesS, bytesV, bytesA, bytesB, bytesU, bytesT, bytesW, rowsV, rowsA, rowsW}
 use Rattle.wire.specs.Holds.{holds, accepted, carried}
-use Rattle.wire.specs.Fits.{like, fitsAt, fitsFirst, fitsLater, valid}
+use Rattle.wire.specs.Places.{like, fitsAt, fitsFirst, fitsLater, valid}
 use Rattle.wire.specs.Reading.{at, reportOf, settled}
 use Rattle.wire.specs.declared.Report.{Report}
 use Rattle.wire.specs.declared.Format.{Format}
 use Rattle.wire.specs.declared.Format.the-variants.{Mm, Microsoft, Absolute, Relative, FiveByte, ThreeByte, Hexadecimal}
-use Accepted.{Held, held, Parts, parts, whole, OnePair, second-zero}
+use Accepted.{Held, held, Parts, parts, parts-accepted, OnePair, second-zero}
 use Shapes.{ComesBack, ReadParts, valid-fits, of-three, of-five}
 use Fitting.{first-byte, later-byte}
 use FormatS.{valid-S, there-S, read-S, back-S, settled-S}
@@ -98,7 +98,7 @@ there Hexadecimal r a = there-W r (parts Hexadecimal r a)
 -- what a format carries of an accepted report is accepted
 pub carried-accepted : (f : Format) (r : Report) → accepted f r ≡ true → accepted f (carried f r) ≡ true
 carried-accepted Mm r a = a
-carried-accepted Microsoft r a = whole Microsoft (carried Microsoft r) (carried-V r (parts Microsoft r a))
+carried-accepted Microsoft r a = parts-accepted Microsoft (carried Microsoft r) (carried-V r (parts Microsoft r a))
 carried-accepted Absolute r a = a
 carried-accepted Relative r a = a
 carried-accepted FiveByte r a = a
@@ -116,7 +116,7 @@ read-parts ThreeByte = of-three ThreeByte (ReadParts ThreeByte) refl read-T
 read-parts Hexadecimal = of-five Hexadecimal (ReadParts Hexadecimal) refl read-W
 
 pub read-accepted : (f : Format) (bs : List ℕ) → valid f bs ≡ true → accepted f (reportOf f bs) ≡ true
-read-accepted f bs v = whole f (reportOf f bs) (read-parts f bs v)
+read-accepted f bs v = parts-accepted f (reportOf f bs) (read-parts f bs v)
 
 -- and encoding it gives the same bytes, except a minus zero of S
 pub back : (f : Format) (bs : List ℕ) → valid f bs ≡ true → bytesOf f (reportOf f bs) ≡ settled f bs

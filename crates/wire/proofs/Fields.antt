@@ -8,7 +8,8 @@ use lib.Dec.{ltb, ltb→lt}
 use Rattle.numbers.specs.Bits.{O, value, number, bit, bits}
 use Rattle.numbers.proofs.Rows.{value-bit, number-bits, number-low, number-joined}
 use Rattle.numbers.proofs.Tested.{tested}
-use Rattle.wire.specs.Reading.{twelve, undigit, pair}
+use Rattle.wire.specs.Reading.{twelve, pair}
+use Rattle.wire.specs.Digits.{undigit}
 
 -- V: L and R, with M up
 pub buttons-V : (b : ℕ) → b / 32 % 2 * 4 + b / 16 % 2 ≡ number (bit 5 b ∷ O ∷ bit 4 b ∷ [])

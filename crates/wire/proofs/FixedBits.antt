@@ -7,7 +7,8 @@ use lib.Count.{ones, onesIn}
 use Rattle.numbers.specs.Bits.{bit}
 use Rattle.numbers.specs.Parity.{even}
 use Rattle.numbers.proofs.Tested.{agree}
-use Rattle.wire.specs.Fits.{like, isDigit, fitsFirst, fitsLater}
+use Rattle.wire.specs.Places.{like, fitsFirst, fitsLater}
+use Rattle.wire.specs.Digits.{isDigit}
 use Rattle.wire.specs.declared.Format.{Format}
 use Rattle.wire.specs.declared.Format.the-variants.{Mm, Microsoft, Absolute, Relative, FiveByte, ThreeByte, Hexadecimal}
 

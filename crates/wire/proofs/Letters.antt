@@ -6,7 +6,7 @@ use native.Mathlib.Omega.{arith}
 use lib.Dec.{eqb, ltb}
 use borrow.Author.Tests.{le-ltb, ne-eqb, eqb-false, not-true}
 use Rattle.wire.specs.Line.{letterOf, namedBy, ofNamed, known, sizeOf, sizeBy, markedOf, markedBy}
-use Rattle.wire.specs.Fits.{fitsAt, fitsBy}
+use Rattle.wire.specs.Places.{fitsAt, fitsBy}
 use Rattle.wire.specs.declared.Format.{Format}
 use Rattle.wire.specs.declared.Format.the-variants.{Mm, Microsoft, Absolute, Relative, FiveByte, ThreeByte, Hexadecimal}
 use Rattle.wire.specs.declared.Named.{Named}

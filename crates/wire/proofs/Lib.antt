@@ -1,12 +1,13 @@
--- The laws of the seven formats (Codec), their letters (Letters), the encoder (Accepts), what follows from the promises (Answers), passages in two
--- parts (Passages) and a sender of them (Sender), and what the functions' proofs share.
+-- The laws of the seven formats (Codec), their letters (Letters), the movement that is not held (Faults), the encoder (Accepts), what follows from the
+-- promises (Answers, Refusals, Wrong), and what the functions' proofs share.
 pub mod Answers
+pub mod Refusals
+pub mod Wrong
 pub mod Codec
 pub mod Accepts
+pub mod Faults
 pub mod Fields
 pub mod FixedBits
 pub mod Front
 pub mod Letters
 pub mod Sums
-pub mod Passages
-pub mod Sender

@@ -48,14 +48,17 @@ refused n buffer = record { refusal = n; told = 0; buffer = buffer }
 abbrev pub written : Format → Report → List ℕ → Encoding
 written f r buffer = record { refusal = success; told = sizeOf f; buffer = bytesOf f r ++ drop (sizeOf f) buffer }
 
+-- or that they have no room there
+abbrev pub writing : Format → Report → List ℕ → Encoding
+writing f r buffer = cond (ltb (length buffer) (sizeOf f)) (refused shortBuffer buffer) (written f r buffer)
+
 -- 1, 3, 2, 5: "Tested in that order, where they apply"
 unfoldable pub encodeIn : Named → Report → List ℕ → Encoding
 encodeIn Unknown r buffer = refused badLetter buffer
 encodeIn (Known f) r buffer =
     cond (not (pressable r)) (refused badButtons buffer)
     (cond (not (holds f r)) (refused badMovement buffer)
-    (cond (ltb (length buffer) (sizeOf f)) (refused shortBuffer buffer)
-    (written f r buffer)))
+    (writing f r buffer))
 
 abbrev pub encodeOf : ℕ → Report → List ℕ → Encoding
 encodeOf letter r buffer = encodeIn (namedBy letter) r buffer

@@ -1,6 +1,7 @@
 -- What the encoder accepts: "exactly what the wire holds".
 use Prim.Native.Nat.{ℕ}
-use mathlib.Core.Bool.{Bool, true, _&&_}
+use mathlib.Core.Path.{_≡_}
+use mathlib.Core.Bool.{Bool, true, false, not, cond, _&&_}
 use mathlib.Core.List.{[], _∷_}
 use lib.Dec.{leb}
 use lib.IntN.{ℤ, pos}
@@ -11,6 +12,8 @@ use Rattle.numbers.specs.Signed.{minus}
 use Rattle.wire.specs.Table.{L, R}
 use Rattle.wire.specs.declared.Report.{Report}
 use Rattle.wire.specs.declared.Range.{Range}
+use Rattle.wire.specs.declared.Unheld.{Unheld}
+use Rattle.wire.specs.declared.Unheld.the-variants.{None, FirstX, FirstY, SecondX, SecondY}
 use Rattle.wire.specs.declared.Format.{Format}
 use Rattle.wire.specs.declared.Format.the-variants.{Mm, Microsoft, Absolute, Relative, FiveByte, ThreeByte, Hexadecimal}
 
@@ -50,10 +53,35 @@ secondRange FiveByte = minus 128 to pos 127
 secondRange ThreeByte = pos 0 to pos 0
 secondRange Hexadecimal = pos 0 to pos 0
 
--- the format holds a report's movements, either pair
+-- "movement the format cannot hold, either pair": the first of x1, y1, x2, y2 that lies outside its range, or none
+abbrev pub unheld : Format → Report → Unheld
+unheld f r =
+    cond (not (within (xRange f) (r .x1))) FirstX
+    (cond (not (within (yRange f) (r .y1))) FirstY
+    (cond (not (within (secondRange f) (r .x2))) SecondX
+    (cond (not (within (secondRange f) (r .y2))) SecondY
+    None)))
+
+abbrev pub isNone : Unheld → Bool
+isNone None = true
+isNone FirstX = false
+isNone FirstY = false
+isNone SecondX = false
+isNone SecondY = false
+
+-- the format holds a report's movements: there is none that it does not
 unfoldable pub holds : Format → Report → Bool
-holds f r =
-    within (xRange f) (r .x1) && within (yRange f) (r .y1) && within (secondRange f) (r .x2) && within (secondRange f) (r .y2)
+holds f r = isNone (unheld f r)
+
+-- what it says of a report that this movement is the one: it is not held, and those before it in the order are
+abbrev pub Fault : Format → Report → Unheld → Type 0
+Fault f r None =
+    (within (xRange f) (r .x1) ≡ true) × (within (yRange f) (r .y1) ≡ true) × (within (secondRange f) (r .x2) ≡ true) × (within (secondRange f) (r .y2) ≡ true)
+Fault f r FirstX = within (xRange f) (r .x1) ≡ false
+Fault f r FirstY = (within (xRange f) (r .x1) ≡ true) × (within (yRange f) (r .y1) ≡ false)
+Fault f r SecondX = (within (xRange f) (r .x1) ≡ true) × (within (yRange f) (r .y1) ≡ true) × (within (secondRange f) (r .x2) ≡ false)
+Fault f r SecondY =
+    (within (xRange f) (r .x1) ≡ true) × (within (yRange f) (r .y1) ≡ true) × (within (secondRange f) (r .x2) ≡ true) × (within (secondRange f) (r .y2) ≡ false)
 
 -- "Buttons are 4L+2M+R, 0 to 7, handed in as a byte"
 abbrev pub pressable : Report → Bool
@@ -76,7 +104,7 @@ carried FiveByte r = r
 carried ThreeByte r = r
 carried Hexadecimal r = r
 
--- the same by letter
+-- the same by letter: one that is not in the table asks nothing of a report, and its own refusal, 1, comes before any other
 unfoldable pub acceptedBy : ℕ → Report → Bool
 acceptedBy letter r = ofNamed true (λ f. accepted f r) (namedBy letter)
 

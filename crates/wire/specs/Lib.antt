@@ -1,11 +1,12 @@
--- The seven formats, heading by heading of the paper: "Words on the line" (Line, Table, Holds, Fits, Reading, Passages) and "Numbers given back"
+-- The seven formats, heading by heading of the paper: "Words on the line" (Line, Digits, Table, Holds, Places, Reading, Messages) and "Numbers given back"
 -- (Numbers, Encoder); and what the public functions promise (Promises).
 pub mod Line
+pub mod Digits
 pub mod Table
 pub mod Holds
-pub mod Fits
+pub mod Places
 pub mod Reading
-pub mod Passages
+pub mod Messages
 pub mod Numbers
 pub mod Encoder
 pub mod Promises

@@ -1,27 +1,11 @@
--- Words on the line, and the seven formats by letter, size and mark.
+-- The seven formats by letter, size and mark.
 use Prim.Native.Nat.{ℕ}
-use mathlib.Core.Bool.{Bool, true, false, cond, _&&_}
-use mathlib.Core.List.{List, [], _∷_}
-use lib.Dec.{eqb, leb}
+use mathlib.Core.Bool.{Bool, true, false, cond}
+use lib.Dec.{eqb}
 use Rattle.wire.specs.declared.Format.{Format}
 use Rattle.wire.specs.declared.Format.the-variants.{Mm, Microsoft, Absolute, Relative, FiveByte, ThreeByte, Hexadecimal}
 use Rattle.wire.specs.declared.Named.{Named}
 use Rattle.wire.specs.declared.Named.the-variants.{Known, Unknown}
-
--- "A line word is a 16-bit number: 0 to 255 a byte, 256 a break or a byte that arrived damaged, 257 a silence of one character time."
-abbrev pub isByte : ℕ → Bool
-isByte w = leb w 255
-
-abbrev pub break : ℕ
-break = 256
-
-abbrev pub silence : ℕ
-silence = 257
-
--- words of which none is above 257
-unfoldable pub lineWords : List ℕ → Bool
-lineWords [] = true
-lineWords (w ∷ words) = leb w silence && lineWords words
 
 -- "Letter | Format", in ASCII
 abbrev pub letterOf : Format → ℕ

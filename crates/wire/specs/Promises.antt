@@ -1,14 +1,20 @@
 -- What each public function promises: for every argument one answer.
 use Prim.Native.Nat.{ℕ}
 use mathlib.Core.Path.{_≡_}
-use mathlib.Core.Bool.{Bool}
+use mathlib.Core.Bool.{Bool, true, _||_}
 use mathlib.Core.List.{List}
-use Rattle.wire.specs.Line.{sizeBy, markedBy}
-use Rattle.wire.specs.Fits.{fitsBy}
+use lib.Dec.{eqb}
+use Rattle.wire.specs.Line.{known, sizeBy, markedBy}
+use Rattle.wire.specs.Places.{fitsBy}
 use Rattle.wire.specs.Reading.{reportBy}
-use Rattle.wire.specs.Encoder.{refusalOf, lengthOf, outcome, encodeOf}
+use Rattle.wire.specs.Numbers.{success, badLetter, badButtons, badMovement, shortBuffer}
+use Rattle.wire.specs.Encoder.{Encoding, refusalOf, lengthOf, outcome, refused, encodeOf}
 use Rattle.wire.specs.declared.Report.{Report}
 use Rattle.wire.specs.declared.Encoded.{Encoded}
+
+-- `known(letter)`
+abbrev pub KnownPromise : ℕ → Bool → Type 0
+KnownPromise letter answer = answer ≡ known letter
 
 -- `size(letter)`
 abbrev pub SizePromise : ℕ → ℕ → Type 0
@@ -29,6 +35,11 @@ ReportPromise letter bytes answer = answer ≡ reportBy letter bytes
 -- `encode(letter, report, buffer)`: the answer, and every byte of the buffer after it
 abbrev pub EncodePromise : ℕ → Report → List ℕ → Encoded → List ℕ → Type 0
 EncodePromise letter report before answer after = outcome answer after ≡ encodeOf letter report before
+
+-- an encoding that is no refusal, or has a number of the four and "returns [..] counts of 0": it tells no length and leaves the buffer
+pub data RefusesRightly (before : List ℕ) (e : Encoding) : Type 0 where
+  accepted : e .refusal ≡ success → RefusesRightly before e
+  refusal : (n : ℕ) → (eqb n badLetter || eqb n badButtons || eqb n badMovement || eqb n shortBuffer) ≡ true → e ≡ refused n before → RefusesRightly before e
 
 -- `Encoded::refusal(self)` and `Encoded::length(self)`
 abbrev pub RefusalPromise : Encoded → ℕ → Type 0

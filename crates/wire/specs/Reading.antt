@@ -1,6 +1,6 @@
 -- The report that the bytes of a format stand for: the table, read the other way.
-use Prim.Native.Nat.{ℕ, _-_}
-use mathlib.Core.Bool.{Bool, not, cond, _||_}
+use Prim.Native.Nat.{ℕ}
+use mathlib.Core.Bool.{Bool, not, _||_}
 use mathlib.Core.List.{List, [], _∷_, _++_}
 use lib.ListN.{getD}
 use lib.Dec.{eqb}
@@ -8,7 +8,7 @@ use lib.IntN.{ℤ, pos, negℤ}
 use Rattle.numbers.specs.Bits.{O, number, bit, bits}
 use Rattle.numbers.specs.Signed.{untwos, signed}
 use Rattle.wire.specs.Line.{namedBy, ofNamed}
-use Rattle.wire.specs.Fits.{between}
+use Rattle.wire.specs.Digits.{undigit}
 use Rattle.wire.specs.declared.Report.{Report}
 use Rattle.wire.specs.declared.Format.{Format}
 use Rattle.wire.specs.declared.Format.the-variants.{Mm, Microsoft, Absolute, Relative, FiveByte, ThreeByte, Hexadecimal}
@@ -52,10 +52,6 @@ readU b1 b2 b3 b4 b5 =
 -- T: 0 0 0 0 0 L M R; X; Y
 unfoldable pub readT : ℕ → ℕ → ℕ → Report
 readT b1 b2 b3 = report (number (bits 3 0 b1)) (untwos 128 b2) (untwos 128 b3)
-
--- the number of a hexadecimal digit, 0-9 or A-F; any other byte counts as 0
-unfoldable pub undigit : ℕ → ℕ
-undigit b = cond (between 0x30 0x39 b) (b - 0x30) (cond (between 0x41 0x46 b) (b - 0x37) 0)
 
 -- W: digit 0-7 (4L+2M+R); X low digit, X high; Y low, Y high
 abbrev pub pair : ℕ → ℕ → ℕ

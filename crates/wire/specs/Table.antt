@@ -1,12 +1,12 @@
 -- The bytes of a report, each as the row of bits that the table prints.
-use Prim.Native.Nat.{ℕ, _+_}
-use mathlib.Core.Bool.{Bool, not, cond}
+use Prim.Native.Nat.{ℕ}
+use mathlib.Core.Bool.{Bool, not}
 use mathlib.Core.List.{List, [], _∷_, _++_}
 use lib.ListN.{take, replicate}
-use lib.Dec.{ltb}
 use lib.IntN.{negℤ, natAbs}
 use lib.Signed.{nonNeg}
 use Rattle.wire.specs.Line.{namedBy, ofNamed}
+use Rattle.wire.specs.Digits.{digit}
 use Rattle.numbers.specs.Bits.{I, O, number, bit, bits}
 use Rattle.numbers.specs.Signed.{twos}
 use Rattle.numbers.specs.Parity.{withParity}
@@ -79,10 +79,6 @@ bytesT r =
     ∷ twos 128 (r .x1)
     ∷ twos 128 (r .y1)
     ∷ []
-
--- the ASCII digit of a number below 16: "digits 0-9, A-F"
-unfoldable pub digit : ℕ → ℕ
-digit n = cond (ltb n 10) (0x30 + n) (0x37 + n)
 
 -- W: "ASCII digit 0-7 (4L+2M+R); X low digit, X high; Y low, Y high", of two bytes X and Y
 unfoldable pub rowsW : ℕ → ℕ → ℕ → List ℕ

@@ -1,9 +1,7 @@
 // Hexadecimal digits, by ranges.
 ghost use mathlib.Core.Path.{_≡_};
 ghost use Prim.Native.Nat.{_<_};
-ghost use Rattle.wire.specs.Table.{digit};
-ghost use Rattle.wire.specs.Fits.{isDigit};
-ghost use Rattle.wire.specs.Reading.{undigit};
+ghost use Rattle.wire.specs.Digits.{isDigit, digit, undigit};
 
 // Whether a byte is a digit 0-9 or A-F.
 pub(crate) fn is_digit(b: u8) -> bool

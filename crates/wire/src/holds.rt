@@ -1,9 +1,10 @@
 // Which movements a format holds.
 ghost use mathlib.Core.Path.{_≡_};
-ghost use Rattle.wire.specs.Holds.{within, xRange, yRange, secondRange, holds};
+ghost use Rattle.wire.specs.Holds.{within, xRange, yRange, secondRange, unheld};
 use crate::Format;
 use crate::Range;
 use crate::Report;
+use crate::Unheld;
 
 // A magnitude of seven bits under a sign.
 const SIGNED_SEVEN: Range = Range {
@@ -85,12 +86,26 @@ fn second_range(f: Format) -> Range
     }
 }
 
-// Whether a format holds a report's movements, either pair.
-pub(crate) fn holds(f: Format, report: Report) -> bool
-    ensures { λ r. ⌜ r ≡ holds f report ⌝ }
+// The first movement, in the order x1, y1, x2, y2, that a format does not hold.
+pub(crate) fn unheld(f: Format, report: Report) -> Unheld
+    ensures { λ r. ⌜ r ≡ unheld f report ⌝ }
 {
-    let x = x_range(f);
-    let y = y_range(f);
     let second = second_range(f);
-    x.has(report.x1) & y.has(report.y1) & second.has(report.x2) & second.has(report.y2)
+    let first_x = x_range(f).has(report.x1);
+    let first_y = y_range(f).has(report.y1);
+    let second_x = second.has(report.x2);
+    let second_y = second.has(report.y2);
+    if !first_x {
+        return Unheld::FirstX;
+    }
+    if !first_y {
+        return Unheld::FirstY;
+    }
+    if !second_x {
+        return Unheld::SecondX;
+    }
+    if !second_y {
+        return Unheld::SecondY;
+    }
+    Unheld::None
 }

@@ -1,6 +1,6 @@
 // Which bytes are valid at the first place of a report, and which at a later one.
 ghost use mathlib.Core.Path.{_≡_};
-ghost use Rattle.wire.specs.Fits.{fitsFirst, fitsLater, fitsAt};
+ghost use Rattle.wire.specs.Places.{fitsFirst, fitsLater, fitsAt};
 use crate::Format;
 use crate::digits::is_digit;
 use crate::parity::is_even;

@@ -5,8 +5,8 @@ ghost use Rattle.wire.specs.Reading.{report, readS, readV, twelve, readA
 use crate::Format;
 use crate::Report;
 use crate::digits::number_of;
-use crate::signs::joined;
-use crate::signs::unwrapped;
+use crate::signed::joined;
+use crate::signed::unwrapped;
 
 // A report whose second pair is zero.
 pub(crate) fn report(buttons: u8, x: i16, y: i16) -> Report
@@ -22,7 +22,7 @@ pub(crate) fn report(buttons: u8, x: i16, y: i16) -> Report
 }
 
 // A two's complement byte.
-fn byte(b: u8) -> i16
+fn unwrapped_byte(b: u8) -> i16
     ensures { λ r. ⌜ r ≡ untwos 128 b ⌝ }
 {
     unwrapped(b as u16, 128)
@@ -41,8 +41,8 @@ fn read_mm(b1: u8, b2: u8, b3: u8) -> Report
 fn read_microsoft(b1: u8, b2: u8, b3: u8) -> Report
     ensures { λ r. ⌜ r ≡ readV b1 b2 b3 ⌝ }
 {
-    let x = byte(((b1 % 4) << 6) + b2 % 64);
-    let y = byte(((b1 / 4 % 4) << 6) + b3 % 64);
+    let x = unwrapped_byte(((b1 % 4) << 6) + b2 % 64);
+    let y = unwrapped_byte(((b1 / 4 % 4) << 6) + b3 % 64);
     report(b1 / 32 % 2 * 4 + b1 / 16 % 2, x, -y)
 }
 
@@ -79,10 +79,10 @@ fn read_five(b1: u8, b2: u8, b3: u8, b4: u8, b5: u8) -> Report
 {
     Report {
         buttons: 7 - b1 % 8,
-        x1: byte(b2),
-        y1: byte(b3),
-        x2: byte(b4),
-        y2: byte(b5),
+        x1: unwrapped_byte(b2),
+        y1: unwrapped_byte(b3),
+        x2: unwrapped_byte(b4),
+        y2: unwrapped_byte(b5),
     }
 }
 
@@ -90,7 +90,7 @@ fn read_five(b1: u8, b2: u8, b3: u8, b4: u8, b5: u8) -> Report
 fn read_three(b1: u8, b2: u8, b3: u8) -> Report
     ensures { λ r. ⌜ r ≡ readT b1 b2 b3 ⌝ }
 {
-    report(b1 % 8, byte(b2), byte(b3))
+    report(b1 % 8, unwrapped_byte(b2), unwrapped_byte(b3))
 }
 
 // W: a byte of two digits, the low one first.
@@ -104,7 +104,11 @@ fn pair(low: u8, high: u8) -> u8
 fn read_hexadecimal(b1: u8, b2: u8, b3: u8, b4: u8, b5: u8) -> Report
     ensures { λ r. ⌜ r ≡ readW b1 b2 b3 b4 b5 ⌝ }
 {
-    report(number_of(b1), byte(pair(b2, b3)), byte(pair(b4, b5)))
+    report(
+        number_of(b1),
+        unwrapped_byte(pair(b2, b3)),
+        unwrapped_byte(pair(b4, b5)),
+    )
 }
 
 // The report that bytes stand for in a format.

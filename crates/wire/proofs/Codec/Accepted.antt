@@ -1,14 +1,15 @@
 -- Accepted reports, part by part.
 use Prim.Native.Nat.{ℕ, _<_}
-use mathlib.Core.Path.{_≡_}
-use mathlib.Core.Bool.{true, _&&_}
+use mathlib.Core.Path.{_≡_, refl, sym, _∙_}
+use mathlib.Core.Bool.{Bool, true, false, not, cond, _&&_}
 use native.Mathlib.Omega.{arith}
 use lib.IntN.{ℤ, pos}
 use borrow.Author.Tests.{leb-true, le-leb}
 use Rattle.numbers.proofs.Tested.{left, right}
 use Rattle.wire.specs.Reading.{report}
-use Rattle.wire.specs.Holds.{_to_, within, xRange, yRange, secondRange, holds, pressable, accepted}
+use Rattle.wire.specs.Holds.{_to_, within, xRange, yRange, secondRange, isNone, holds, pressable, accepted}
 use Rattle.wire.specs.declared.Report.{Report}
+use Rattle.wire.specs.declared.Unheld.the-variants.{None, FirstX, FirstY, SecondX, SecondY}
 use Rattle.wire.specs.declared.Format.{Format}
 use Rattle.wire.proofs.Codec.Ranges.{only-zero}
 
@@ -19,13 +20,21 @@ pub record Held (f : Format) (r : Report) : Type 0 where
   pub second-x : within (secondRange f) (r .x2) ≡ true
   pub second-y : within (secondRange f) (r .y2) ≡ true
 
+none-unheld : (a b c d : Bool) → isNone (cond (not a) FirstX (cond (not b) FirstY (cond (not c) SecondX (cond (not d) SecondY None)))) ≡ a && b && c && d
+none-unheld false b c d = refl
+none-unheld true false c d = refl
+none-unheld true true false d = refl
+none-unheld true true true false = refl
+none-unheld true true true true = refl
+
 pub held : (f : Format) (r : Report) → holds f r ≡ true → Held f r
 unfolding holds
-held f r h =
+held f r e =
     let x = within (xRange f) (r .x1) in
     let y = within (yRange f) (r .y1) in
     let second-x = within (secondRange f) (r .x2) in
     let second-y = within (secondRange f) (r .y2) in
+    let h = sym (none-unheld x y second-x second-y) ∙ e in
     let three = left (x && y && second-x) second-y h in
     let two = left (x && y) second-x three in
     record {
@@ -48,9 +57,9 @@ parts f r a =
       moved = held f r (right (pressable r) (holds f r) a);
     }
 
-pub whole : (f : Format) (r : Report) → Parts f r → accepted f r ≡ true
+pub parts-accepted : (f : Format) (r : Report) → Parts f r → accepted f r ≡ true
 unfolding accepted holds
-whole f r p =
+parts-accepted f r p =
     let m = p .moved in
     rw (le-leb (r .buttons) 7 (omega arith), m .x, m .y, m .second-x, m .second-y)
 

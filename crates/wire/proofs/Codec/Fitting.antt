@@ -4,7 +4,7 @@ use mathlib.Core.Path.{_≡_}
 use mathlib.Core.Bool.{true}
 use Rattle.numbers.specs.Parity.{even}
 use Rattle.numbers.proofs.Tested.{left}
-use Rattle.wire.specs.Fits.{fitsFirst, fitsLater}
+use Rattle.wire.specs.Places.{fitsFirst, fitsLater}
 use Rattle.wire.specs.declared.Format.{Format}
 use Rattle.wire.specs.declared.Format.the-variants.{Mm, Microsoft, Absolute, Relative, FiveByte, ThreeByte, Hexadecimal}
 use Rattle.wire.proofs.Codec.Ranges.{byte-below}

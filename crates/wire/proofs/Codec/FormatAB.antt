@@ -13,7 +13,7 @@ use Rattle.numbers.proofs.Rows.{number-whole, bits-below, bits-in, whole-in}
 use Rattle.numbers.proofs.Twos.{twos-untwos}
 use Rattle.wire.specs.Table.{L, M, R, rowsA, bytesA, bytesB}
 use Rattle.wire.specs.Holds.{within, xRange}
-use Rattle.wire.specs.Fits.{Cell, 𝟏, 𝟎, ·, fitsFirst, fitsLater, allLater, valid}
+use Rattle.wire.specs.Places.{Cell, 𝟏, 𝟎, ·, fitsFirst, fitsLater, allLater, valid}
 use Rattle.wire.specs.Reading.{at, report, twelve, readA, readB, reportOf}
 use Rattle.wire.specs.declared.Report.{Report}
 use Rattle.wire.specs.declared.Format.the-variants.{Absolute, Relative}

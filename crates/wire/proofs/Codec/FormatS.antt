@@ -16,7 +16,7 @@ use Rattle.numbers.proofs.Rows.{bits-below, number-whole, bit-in, bits-in, whol
 use Rattle.numbers.proofs.Twos.{signed-whole, signed-magnitude, signed-sign}
 use Rattle.wire.specs.Table.{L, M, R, bytesS}
 use Rattle.wire.specs.Holds.{within, xRange}
-use Rattle.wire.specs.Fits.{𝟏, 𝟎, ·, like, fitsFirst, fitsLater, allLater, valid}
+use Rattle.wire.specs.Places.{𝟏, 𝟎, ·, like, fitsFirst, fitsLater, allLater, valid}
 use Rattle.wire.specs.Reading.{readS, reportOf, plusZero, isZero}
 use Rattle.wire.specs.declared.Report.{Report}
 use Rattle.wire.specs.declared.Format.the-variants.{Mm}

@@ -5,7 +5,7 @@ use mathlib.Core.List.{List, [], _∷_, map}
 use Rattle.numbers.specs.Bits.{I, O, number, bits}
 use Rattle.numbers.proofs.Rows.{number-below, number-whole, bits-in}
 use Rattle.wire.specs.Table.{L, M, R, bytesU}
-use Rattle.wire.specs.Fits.{𝟏, 𝟎, ·, fitsFirst, fitsLater, allLater, valid}
+use Rattle.wire.specs.Places.{𝟏, 𝟎, ·, fitsFirst, fitsLater, allLater, valid}
 use Rattle.wire.specs.Reading.{readU, reportOf}
 use Rattle.wire.specs.declared.Report.{Report}
 use Rattle.wire.specs.declared.Format.the-variants.{FiveByte}

@@ -11,7 +11,7 @@ use Rattle.numbers.proofs.Rows.{number-below, number-whole, bit-in, bits-in}
 use Rattle.numbers.proofs.Twos.{twos-below, untwos-twos, untwos-near, twos-untwos}
 use Rattle.wire.specs.Table.{L, R, rowsV, bytesV}
 use Rattle.wire.specs.Holds.{withoutM}
-use Rattle.wire.specs.Fits.{𝟏, 𝟎, ·, fitsFirst, fitsLater, allLater, valid}
+use Rattle.wire.specs.Places.{𝟏, 𝟎, ·, fitsFirst, fitsLater, allLater, valid}
 use Rattle.wire.specs.Reading.{readV, reportOf}
 use Rattle.wire.specs.declared.Report.{Report}
 use Rattle.wire.specs.declared.Format.the-variants.{Microsoft}

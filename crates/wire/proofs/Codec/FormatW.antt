@@ -13,10 +13,11 @@ use Rattle.numbers.specs.Signed.{twos, untwos}
 use Rattle.numbers.proofs.Tested.{right, truth, tested, agree-if, equal, equal-if}
 use Rattle.numbers.proofs.Rows.{number-below, number-whole, bits-below, bits-in}
 use Rattle.numbers.proofs.Twos.{twos-untwos}
-use Rattle.wire.specs.Table.{digit, rowsW, bytesW}
+use Rattle.wire.specs.Table.{rowsW, bytesW}
+use Rattle.wire.specs.Digits.{between, digit, undigit}
 use Rattle.wire.specs.Holds.{within, xRange}
-use Rattle.wire.specs.Fits.{between, fitsFirst, fitsLater, allLater, valid}
-use Rattle.wire.specs.Reading.{undigit, pair, readW, reportOf}
+use Rattle.wire.specs.Places.{fitsFirst, fitsLater, allLater, valid}
+use Rattle.wire.specs.Reading.{pair, readW, reportOf}
 use Rattle.wire.specs.declared.Report.{Report}
 use Rattle.wire.specs.declared.Format.the-variants.{Hexadecimal}
 use Rattle.wire.proofs.Fields.{undigit-below}

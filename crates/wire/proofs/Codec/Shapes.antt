@@ -11,7 +11,7 @@ use Rattle.numbers.proofs.Tested.{left, right, holds}
 use Rattle.wire.specs.Line.{sizeOf}
 use Rattle.wire.specs.Table.{bytesOf}
 use Rattle.wire.specs.Reading.{reportOf, settled}
-use Rattle.wire.specs.Fits.{fitsFirst, fitsLater, fitsAt, allLater, valid}
+use Rattle.wire.specs.Places.{fitsFirst, fitsLater, fitsAt, allLater, valid}
 use Rattle.wire.specs.declared.Format.{Format}
 use Rattle.wire.proofs.Codec.Accepted.{Parts}
 

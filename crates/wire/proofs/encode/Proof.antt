@@ -1,10 +1,13 @@
 -- `encode`: each refusal in its turn, and then the bytes.
 use borrow.Author.Needs.{needs}
-use borrow.Author.Tests.{lt-ltb, le-ltb, not-true, not-false}
-use mathlib.Core.Path.{sym, _∙_}
-use Rattle.wire.proofs.Front.{size-small, front}
-use Rattle.wire.specs.Encoder.{encodeIn}
-use Rattle.wire.specs.Holds.{pressable, accepted}
+use borrow.Author.Tests.{lt-leb, le-leb}
+use mathlib.Core.Path.{_≡_, sym, _∙_}
+use mathlib.Core.Bool.{not, cond}
+use Rattle.wire.specs.Encoder.{refused, writing, encodeIn, encodeOf}
+use Rattle.wire.specs.Numbers.{badMovement}
+use Rattle.wire.specs.Holds.{isNone, holds, accepted}
+use Rattle.wire.specs.declared.Unheld.{Unheld}
+use Rattle.wire.specs.declared.Unheld.the-variants.{None, FirstX, FirstY, SecondX, SecondY}
 use Rattle.wire.proofs.encode.Statement.{statement}
 use Rattle.wire.proofs.encode.Tie as tie
 
@@ -21,43 +24,55 @@ returns : tie.Need-returns
 unfolding encodeIn
 returns c = rw (sym (c .before .before .format-of .ensures) ∙ c .enum-told .given .1)
 
-holds-requires : tie.Need-holds-requires
-holds-requires c κs = search needs
-
 returns-2 : tie.Need-returns-2
 unfolding encodeIn
-returns-2 c = rw (sym (c .before .before .before .before .before .before .format-of .ensures) ∙ c .before .before .before .before .f .given .1) (simp (not-true (pressable (c .before .before .before .before .before .before .before .before .args .report)) (c .if1 .taken)))
+returns-2 c = rw (sym (c .before .before .before .before .before .format-of .ensures) ∙ c .before .before .before .f .given .1) (simp (lt-leb _ 7 (c .if1 .taken)))
 
-returns-3 : tie.Need-returns-3
-unfolding encodeIn
-returns-3 c = rw (sym (c .before .before .before .before .before .before .before .format-of .ensures) ∙ c .before .before .before .before .before .f .given .1) (simp (not-false (pressable (c .before .before .before .before .before .before .before .before .before .args .report)) (c .before .if1 .left), sym (c .before .before .holds .ensures) ∙ not-true _ (c .if2 .taken)))
+unheld-requires : tie.Need-unheld-requires
+unheld-requires c κs = search needs
 
-size-of-requires : tie.Need-size-of-requires
-size-of-requires c κs = search needs
+enum-told-2 : tie.Need-enum-told-2
+enum-told-2 c = search needs
 
-returns-4 : tie.Need-returns-4
-unfolding encodeIn
-returns-4 c = rw (sym (c .before .before .before .before .before .before .before .before .before .format-of .ensures) ∙ c .before .before .before .before .before .before .before .f .given .1)
-    (simp (not-false (pressable (c .before .before .before .before .before .before .before .before .before .before .before .args .report)) (c .before .before .before .if1 .left), sym (c .before .before .before .before .holds .ensures) ∙ not-false _ (c .before .before .if2 .left), lt-ltb _ _ (rw (c .before .size-of .ensures) at (c .if3 .taken))))
+-- what is answered for a movement, or for none, that is not held
+movement : (c : tie.After-unheld) (u : Unheld) → c .unheld .result ≡ u → let a = c .before .before .before .before .before .before .before .before .args in
+    encodeOf (a .letter) (a .report) (a .buffer .now) ≡ cond (not (isNone u)) (refused badMovement (a .buffer .now)) (writing (c .before .before .before .before .f .given .0 .0) (a .report) (a .buffer .now))
+unfolding encodeIn holds
+movement c u e = rw (sym (c .before .before .before .before .before .before .format-of .ensures) ∙ c .before .before .before .before .f .given .1) (simp (le-leb _ 7 (c .before .if1 .left), sym (c .unheld .ensures) ∙ e))
 
-bytes-of-requires : tie.Need-bytes-of-requires
-unfolding accepted
-bytes-of-requires c κs = simp (not-false (pressable (c .before .before .before .before .before .before .before .before .before .before .before .before .args .report)) (c .before .before .before .before .if1 .left), sym (c .before .before .before .before .before .holds .ensures) ∙ not-false _ (c .before .before .before .if2 .left))
+write-requires : tie.Need-write-requires
+unfolding accepted holds
+write-requires c κs = simp (le-leb _ 7 (c .before .before .before .before .if1 .left), sym (c .before .before .before .unheld .ensures) ∙ c .before .enum-told2 .given .1)
 
-put-requires : tie.Need-put-requires
-put-requires c κs = (rw (c .before .before .before .size-of .ensures) (size-small (c .before .before .before .before .before .before .before .before .before .f .given .0 .0)), c .before .before .if3 .left)
+enum-told-3 : tie.Need-enum-told-3
+enum-told-3 c = search needs
+
+enum-told-4 : tie.Need-enum-told-4
+enum-told-4 c = search needs
+
+enum-told-5 : tie.Need-enum-told-5
+enum-told-5 c = search needs
+
+enum-told-6 : tie.Need-enum-told-6
+enum-told-6 c = search needs
 
 same-length : tie.Need-same-length
 same-length c = search needs
 
+returns-3 : tie.Need-returns-3
+returns-3 c = c .before .before .write .ensures ∙ sym (movement (c .before .before .before .before .before .before) None (c .before .before .before .before .enum-told2 .given .1))
+
+returns-4 : tie.Need-returns-4
+returns-4 c = sym (movement (c .before .before) FirstX (c .enum-told3 .given .1))
+
 returns-5 : tie.Need-returns-5
-unfolding encodeIn
-returns-5 c = let f = c .before .before .before .before .before .before .before .before .before .before .before .before .f .given .0 .0 in
-    let r = c .before .before .before .before .before .before .before .before .before .before .before .before .before .before .before .before .args .report in
-    let e = rw (c .before .before .before .bytes-of .ensures, c .before .before .before .before .before .before .size-of .ensures, front f r) at (c .before .before .put .ensures) in
-    rw (sym (c .before .before .before .before .before .before .before .before .before .before .before .before .before .before .format-of .ensures) ∙ c .before .before .before .before .before .before .before .before .before .before .before .before .f .given .1)
-    (simp
-    (not-false (pressable r) (c .before .before .before .before .before .before .before .before .if1 .left), sym (c .before .before .before .before .before .before .before .before .before .holds .ensures) ∙ not-false _ (c .before .before .before .before .before .before .before .if2 .left), le-ltb _ _ (rw (c .before .before .before .before .before .before .size-of .ensures) at (c .before .before .before .before .before .if3 .left)), c .before .before .before .before .before .before .size-of .ensures, e))
+returns-5 c = sym (movement (c .before .before) FirstY (c .enum-told4 .given .1))
+
+returns-6 : tie.Need-returns-6
+returns-6 c = sym (movement (c .before .before) SecondX (c .enum-told5 .given .1))
+
+returns-7 : tie.Need-returns-7
+returns-7 c = sym (movement (c .before .before) SecondY (c .enum-told6 .given .1))
 
 pub encode-spec : {M : Type 1} → statement M
 encode-spec =
@@ -67,12 +82,17 @@ encode-spec =
     enum-known-f
     enum-told
     returns
-    holds-requires
     returns-2
-    returns-3
-    size-of-requires
-    returns-4
-    bytes-of-requires
-    put-requires
+    unheld-requires
+    enum-told-2
+    write-requires
+    enum-told-3
+    enum-told-4
+    enum-told-5
+    enum-told-6
     same-length
-    returns-5)
+    returns-3
+    returns-4
+    returns-5
+    returns-6
+    returns-7)

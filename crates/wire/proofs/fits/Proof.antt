@@ -1,7 +1,7 @@
 -- `fits`: of the format that the letter names, if it names one.
 use borrow.Author.Needs.{needs}
 use mathlib.Core.Path.{sym, _∙_}
-use Rattle.wire.specs.Fits.{fitsBy}
+use Rattle.wire.specs.Places.{fitsBy}
 use Rattle.wire.proofs.fits.Statement.{statement}
 use Rattle.wire.proofs.fits.Tie as tie
 

@@ -4,39 +4,6 @@ use Rattle.ballbox.specs.Events.{asleep}
 use Rattle.ballbox.proofs.BallBox.asleep.Statement.{statement}
 use Rattle.ballbox.proofs.BallBox.asleep.Tie as tie
 
-enum-told : tie.Need-enum-told
-enum-told c = search needs
-
-quietly-requires : tie.Need-quietly-requires
-quietly-requires c κs = search needs
-
-enum-told-2 : tie.Need-enum-told-2
-enum-told-2 c = search needs
-
-quietly-requires-2 : tie.Need-quietly-requires-2
-quietly-requires-2 c κs = search needs
-
-enum-told-3 : tie.Need-enum-told-3
-enum-told-3 c = search needs
-
-woken-requires : tie.Need-woken-requires
-woken-requires c κs = search needs
-
-quietly-requires-3 : tie.Need-quietly-requires-3
-quietly-requires-3 c κs = search needs
-
-enum-told-4 : tie.Need-enum-told-4
-enum-told-4 c = search needs
-
-gives-requires : tie.Need-gives-requires
-gives-requires c κs = search needs
-
-enum-told-5 : tie.Need-enum-told-5
-enum-told-5 c = search needs
-
-quietly-requires-4 : tie.Need-quietly-requires-4
-quietly-requires-4 c κs = search needs
-
 returns : tie.Need-returns
 unfolding asleep
 returns c = rw (c .before .enum-told .given .1) (c .quietly .ensures)
@@ -61,17 +28,17 @@ pub asleep-spec : {M : Type 1} → statement M
 asleep-spec =
     tie.close
     (tie.spec
-    enum-told
-    quietly-requires
-    enum-told-2
-    quietly-requires-2
-    enum-told-3
-    woken-requires
-    quietly-requires-3
-    enum-told-4
-    gives-requires
-    enum-told-5
-    quietly-requires-4
+    (λ c. search needs)
+    (λ c κs. search needs)
+    (λ c. search needs)
+    (λ c κs. search needs)
+    (λ c. search needs)
+    (λ c κs. search needs)
+    (λ c κs. search needs)
+    (λ c. search needs)
+    (λ c κs. search needs)
+    (λ c. search needs)
+    (λ c κs. search needs)
     returns
     returns-2
     returns-3

@@ -7,44 +7,8 @@ use Rattle.numbers.proofs.Machine.{passed}
 use Rattle.ballbox.proofs.BallBox.awake.Statement.{statement}
 use Rattle.ballbox.proofs.BallBox.awake.Tie as tie
 
-enum-known-event : tie.Need-enum-known-event
-enum-known-event c = search needs
-
-on-motion-requires : tie.Need-on-motion-requires
-on-motion-requires c κs = search needs
-
-quietly-requires : tie.Need-quietly-requires
-quietly-requires c κs = search needs
-
-enum-known-event-2 : tie.Need-enum-known-event-2
-enum-known-event-2 c = search needs
-
-on-buttons-requires : tie.Need-on-buttons-requires
-on-buttons-requires c κs = search needs
-
-quietly-requires-2 : tie.Need-quietly-requires-2
-quietly-requires-2 c κs = search needs
-
-enum-known-event-3 : tie.Need-enum-known-event-3
-enum-known-event-3 c = search needs
-
-on-host-requires : tie.Need-on-host-requires
-on-host-requires c κs = search needs
-
-enum-told : tie.Need-enum-told
-enum-told c = search needs
-
 on-slot-requires : tie.Need-on-slot-requires
 on-slot-requires c κs = c .before .before .pre
-
-enum-told-2 : tie.Need-enum-told-2
-enum-told-2 c = search needs
-
-on-period-requires : tie.Need-on-period-requires
-on-period-requires c κs = search needs
-
-quietly-requires-3 : tie.Need-quietly-requires-3
-quietly-requires-3 c κs = search needs
 
 returns : tie.Need-returns
 unfolding awake
@@ -75,19 +39,19 @@ pub awake-spec : {M : Type 1} → statement M
 awake-spec =
     tie.close
     (tie.spec
-    enum-known-event
-    on-motion-requires
-    quietly-requires
-    enum-known-event-2
-    on-buttons-requires
-    quietly-requires-2
-    enum-known-event-3
-    on-host-requires
-    enum-told
+    (λ c. search needs)
+    (λ c κs. search needs)
+    (λ c κs. search needs)
+    (λ c. search needs)
+    (λ c κs. search needs)
+    (λ c κs. search needs)
+    (λ c. search needs)
+    (λ c κs. search needs)
+    (λ c. search needs)
     on-slot-requires
-    enum-told-2
-    on-period-requires
-    quietly-requires-3
+    (λ c. search needs)
+    (λ c κs. search needs)
+    (λ c κs. search needs)
     returns
     returns-2
     returns-3

@@ -5,12 +5,6 @@ use Rattle.ballbox.specs.Events.{dropped}
 use Rattle.ballbox.proofs.BallBox.dropped.Statement.{statement}
 use Rattle.ballbox.proofs.BallBox.dropped.Tie as tie
 
-bytes-left-requires : tie.Need-bytes-left-requires
-bytes-left-requires c κs = search needs
-
-nothing-requires : tie.Need-nothing-requires
-nothing-requires c κs = search needs
-
 returns : tie.Need-returns
 unfolding dropped
 returns c = simp (sym (c .before .before .bytes-left .ensures) ∙ c .before .if1 .taken, c .nothing .ensures)
@@ -20,4 +14,4 @@ unfolding dropped
 returns-2 c = simp (sym (c .before .bytes-left .ensures) ∙ c .if1 .left)
 
 pub dropped-spec : {M : Type 1} → statement M
-dropped-spec = tie.close (tie.spec bytes-left-requires nothing-requires returns returns-2)
+dropped-spec = tie.close (tie.spec (λ c κs. search needs) (λ c κs. search needs) returns returns-2)

@@ -4,12 +4,9 @@ use Rattle.ballbox.specs.Box.{freshBox}
 use Rattle.ballbox.proofs.BallBox.fresh.Statement.{statement}
 use Rattle.ballbox.proofs.BallBox.fresh.Tie as tie
 
-nothing-requires : tie.Need-nothing-requires
-nothing-requires c κs = search needs
-
 returns : tie.Need-returns
 unfolding freshBox
 returns c = simp (c .nothing .ensures)
 
 pub fresh-spec : {M : Type 1} → statement M
-fresh-spec = tie.close (tie.spec nothing-requires returns)
+fresh-spec = tie.close (tie.spec (λ c κs. search needs) returns)

@@ -29,12 +29,6 @@ reported c =
     let y : toZ w16 (ofZ w16 (t .result .y)) ≡ t .result .y = search needs in
     same-report refl (x ∙ ap (λ (p : Pair). p .x) (t .ensures)) (y ∙ ap (λ (p : Pair). p .y) (t .ensures)) refl refl
 
-taken-requires : tie.Need-taken-requires
-taken-requires c κs = search needs
-
-size-requires : tie.Need-size-requires
-size-requires c κs = search needs
-
 cast-t8 : tie.Need-cast-t8
 cast-t8 c = record { fits = rw (c .size .ensures) (omega (arith, at-most-five (c .before .before .before .before .args .self .settings .format))) }
 
@@ -42,9 +36,6 @@ encoded-requires : tie.Need-encoded-requires
 encoded-requires c κs =
     let s = c .before .before .before .before in
     ap (acceptedBy (s .args .self .settings .format)) (reported (c .before)) ∙ latched-accepted (s .args .self) (s .pre)
-
-cleared-requires : tie.Need-cleared-requires
-cleared-requires c κs = search needs
 
 returns : tie.Need-returns
 unfolding latched goingFrom
@@ -56,4 +47,4 @@ returns c =
 pub latched-spec : {M : Type 1} → statement M
 latched-spec =
     tie.close
-    (tie.spec taken-requires size-requires cast-t8 encoded-requires cleared-requires returns)
+    (tie.spec (λ c κs. search needs) (λ c κs. search needs) cast-t8 encoded-requires (λ c κs. search needs) returns)

@@ -4,15 +4,6 @@ use Rattle.ballbox.specs.Events.{latching}
 use Rattle.ballbox.proofs.BallBox.latching.Statement.{statement}
 use Rattle.ballbox.proofs.BallBox.latching.Tie as tie
 
-bytes-left-requires : tie.Need-bytes-left-requires
-bytes-left-requires c κs = search needs
-
-wanted-requires : tie.Need-wanted-requires
-wanted-requires c κs = search needs
-
-latched-requires : tie.Need-latched-requires
-latched-requires c κs = search needs
-
 returns : tie.Need-returns
 unfolding latching
 returns c = simp (simp (c .before .before .wanted .ensures, c .before .before .before .bytes-left .ensures) at (c .before .if1 .taken)) (c .latched .ensures)
@@ -23,4 +14,4 @@ returns-2 c = simp (simp (c .before .wanted .ensures, c .before .before .bytes-l
 
 pub latching-spec : {M : Type 1} → statement M
 latching-spec =
-    tie.close (tie.spec bytes-left-requires wanted-requires latched-requires returns returns-2)
+    tie.close (tie.spec (λ c κs. search needs) (λ c κs. search needs) (λ c κs. search needs) returns returns-2)

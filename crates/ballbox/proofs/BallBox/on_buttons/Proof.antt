@@ -9,12 +9,9 @@ returns : tie.Need-returns
 unfolding onButtons
 returns c = simp (eq-eqb _ _ (c .if1 .taken))
 
-is-stream-requires : tie.Need-is-stream-requires
-is-stream-requires c κs = search needs
-
 returns-2 : tie.Need-returns-2
 unfolding onButtons
 returns-2 c = simp (ne-eqb _ _ (c .before .before .before .if1 .left), c .before .is-stream .ensures)
 
 pub on-buttons-spec : {M : Type 1} → statement M
-on-buttons-spec = tie.close (tie.spec returns is-stream-requires returns-2)
+on-buttons-spec = tie.close (tie.spec returns (λ c κs. search needs) returns-2)

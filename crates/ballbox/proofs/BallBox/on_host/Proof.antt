@@ -1,45 +1,34 @@
--- `on_host`: with a break, or without.
+-- `on_host`: without a break, or with one.
 use borrow.Author.Needs.{needs}
+use borrow.Author.Tests.{not-true, not-false}
 use mathlib.Core.Path.{sym, _∙_}
-use Rattle.ballbox.specs.Events.{onHost}
+use Rattle.ballbox.proofs.Slots.{host-busy, host-idle}
 use Rattle.ballbox.proofs.BallBox.on_host.Statement.{statement}
 use Rattle.ballbox.proofs.BallBox.on_host.Tie as tie
 
-dropped-requires : tie.Need-dropped-requires
-dropped-requires c κs = search needs
-
-heard-requires : tie.Need-heard-requires
-heard-requires c κs = search needs
-
-obeyed-requires : tie.Need-obeyed-requires
-obeyed-requires c κs = search needs
-
-bytes-left-requires : tie.Need-bytes-left-requires
-bytes-left-requires c κs = search needs
-
-gives-requires : tie.Need-gives-requires
-gives-requires c κs = search needs
-
-quietly-requires : tie.Need-quietly-requires
-quietly-requires c κs = search needs
-
 returns : tie.Need-returns
-unfolding onHost
-returns c = simp (sym (c .before .before .bytes-left .ensures) ∙ c .before .if1 .taken) (simp (c .before .before .before .obeyed .ensures, c .before .before .before .before .heard .ensures, c .before .before .before .before .before .dropped .ensures) at (c .gives .ensures))
+returns c =
+    let o = c .before .before .before in
+    let a = o .before .before .before .args in
+    let l = sym (c .before .before .bytes-left .ensures) ∙ not-true _ (c .before .if1 .taken) in
+    (simp (o .obeyed .ensures, o .before .heard .ensures, o .before .before .dropped .ensures) at (c .quietly .ensures)) ∙ sym (host-idle (a .self) (a .byte) l)
 
 returns-2 : tie.Need-returns-2
-unfolding onHost
-returns-2 c = simp (sym (c .before .before .bytes-left .ensures) ∙ c .before .if1 .left) (simp (c .before .before .before .obeyed .ensures, c .before .before .before .before .heard .ensures, c .before .before .before .before .before .dropped .ensures) at (c .quietly .ensures))
+returns-2 c =
+    let o = c .before .before .before in
+    let a = o .before .before .before .args in
+    let l = sym (c .before .before .bytes-left .ensures) ∙ not-false _ (c .before .if1 .left) in
+    (simp (o .obeyed .ensures, o .before .heard .ensures, o .before .before .dropped .ensures) at (c .gives .ensures)) ∙ sym (host-busy (a .self) (a .byte) l)
 
 pub on-host-spec : {M : Type 1} → statement M
 on-host-spec =
     tie.close
     (tie.spec
-    dropped-requires
-    heard-requires
-    obeyed-requires
-    bytes-left-requires
-    gives-requires
-    quietly-requires
+    (λ c κs. search needs)
+    (λ c κs. search needs)
+    (λ c κs. search needs)
+    (λ c κs. search needs)
+    (λ c κs. search needs)
     returns
+    (λ c κs. search needs)
     returns-2)

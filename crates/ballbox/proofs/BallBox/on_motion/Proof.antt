@@ -6,13 +6,10 @@ use Rattle.numbers.proofs.Machine.{passed}
 use Rattle.ballbox.proofs.BallBox.on_motion.Statement.{statement}
 use Rattle.ballbox.proofs.BallBox.on_motion.Tie as tie
 
-moved-by-requires : tie.Need-moved-by-requires
-moved-by-requires c κs = search needs
-
 returns : tie.Need-returns
 returns c =
     let s = c .before .before in
     simp (passed (λ dx dy. movedBy dx dy (s .args .self .track)) w16 (s .fits .dx) (s .fits .dy) (c .moved-by .ensures))
 
 pub on-motion-spec : {M : Type 1} → statement M
-on-motion-spec = tie.close (tie.spec moved-by-requires returns)
+on-motion-spec = tie.close (tie.spec (λ c κs. search needs) returns)

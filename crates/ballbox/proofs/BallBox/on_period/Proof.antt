@@ -4,15 +4,9 @@ use Rattle.ballbox.specs.Events.{onPeriod}
 use Rattle.ballbox.proofs.BallBox.on_period.Statement.{statement}
 use Rattle.ballbox.proofs.BallBox.on_period.Tie as tie
 
-has-moved-requires : tie.Need-has-moved-requires
-has-moved-requires c κs = search needs
-
-is-timed-requires : tie.Need-is-timed-requires
-is-timed-requires c κs = search needs
-
 returns : tie.Need-returns
 unfolding onPeriod
-returns c = simp (c .before .is-timed .ensures, c .before .before .has-moved .ensures)
+returns c = simp (c .before .is-timed .ensures, c .before .before .moved .ensures)
 
 pub on-period-spec : {M : Type 1} → statement M
-on-period-spec = tie.close (tie.spec has-moved-requires is-timed-requires returns)
+on-period-spec = tie.close (tie.spec (λ c κs. search needs) (λ c κs. search needs) returns)

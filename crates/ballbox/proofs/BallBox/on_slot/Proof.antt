@@ -1,5 +1,5 @@
 -- `on_slot`: latching, and then sending.
-use Rattle.ballbox.proofs.Good.{good-buttons, good-length, latching-length}
+use Rattle.ballbox.proofs.Parts.{good-buttons, good-length, latching-length}
 use Rattle.ballbox.proofs.BallBox.on_slot.Statement.{statement}
 use Rattle.ballbox.proofs.BallBox.on_slot.Tie as tie
 

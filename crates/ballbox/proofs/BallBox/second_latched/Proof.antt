@@ -27,28 +27,10 @@ reported c =
     let y : toZ w16 (ofZ w16 (t .result .y)) ≡ t .result .y = search needs in
     same-report refl refl refl (x ∙ ap (λ (p : Pair). p .x) (t .ensures)) (y ∙ ap (λ (p : Pair). p .y) (t .ensures))
 
-taken-requires : tie.Need-taken-requires
-taken-requires c κs = search needs
-
 encoded-requires : tie.Need-encoded-requires
 encoded-requires c κs =
     let s = c .before .before .before in
     ap (acceptedBy (letterOf FiveByte)) (reported c) ∙ rw (s .pre) (second-accepted (s .args .self .track))
-
-array-read-going : tie.Need-array-read-going
-array-read-going c = search needs
-
-element-write-going : tie.Need-element-write-going
-element-write-going c = search needs
-
-array-read-going-2 : tie.Need-array-read-going-2
-array-read-going-2 c = search needs
-
-element-write-going-2 : tie.Need-element-write-going-2
-element-write-going-2 c = search needs
-
-cleared-requires : tie.Need-cleared-requires
-cleared-requires c κs = search needs
 
 returns : tie.Need-returns
 unfolding secondLatched withSecond bytesBy namedBy bytesU
@@ -60,11 +42,11 @@ pub second-latched-spec : {M : Type 1} → statement M
 second-latched-spec =
     tie.close
     (tie.spec
-    taken-requires
+    (λ c κs. search needs)
     encoded-requires
-    array-read-going
-    element-write-going
-    array-read-going-2
-    element-write-going-2
-    cleared-requires
+    (λ c. search needs)
+    (λ c. search needs)
+    (λ c. search needs)
+    (λ c. search needs)
+    (λ c κs. search needs)
     returns)

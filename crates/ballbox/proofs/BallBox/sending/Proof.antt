@@ -3,25 +3,16 @@ use borrow.Author.Needs.{needs}
 use borrow.Author.Tests.{ltb-true}
 use mathlib.Core.Path.{sym, _∙_}
 use native.Mathlib.Omega.{arith}
-use Rattle.ballbox.proofs.Good.{ready-sent}
+use Rattle.ballbox.proofs.Parts.{ready-sent}
 use Rattle.ballbox.specs.Events.{sending}
 use Rattle.ballbox.proofs.BallBox.sending.Statement.{statement}
 use Rattle.ballbox.proofs.BallBox.sending.Tie as tie
-
-bytes-left-requires : tie.Need-bytes-left-requires
-bytes-left-requires c κs = search needs
-
-with-byte-ready-requires : tie.Need-with-byte-ready-requires
-with-byte-ready-requires c κs = search needs
 
 next-byte-requires : tie.Need-next-byte-requires
 next-byte-requires c κs =
     let b = c .before .before .before .args .self in
     let l = ltb-true (b .going .sent) (b .going .length) (sym (c .before .before .bytes-left .ensures) ∙ c .before .if1 .taken) in
     rw (c .with-byte-ready .ensures, ready-sent b) (omega (arith, c .before .before .before .pre))
-
-gives-requires : tie.Need-gives-requires
-gives-requires c κs = search needs
 
 returns : tie.Need-returns
 unfolding sending
@@ -35,9 +26,9 @@ pub sending-spec : {M : Type 1} → statement M
 sending-spec =
     tie.close
     (tie.spec
-    bytes-left-requires
-    with-byte-ready-requires
+    (λ c κs. search needs)
+    (λ c κs. search needs)
     next-byte-requires
-    gives-requires
+    (λ c κs. search needs)
     returns
     returns-2)

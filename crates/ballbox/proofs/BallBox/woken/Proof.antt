@@ -5,12 +5,9 @@ use Rattle.ballbox.specs.Events.{woken}
 use Rattle.ballbox.proofs.BallBox.woken.Statement.{statement}
 use Rattle.ballbox.proofs.BallBox.woken.Tie as tie
 
-replying-requires : tie.Need-replying-requires
-replying-requires c κs = search needs
-
 returns : tie.Need-returns
 unfolding woken goingFrom
 returns c = c .replying .ensures
 
 pub woken-spec : {M : Type 1} → statement M
-woken-spec = tie.close (tie.spec replying-requires returns)
+woken-spec = tie.close (tie.spec (λ c κs. search needs) returns)

@@ -5,21 +5,6 @@ use Rattle.ballbox.specs.Promises.{aboveSeven}
 use Rattle.ballbox.proofs.Event.above_seven.Statement.{statement}
 use Rattle.ballbox.proofs.Event.above_seven.Tie as tie
 
-enum-told : tie.Need-enum-told
-enum-told c = search needs
-
-enum-known-self : tie.Need-enum-known-self
-enum-known-self c = search needs
-
-enum-told-2 : tie.Need-enum-told-2
-enum-told-2 c = search needs
-
-enum-told-3 : tie.Need-enum-told-3
-enum-told-3 c = search needs
-
-enum-told-4 : tie.Need-enum-told-4
-enum-told-4 c = search needs
-
 returns : tie.Need-returns
 returns c = ap aboveSeven (sym (c .enum-told .given .1))
 
@@ -39,11 +24,11 @@ pub above-seven-spec : {M : Type 1} → statement M
 above-seven-spec =
     tie.close
     (tie.spec
-    enum-told
-    enum-known-self
-    enum-told-2
-    enum-told-3
-    enum-told-4
+    (λ c. search needs)
+    (λ c. search needs)
+    (λ c. search needs)
+    (λ c. search needs)
+    (λ c. search needs)
     returns
     returns-2
     returns-3

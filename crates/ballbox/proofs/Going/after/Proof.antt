@@ -5,15 +5,6 @@ use Rattle.ballbox.specs.Events.{after}
 use Rattle.ballbox.proofs.Going.after.Statement.{statement}
 use Rattle.ballbox.proofs.Going.after.Tie as tie
 
-add-if1 : tie.Need-add-if1
-add-if1 c = search needs
-
-add-self : tie.Need-add-self
-add-self c = search needs
-
-nothing-requires : tie.Need-nothing-requires
-nothing-requires c κs = search needs
-
 returns : tie.Need-returns
 unfolding after
 returns c = simp (lt-ltb _ _ (c .before .if1 .taken))
@@ -23,4 +14,4 @@ unfolding after
 returns-2 c = simp (le-ltb _ _ (c .before .if1 .left), c .nothing .ensures)
 
 pub after-spec : {M : Type 1} → statement M
-after-spec = tie.close (tie.spec add-if1 add-self nothing-requires returns returns-2)
+after-spec = tie.close (tie.spec (λ c. search needs) (λ c. search needs) (λ c κs. search needs) returns returns-2)

@@ -11,12 +11,6 @@ use Rattle.ballbox.proofs.Pair.counted.Tie as tie
 in-range : (c : tie.Start) → SFits w16 (c .args .self .x) × SFits w16 (c .args .self .y)
 in-range c = search needs
 
-held-sum-requires : tie.Need-held-sum-requires
-held-sum-requires c κs = search needs
-
-held-sum-requires-2 : tie.Need-held-sum-requires-2
-held-sum-requires-2 c κs = search needs
-
 returns : tie.Need-returns
 unfolding counted
 returns c =
@@ -28,4 +22,4 @@ returns c =
     )
 
 pub counted-spec : {M : Type 1} → statement M
-counted-spec = tie.close (tie.spec held-sum-requires held-sum-requires-2 returns)
+counted-spec = tie.close (tie.spec (λ c κs. search needs) (λ c κs. search needs) returns)

@@ -10,12 +10,6 @@ use Rattle.ballbox.proofs.Pair.placed.Tie as tie
 in-range : (c : tie.Start) → SFits w16 (c .args .self .x) × SFits w16 (c .args .self .y)
 in-range c = search needs
 
-placed-at-requires : tie.Need-placed-at-requires
-placed-at-requires c κs = search needs
-
-placed-at-requires-2 : tie.Need-placed-at-requires-2
-placed-at-requires-2 c κs = search needs
-
 returns : tie.Need-returns
 unfolding placed
 returns c =
@@ -27,4 +21,4 @@ returns c =
     )
 
 pub placed-spec : {M : Type 1} → statement M
-placed-spec = tie.close (tie.spec placed-at-requires placed-at-requires-2 returns)
+placed-spec = tie.close (tie.spec (λ c κs. search needs) (λ c κs. search needs) returns)

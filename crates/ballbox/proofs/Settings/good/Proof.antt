@@ -4,15 +4,9 @@ use Rattle.ballbox.specs.Good.{goodSettings}
 use Rattle.ballbox.proofs.Settings.good.Statement.{statement}
 use Rattle.ballbox.proofs.Settings.good.Tie as tie
 
-is-format-requires : tie.Need-is-format-requires
-is-format-requires c κs = search needs
-
-is-stream-requires : tie.Need-is-stream-requires
-is-stream-requires c κs = search needs
-
 returns : tie.Need-returns
 unfolding goodSettings
 returns c = simp (c .before .before .is-stream .ensures, c .before .before .before .is-format .ensures)
 
 pub good-spec : {M : Type 1} → statement M
-good-spec = tie.close (tie.spec is-format-requires is-stream-requires returns)
+good-spec = tie.close (tie.spec (λ c κs. search needs) (λ c κs. search needs) returns)

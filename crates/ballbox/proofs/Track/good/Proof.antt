@@ -4,15 +4,9 @@ use Rattle.ballbox.specs.Good.{goodTrack}
 use Rattle.ballbox.proofs.Track.good.Statement.{statement}
 use Rattle.ballbox.proofs.Track.good.Tie as tie
 
-on-pad-requires : tie.Need-on-pad-requires
-on-pad-requires c κs = search needs
-
-on-pad-requires-2 : tie.Need-on-pad-requires-2
-on-pad-requires-2 c κs = search needs
-
 returns : tie.Need-returns
 unfolding goodTrack
 returns c = simp (c .before .on-pad .ensures, c .on-pad2 .ensures)
 
 pub good-spec : {M : Type 1} → statement M
-good-spec = tie.close (tie.spec on-pad-requires on-pad-requires-2 returns)
+good-spec = tie.close (tie.spec (λ c κs. search needs) (λ c κs. search needs) returns)

@@ -5,12 +5,6 @@ use Rattle.ballbox.specs.Motion.{hasMoved}
 use Rattle.ballbox.proofs.Track.has_moved.Statement.{statement}
 use Rattle.ballbox.proofs.Track.has_moved.Tie as tie
 
-apart-requires : tie.Need-apart-requires
-apart-requires c κs = search needs
-
-apart-requires-2 : tie.Need-apart-requires-2
-apart-requires-2 c κs = search needs
-
 returns : tie.Need-returns
 unfolding hasMoved
 returns c = simp (eq-eqb _ _ (c .before .if1 .taken)) (c .apart .ensures)
@@ -20,4 +14,4 @@ unfolding hasMoved
 returns-2 c = simp (ne-eqb _ _ (c .before .if1 .left)) (c .apart2 .ensures)
 
 pub has-moved-spec : {M : Type 1} → statement M
-has-moved-spec = tie.close (tie.spec apart-requires apart-requires-2 returns returns-2)
+has-moved-spec = tie.close (tie.spec (λ c κs. search needs) (λ c κs. search needs) returns returns-2)

@@ -6,12 +6,6 @@ use Rattle.numbers.proofs.Machine.{passed}
 use Rattle.ballbox.proofs.Track.moved_by.Statement.{statement}
 use Rattle.ballbox.proofs.Track.moved_by.Tie as tie
 
-counted-requires : tie.Need-counted-requires
-counted-requires c κs = search needs
-
-placed-requires : tie.Need-placed-requires
-placed-requires c κs = search needs
-
 returns : tie.Need-returns
 unfolding movedBy
 returns c =
@@ -22,4 +16,4 @@ returns c =
     )
 
 pub moved-by-spec : {M : Type 1} → statement M
-moved-by-spec = tie.close (tie.spec counted-requires placed-requires returns)
+moved-by-spec = tie.close (tie.spec (λ c κs. search needs) (λ c κs. search needs) returns)

@@ -9,15 +9,6 @@ use Rattle.numbers.proofs.Machine.{kept}
 use Rattle.ballbox.proofs.Track.taken.Statement.{statement}
 use Rattle.ballbox.proofs.Track.taken.Tie as tie
 
-movement-requires : tie.Need-movement-requires
-movement-requires c κs = search needs
-
-limited-requires : tie.Need-limited-requires
-limited-requires c κs = search needs
-
-limited-requires-2 : tie.Need-limited-requires-2
-limited-requires-2 c κs = search needs
-
 returns : tie.Need-returns
 unfolding taken
 returns c =
@@ -31,4 +22,4 @@ returns c =
     simp (kept w16 (c .limited2 .ok) ey, kept w16 (c .before .before .limited .ok) ex)
 
 pub taken-spec : {M : Type 1} → statement M
-taken-spec = tie.close (tie.spec movement-requires limited-requires limited-requires-2 returns)
+taken-spec = tie.close (tie.spec (λ c κs. search needs) (λ c κs. search needs) (λ c κs. search needs) returns)

@@ -3,11 +3,8 @@ use borrow.Author.Needs.{needs}
 use Rattle.ballbox.proofs.commands.is_stream.Statement.{statement}
 use Rattle.ballbox.proofs.commands.is_stream.Tie as tie
 
-is-timed-requires : tie.Need-is-timed-requires
-is-timed-requires c κs = search needs
-
 returns : tie.Need-returns
 returns c = simp (c .is-timed .ensures)
 
 pub is-stream-spec : {M : Type 1} → statement M
-is-stream-spec = tie.close (tie.spec is-timed-requires returns)
+is-stream-spec = tie.close (tie.spec (λ c κs. search needs) returns)

@@ -6,14 +6,8 @@ use Rattle.wire.specs.Encoder.{Encoding}
 use Rattle.ballbox.proofs.latching.encoded.Statement.{statement}
 use Rattle.ballbox.proofs.latching.encoded.Tie as tie
 
-slice-aggregate-encode : tie.Need-slice-aggregate-encode
-slice-aggregate-encode c = search needs
-
-encode-requires : tie.Need-encode-requires
-encode-requires c κs = search needs
-
 returns : tie.Need-returns
 returns c = ap (λ (e : Encoding). e .buffer) (c .before .encode .ensures) ∙ encoded-bytes _ _ (c .before .before .before .pre)
 
 pub encoded-spec : {M : Type 1} → statement M
-encoded-spec = tie.close (tie.spec slice-aggregate-encode encode-requires returns)
+encoded-spec = tie.close (tie.spec (λ c. search needs) (λ c κs. search needs) returns)

@@ -22,12 +22,6 @@ between c =
     between-fits (c .before .before .fits .lo) (c .before .before .fits .hi) (sym (low-test (c .before .before)) ∙ c .before .if1 .left)
     (sym (high-test (c .before .before)) ∙ c .if2 .left)
 
-cast-low : tie.Need-cast-low
-cast-low c = search (needs, sfits-widen)
-
-cast-high : tie.Need-cast-high
-cast-high c = search (needs, sfits-widen)
-
 returns : tie.Need-returns
 unfolding held
 returns c = simp (sym (low-test (c .before)) ∙ c .if1 .taken, toZ-ofZ (c .before .fits .lo))
@@ -48,4 +42,4 @@ returns-3 c =
     (sym (low-test (c .before .before)) ∙ c .before .if1 .left, sym (high-test (c .before .before)) ∙ c .if2 .left, toZ-ofZ (c .before .before .fits .x), toZ-ofZ (between c))
 
 pub held-spec : {M : Type 1} → statement M
-held-spec = tie.close (tie.spec cast-low cast-high returns returns-2 cast-result returns-3)
+held-spec = tie.close (tie.spec (λ c. search (needs, sfits-widen)) (λ c. search (needs, sfits-widen)) returns returns-2 cast-result returns-3)

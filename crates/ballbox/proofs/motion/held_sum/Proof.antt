@@ -8,12 +8,6 @@ use Rattle.numbers.specs.Signed.{held, heldSum}
 use Rattle.ballbox.proofs.motion.held_sum.Statement.{statement}
 use Rattle.ballbox.proofs.motion.held_sum.Tie as tie
 
-total-requires : tie.Need-total-requires
-total-requires c κs = search needs
-
-held-requires : tie.Need-held-requires
-held-requires c κs = search needs
-
 returns : tie.Need-returns
 unfolding heldSum
 returns c =
@@ -22,4 +16,4 @@ returns c =
     kept w16 (c .held .ok) (c .held .ensures ∙ ap (held _ _) (kept w32 (c .before .total .ok) e))
 
 pub held-sum-spec : {M : Type 1} → statement M
-held-sum-spec = tie.close (tie.spec total-requires held-requires returns)
+held-sum-spec = tie.close (tie.spec (λ c κs. search needs) (λ c κs. search needs) returns)

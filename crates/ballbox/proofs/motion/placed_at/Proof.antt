@@ -9,12 +9,6 @@ use Rattle.numbers.specs.Signed.{held}
 use Rattle.ballbox.proofs.motion.placed_at.Statement.{statement}
 use Rattle.ballbox.proofs.motion.placed_at.Tie as tie
 
-total-requires : tie.Need-total-requires
-total-requires c κs = search needs
-
-held-requires : tie.Need-held-requires
-held-requires c κs = search needs
-
 returns : tie.Need-returns
 unfolding placedAt
 returns c =
@@ -23,4 +17,4 @@ returns c =
     kept w16 (c .held .ok) (c .held .ensures ∙ ap (held _ _) (kept w32 (c .before .total .ok) e))
 
 pub placed-at-spec : {M : Type 1} → statement M
-placed-at-spec = tie.close (tie.spec total-requires held-requires returns)
+placed-at-spec = tie.close (tie.spec (λ c κs. search needs) (λ c κs. search needs) returns)

@@ -1,7 +1,7 @@
 -- A newline, a byte more, or a sixth byte.
 use borrow.Author.Needs.{needs}
 use borrow.Author.Tests.{eq-eqb, ne-eqb, lt-ltb, le-ltb}
-use Rattle.listing.specs.Machine.{byteOf}
+use Rattle.listing.specs.Machine.{fedByte}
 use Rattle.listing.proofs.Lister.byte.Statement.{statement}
 use Rattle.listing.proofs.Lister.byte.Tie as tie
 
@@ -12,7 +12,7 @@ line-requires : tie.Need-line-requires
 line-requires c κs = search needs
 
 returns : tie.Need-returns
-unfolding byteOf
+unfolding fedByte
 returns c = rw (eq-eqb _ _ (c .before .before .if1 .taken)) (rw (c .before .says .ensures) at (c .line .ensures))
 
 array-write-held : tie.Need-array-write-held
@@ -25,14 +25,14 @@ front-requires : tie.Need-front-requires
 front-requires c κs = search needs
 
 returns-2 : tie.Need-returns-2
-unfolding byteOf
+unfolding fedByte
 returns-2 c = rw (ne-eqb _ _ (c .before .before .before .before .if1 .left), lt-ltb _ _ (c .before .before .before .if2 .taken), c .front .ensures)
 
 line-requires-2 : tie.Need-line-requires-2
 line-requires-2 c κs = search needs
 
 returns-3 : tie.Need-returns-3
-unfolding byteOf
+unfolding fedByte
 returns-3 c = rw (ne-eqb _ _ (c .before .before .if1 .left), le-ltb _ _ (c .before .if2 .left)) (c .line2 .ensures)
 
 pub byte-spec : {M : Type 1} → statement M

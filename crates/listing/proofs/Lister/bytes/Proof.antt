@@ -6,7 +6,7 @@ use Prim.Native.Nat.{_+_, _-_, _<_, _≤_}
 use native.Mathlib.Omega.{arith}
 use lib.ListN.{length, drop, getD}
 use Rattle.text.specs.Growth.{textOf, fitsAt}
-use Rattle.listing.specs.Machine.{byteOf, feedIn}
+use Rattle.listing.specs.Machine.{fedByte, feedIn}
 use Rattle.listing.specs.Promises.{whole}
 use Rattle.listing.specs.declared.Turn.{Turn}
 use Rattle.listing.specs.declared.Listed.{Listed}
@@ -43,10 +43,10 @@ answer-requires : tie.Need-answer-requires Inv-loop μ-loop
 answer-requires c κs = tt
 
 -- the text and the lister that a byte gave, and the room that its text had
-text-is : (c : tie.After-byte Inv-loop μ-loop) → c .byte .result .text ≡ textOf (byteOf (c .before .before .before .loop .m) (getD (c .before .before .before .before .before .before .args .input .now) (c .before .before .before .loop .at) 0) .text)
+text-is : (c : tie.After-byte Inv-loop μ-loop) → c .byte .result .text ≡ textOf (fedByte (c .before .before .before .loop .m) (getD (c .before .before .before .before .before .before .args .input .now) (c .before .before .before .loop .at) 0) .text)
 text-is c = ap (λ (t : Turn). t .text) (c .byte .ensures)
 
-next-is : (c : tie.After-byte Inv-loop μ-loop) → c .byte .result .next ≡ byteOf (c .before .before .before .loop .m) (getD (c .before .before .before .before .before .before .args .input .now) (c .before .before .before .loop .at) 0) .next
+next-is : (c : tie.After-byte Inv-loop μ-loop) → c .byte .result .next ≡ fedByte (c .before .before .before .loop .m) (getD (c .before .before .before .before .before .before .args .input .now) (c .before .before .before .loop .at) 0) .next
 next-is c = ap (λ (t : Turn). t .next) (c .byte .ensures)
 
 yes-is : (c : tie.After-next Inv-loop μ-loop) → fitsAt (c .before .before .before .before .before .before .before .byte .result .text) (c .before .before .before .before .before .before .before .before .before .before .loop .used) (c .before .before .before .before .before .before .before .before .before .before .loop .out) ≡ true
@@ -66,7 +66,7 @@ returns c = let l = c .before .before .before .before .before .before .before .b
     let a = c .before .before .before .before .before .before .before .before .before .before .before .before .before .args in
     let p = c .before .before .before .before .put in
     let t = c .before .before .before .before .before .before .before .byte .result .text in
-    let x = byteOf (l .m) (getD (a .input .now) (l .at) 0) in
+    let x = fedByte (l .m) (getD (a .input .now) (l .at) 0) in
     let few = few-byte (l .m) (getD (a .input .now) (l .at) 0) in
     let no = sym (p .ensures .0) ∙ not-true _ (c .before .if1 .taken) in
     let is = text-is (c .before .before .before .before .before .before .before) in
@@ -92,7 +92,7 @@ loop-again c = let l = c .before .before .before .before .before .before .before
     let p = c .before .before .before .before .put in
     let y = c .before .before .before .before .before .before .before .byte in
     let t = y .result .text in
-    let x = byteOf (l .m) (getD (a .input .now) (l .at) 0) in
+    let x = fedByte (l .m) (getD (a .input .now) (l .at) 0) in
     let few = few-byte (l .m) (getD (a .input .now) (l .at) 0) in
     let is = text-is (c .before .before .before .before .before .before .before) in
     let fits = room-is c in

@@ -1,6 +1,6 @@
 -- The line taken behind the front.
 use borrow.Author.Needs.{needs}
-use Rattle.listing.proofs.Grown.{apart}
+use Rattle.listing.proofs.Grown.{grown-append}
 use Rattle.listing.proofs.Lister.line.Statement.{statement}
 use Rattle.listing.proofs.Lister.line.Tie as tie
 
@@ -14,7 +14,7 @@ at-line-requires : tie.Need-at-line-requires
 at-line-requires c κs = search needs
 
 returns : tie.Need-returns
-returns c = simp (apart, c .at-line .ensures, c .before .taken .ensures, c .before .before .front .ensures)
+returns c = simp (grown-append, c .at-line .ensures, c .before .taken .ensures, c .before .before .front .ensures)
 
 pub line-spec : {M : Type 1} → statement M
 line-spec = tie.close (tie.spec front-requires taken-requires at-line-requires returns)

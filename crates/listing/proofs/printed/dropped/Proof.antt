@@ -1,7 +1,7 @@
 -- The line of the bytes dropped, part by part.
 use borrow.Author.Needs.{needs}
 use Rattle.listing.specs.Bytes.{lineD}
-use Rattle.listing.proofs.Grown.{apart}
+use Rattle.listing.proofs.Grown.{grown-append}
 use Rattle.listing.proofs.printed.dropped.Statement.{statement}
 use Rattle.listing.proofs.printed.dropped.Tie as tie
 
@@ -25,7 +25,7 @@ with-requires-4 c κs = search needs
 
 returns : tie.Need-returns
 unfolding lineD
-returns c = simp (apart, c .with4 .ensures, c .before .number .ensures, c .before .before .with3 .ensures, c .before .before .before .digits .ensures, c .before .before .before .before .with2 .ensures, c .before .before .before .before .before .with .ensures)
+returns c = simp (grown-append, c .with4 .ensures, c .before .number .ensures, c .before .before .with3 .ensures, c .before .before .before .digits .ensures, c .before .before .before .before .with2 .ensures, c .before .before .before .before .before .with .ensures)
 
 pub dropped-spec : {M : Type 1} → statement M
 dropped-spec =

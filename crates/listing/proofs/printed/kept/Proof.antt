@@ -1,7 +1,7 @@
 -- The line of the bytes kept, part by part.
 use borrow.Author.Needs.{needs}
 use Rattle.listing.specs.Bytes.{lineH}
-use Rattle.listing.proofs.Grown.{apart}
+use Rattle.listing.proofs.Grown.{grown-append}
 use Rattle.listing.proofs.printed.kept.Statement.{statement}
 use Rattle.listing.proofs.printed.kept.Tie as tie
 
@@ -19,7 +19,7 @@ with-requires-3 c κs = search needs
 
 returns : tie.Need-returns
 unfolding lineH
-returns c = simp (apart, c .with3 .ensures, c .before .number .ensures, c .before .before .with2 .ensures, c .before .before .before .with .ensures)
+returns c = simp (grown-append, c .with3 .ensures, c .before .number .ensures, c .before .before .with2 .ensures, c .before .before .before .with .ensures)
 
 pub kept-spec : {M : Type 1} → statement M
 kept-spec =

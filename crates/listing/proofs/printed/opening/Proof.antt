@@ -1,6 +1,6 @@
 -- The line that is always printed first, part by part.
 use borrow.Author.Needs.{needs}
-use Rattle.listing.proofs.Grown.{apart}
+use Rattle.listing.proofs.Grown.{grown-append}
 use Rattle.listing.proofs.printed.opening.Statement.{statement}
 use Rattle.listing.proofs.printed.opening.Tie as tie
 
@@ -23,7 +23,7 @@ with-requires-3 : tie.Need-with-requires-3
 with-requires-3 c κs = search needs
 
 returns : tie.Need-returns
-returns c = simp (apart, c .with3 .ensures, c .before .number .ensures, c .before .before .with2 .ensures, c .before .before .before .with .ensures, c .before .before .before .before .none .ensures)
+returns c = simp (grown-append, c .with3 .ensures, c .before .number .ensures, c .before .before .with2 .ensures, c .before .before .before .with .ensures, c .before .before .before .before .none .ensures)
 
 pub opening-spec : {M : Type 1} → statement M
 opening-spec =

@@ -4,7 +4,7 @@ use mathlib.Core.Path.{_≡_}
 use mir.Syntax.{w16}
 use mir.Val.{toZ, ofZ}
 use Rattle.listing.specs.Bytes.{lineR}
-use Rattle.listing.proofs.Grown.{apart}
+use Rattle.listing.proofs.Grown.{grown-append}
 use Rattle.listing.proofs.printed.report.Statement.{statement}
 use Rattle.listing.proofs.printed.report.Tie as tie
 
@@ -53,7 +53,7 @@ with-requires-6 c κs = search needs
 returns : tie.Need-returns
 unfolding lineR
 returns c = let s = c .before .before .before .before .before .before .before .before .before .before .before .before .before .before in
-    simp (apart, x1-is s, x2-is s, y1-is s, y2-is s, c .with6 .ensures, c .before .sum2 .ensures, c .before .before .with5 .ensures, c .before .before .before .sum .ensures, c .before .before .before .before .with4 .ensures, c .before .before .before .before .before .buttons .ensures, c .before .before .before .before .before .before .with3 .ensures, c .before .before .before .before .before .before .before .digits .ensures, c .before .before .before .before .before .before .before .before .with2 .ensures, c .before .before .before .before .before .before .before .before .before .with .ensures)
+    simp (grown-append, x1-is s, x2-is s, y1-is s, y2-is s, c .with6 .ensures, c .before .sum2 .ensures, c .before .before .with5 .ensures, c .before .before .before .sum .ensures, c .before .before .before .before .with4 .ensures, c .before .before .before .before .before .buttons .ensures, c .before .before .before .before .before .before .with3 .ensures, c .before .before .before .before .before .before .before .digits .ensures, c .before .before .before .before .before .before .before .before .with2 .ensures, c .before .before .before .before .before .before .before .before .before .with .ensures)
 
 pub report-spec : {M : Type 1} → statement M
 report-spec =

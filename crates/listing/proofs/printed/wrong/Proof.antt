@@ -1,7 +1,7 @@
 -- The line of a bad line, part by part.
 use borrow.Author.Needs.{needs}
 use Rattle.listing.specs.Bytes.{lineE}
-use Rattle.listing.proofs.Grown.{apart}
+use Rattle.listing.proofs.Grown.{grown-append}
 use Rattle.listing.proofs.printed.wrong.Statement.{statement}
 use Rattle.listing.proofs.printed.wrong.Tie as tie
 
@@ -19,7 +19,7 @@ with-requires-3 c κs = search needs
 
 returns : tie.Need-returns
 unfolding lineE
-returns c = simp (apart, c .with3 .ensures, c .before .digits .ensures, c .before .before .with2 .ensures, c .before .before .before .with .ensures)
+returns c = simp (grown-append, c .with3 .ensures, c .before .digits .ensures, c .before .before .with2 .ensures, c .before .before .before .with .ensures)
 
 pub wrong-spec : {M : Type 1} → statement M
 wrong-spec =

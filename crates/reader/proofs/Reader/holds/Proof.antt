@@ -5,6 +5,9 @@ use Rattle.reader.specs.Good.{placed}
 use Rattle.reader.proofs.Reader.holds.Statement.{statement}
 use Rattle.reader.proofs.Reader.holds.Tie as tie
 
+element-copy-out-byte : tie.Need-element-copy-out-byte
+element-copy-out-byte c = search needs
+
 fits-requires : tie.Need-fits-requires
 fits-requires c κs = search needs
 
@@ -17,4 +20,4 @@ unfolding placed
 returns-2 c = simp (le-ltb _ _ (c .if1 .left))
 
 pub holds-spec : {M : Type 1} → statement M
-holds-spec = tie.close (tie.spec fits-requires returns returns-2)
+holds-spec = tie.close (tie.spec element-copy-out-byte fits-requires returns returns-2)

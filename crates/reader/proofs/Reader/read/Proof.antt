@@ -3,15 +3,9 @@ use borrow.Author.Needs.{needs}
 use mathlib.Core.Path.{sym, _∙_}
 use borrow.Author.Tests.{not-true, not-false}
 use Rattle.reader.specs.Promises.{readOf}
-use Rattle.reader.proofs.Good.{below-size}
+use Rattle.reader.proofs.Parts.{below-size}
 use Rattle.reader.proofs.Reader.read.Statement.{statement}
 use Rattle.reader.proofs.Reader.read.Tie as tie
-
-size-requires : tie.Need-size-requires
-size-requires c κs = search needs
-
-marked-requires : tie.Need-marked-requires
-marked-requires c κs = search needs
 
 good-requires : tie.Need-good-requires
 good-requires c κs = search needs
@@ -21,10 +15,8 @@ unfolding readOf
 returns c = simp (sym (c .before .good2 .ensures) ∙ not-true _ (c .if1 .taken))
 
 line-requires : tie.Need-line-requires
-line-requires c κs = let b = c .before .before in
-    let s = b .before .before .before .before in
-    let g = sym (b .good2 .ensures) ∙ not-false _ (c .before .if1 .left) in
-    (rw (b .before .before .size .ensures) (below-size (s .args .self) g), b .before .before .size .ensures, b .before .marked .ensures)
+line-requires c κs = let b = c .before in
+    below-size (b .before .before .before .args .self) (sym (b .before .good2 .ensures) ∙ not-false _ (b .if1 .left))
 
 same-length : tie.Need-same-length
 same-length c = search needs
@@ -35,13 +27,4 @@ returns-2 c = let b = c .before .before .before in
     simp (sym (b .before .good2 .ensures) ∙ not-false _ (b .if1 .left)) (c .before .line .ensures)
 
 pub read-spec : {M : Type 1} → statement M
-read-spec =
-    tie.close
-    (tie.spec
-    size-requires
-    marked-requires
-    good-requires
-    returns
-    line-requires
-    same-length
-    returns-2)
+read-spec = tie.close (tie.spec good-requires returns line-requires same-length returns-2)

@@ -3,15 +3,9 @@ use borrow.Author.Needs.{needs}
 use mathlib.Core.Path.{ap, sym, _∙_}
 use borrow.Author.Tests.{not-true, not-false}
 use Rattle.reader.specs.Promises.{outcome, stepOf}
-use Rattle.reader.proofs.Good.{below-size}
+use Rattle.reader.proofs.Parts.{below-size}
 use Rattle.reader.proofs.Reader.step.Statement.{statement}
 use Rattle.reader.proofs.Reader.step.Tie as tie
-
-size-requires : tie.Need-size-requires
-size-requires c κs = search needs
-
-marked-requires : tie.Need-marked-requires
-marked-requires c κs = search needs
 
 good-requires : tie.Need-good-requires
 good-requires c κs = search needs
@@ -24,22 +18,11 @@ unfolding stepOf
 returns c = simp (sym (c .before .before .good2 .ensures) ∙ not-true _ (c .before .if1 .taken)) (ap outcome (c .refusing .ensures))
 
 word-requires : tie.Need-word-requires
-word-requires c κs = let s = c .before .before .before .before in
-    let g = sym (c .before .good2 .ensures) ∙ not-false _ (c .if1 .left) in
-    (rw (c .before .before .before .size .ensures) (below-size (s .args .self) g), c .before .before .before .size .ensures, c .before .before .marked .ensures)
+word-requires c κs = below-size (c .before .before .args .self) (sym (c .before .good2 .ensures) ∙ not-false _ (c .if1 .left))
 
 returns-2 : tie.Need-returns-2
 unfolding stepOf
 returns-2 c = simp (sym (c .before .before .good2 .ensures) ∙ not-false _ (c .before .if1 .left)) (ap outcome (c .word .ensures))
 
 pub step-spec : {M : Type 1} → statement M
-step-spec =
-    tie.close
-    (tie.spec
-    size-requires
-    marked-requires
-    good-requires
-    refusing-requires
-    returns
-    word-requires
-    returns-2)
+step-spec = tie.close (tie.spec good-requires refusing-requires returns word-requires returns-2)

@@ -1,7 +1,7 @@
 -- `digit_of`: the two ranges of digits.
 use borrow.Author.Needs.{needs}
 use borrow.Author.Tests.{lt-ltb, le-ltb}
-use Rattle.wire.specs.Table.{digit}
+use Rattle.wire.specs.Digits.{digit}
 use Rattle.wire.proofs.digits.digit_of.Statement.{statement}
 use Rattle.wire.proofs.digits.digit_of.Tie as tie
 

@@ -4,7 +4,7 @@ use borrow.Author.Needs.{needs}
 use borrow.Author.Tests.{le-leb, lt-leb}
 use mathlib.Core.Path.{_≡_}
 use native.Mathlib.Omega.{arith}
-use Rattle.wire.specs.Reading.{undigit}
+use Rattle.wire.specs.Digits.{undigit}
 use Rattle.wire.proofs.digits.number_of.Statement.{statement}
 use Rattle.wire.proofs.digits.number_of.Tie as tie
 

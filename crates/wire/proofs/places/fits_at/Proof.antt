@@ -1,7 +1,7 @@
 -- `fits_at`: the first place or a later one.
 use borrow.Author.Needs.{needs}
 use borrow.Author.Tests.{eq-eqb, ne-eqb}
-use Rattle.wire.specs.Fits.{fitsAt}
+use Rattle.wire.specs.Places.{fitsAt}
 use Rattle.wire.proofs.places.fits_at.Statement.{statement}
 use Rattle.wire.proofs.places.fits_at.Tie as tie
 

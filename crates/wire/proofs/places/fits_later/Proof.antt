@@ -3,7 +3,7 @@ use Prim.Native.Nat.{ℕ, _<_}
 use borrow.Author.Needs.{needs}
 use mathlib.Core.Path.{_≡_, _∙_, ap, sym}
 use Rattle.wire.proofs.FixedBits.{laterTest, later-tested}
-use Rattle.wire.specs.Fits.{fitsLater}
+use Rattle.wire.specs.Places.{fitsLater}
 use Rattle.wire.specs.declared.Format.the-variants.{Mm, Microsoft, Absolute, Relative, FiveByte, ThreeByte, Hexadecimal}
 use Rattle.wire.specs.declared.Format.{Format}
 use Rattle.wire.proofs.places.fits_later.Statement.{statement}

@@ -17,31 +17,31 @@ use Rattle.wire.specs.Reading.{readV}
 use Rattle.wire.proofs.reading.read_microsoft.Statement.{statement}
 use Rattle.wire.proofs.reading.read_microsoft.Tie as tie
 
-wire-y : (c : tie.After-byte2) → c .byte2 .result ≡ untwos 128 (number (bits 2 2 (c .before .before .args .b1) ++ bits 6 0 (c .before .before .args .b3)))
-wire-y c = c .byte2 .ensures ∙ ap (untwos 128) (byte-Y (c .before .before .args .b1) (c .before .before .args .b3))
+wire-y : (c : tie.After-unwrapped-byte2) → c .unwrapped-byte2 .result ≡ untwos 128 (number (bits 2 2 (c .before .before .args .b1) ++ bits 6 0 (c .before .before .args .b3)))
+wire-y c = c .unwrapped-byte2 .ensures ∙ ap (untwos 128) (byte-Y (c .before .before .args .b1) (c .before .before .args .b3))
 
-near : (c : tie.After-byte2) → mag (c .byte2 .result) < 128
+near : (c : tie.After-unwrapped-byte2) → mag (c .unwrapped-byte2 .result) < 128
 near c =
     rw (wire-y c)
     (untwos-near 128 (number (bits 2 2 (c .before .before .args .b1) ++ bits 6 0 (c .before .before .args .b3))) (omega (arith, byte-Y (c .before .before .args .b1) (c .before .before .args .b3))))
 
 -- minus the wire's y, as the machine has it
-north : (c : tie.After-byte2) → toZ w16 (ofZ w16 (pos 0 -ℤ toZ w16 (ofZ w16 (c .byte2 .result)))) ≡ negℤ (untwos 128 (number (bits 2 2 (c .before .before .args .b1) ++ bits 6 0 (c .before .before .args .b3))))
+north : (c : tie.After-unwrapped-byte2) → toZ w16 (ofZ w16 (pos 0 -ℤ toZ w16 (ofZ w16 (c .unwrapped-byte2 .result)))) ≡ negℤ (untwos 128 (number (bits 2 2 (c .before .before .args .b1) ++ bits 6 0 (c .before .before .args .b3))))
 north c =
-    let e : toZ w16 (ofZ w16 (c .byte2 .result)) ≡ c .byte2 .result = kept w16 (c .byte2 .ok) refl in
-    rw e (minus-kept w16 (c .byte2 .result) (omega (arith, near c)) ∙ ap negℤ (wire-y c))
+    let e : toZ w16 (ofZ w16 (c .unwrapped-byte2 .result)) ≡ c .unwrapped-byte2 .result = kept w16 (c .unwrapped-byte2 .ok) refl in
+    rw e (minus-kept w16 (c .unwrapped-byte2 .result) (omega (arith, near c)) ∙ ap negℤ (wire-y c))
 
-add-byte : tie.Need-add-byte
-add-byte c = search needs
+add-unwrapped-byte : tie.Need-add-unwrapped-byte
+add-unwrapped-byte c = search needs
 
-byte-requires : tie.Need-byte-requires
-byte-requires c κs = search needs
+unwrapped-byte-requires : tie.Need-unwrapped-byte-requires
+unwrapped-byte-requires c κs = search needs
 
-add-byte-2 : tie.Need-add-byte-2
-add-byte-2 c = search needs
+add-unwrapped-byte-2 : tie.Need-add-unwrapped-byte-2
+add-unwrapped-byte-2 c = search needs
 
-byte-requires-2 : tie.Need-byte-requires-2
-byte-requires-2 c κs = search needs
+unwrapped-byte-requires-2 : tie.Need-unwrapped-byte-requires-2
+unwrapped-byte-requires-2 c κs = search needs
 
 mul-report : tie.Need-mul-report
 mul-report c = search needs
@@ -50,7 +50,7 @@ add-report : tie.Need-add-report
 add-report c = search needs
 
 sub-report : tie.Need-sub-report
-sub-report c = rw (kept w16 (c .byte2 .ok) refl) (minus-fits w16 (c .byte2 .result) (omega (arith, near c)))
+sub-report c = rw (kept w16 (c .unwrapped-byte2 .ok) refl) (minus-fits w16 (c .unwrapped-byte2 .result) (omega (arith, near c)))
 
 report-requires : tie.Need-report-requires
 report-requires c κs = search needs
@@ -59,16 +59,16 @@ returns : tie.Need-returns
 unfolding readV
 returns c = let s = c .before .before .before in
     c .report .ensures
-    ∙ simp (buttons-V (s .args .b1), kept w16 (c .before .before .byte .ok) (c .before .before .byte .ensures), byte-X (s .args .b1) (s .args .b2), north (c .before))
+    ∙ simp (buttons-V (s .args .b1), kept w16 (c .before .before .unwrapped-byte .ok) (c .before .before .unwrapped-byte .ensures), byte-X (s .args .b1) (s .args .b2), north (c .before))
 
 pub read-microsoft-spec : {M : Type 1} → statement M
 read-microsoft-spec =
     tie.close
     (tie.spec
-    add-byte
-    byte-requires
-    add-byte-2
-    byte-requires-2
+    add-unwrapped-byte
+    unwrapped-byte-requires
+    add-unwrapped-byte-2
+    unwrapped-byte-requires-2
     mul-report
     add-report
     sub-report

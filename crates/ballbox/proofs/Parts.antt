@@ -1,0 +1,86 @@
+-- A good box, part by part, and what latching and sending need of it.
+use Prim.Native.Nat.{_≤_}
+use mathlib.Core.Path.{_≡_, refl}
+use mathlib.Core.Bool.{true, not, _&&_, _||_}
+use native.Mathlib.Omega.{arith}
+use lib.Dec.{leb, eqb}
+use borrow.Author.Tests.{leb-true, eqb-true}
+use Rattle.numbers.proofs.Choices.{or-else, cases}
+use Rattle.numbers.proofs.Tested.{left, right}
+use Rattle.wire.specs.Line.{sizeBy}
+use Rattle.wire.proofs.Letters.{at-most-five}
+use Rattle.ballbox.specs.Box.{modeD, goingFrom}
+use Rattle.ballbox.specs.Latching.{latched, secondLatched, withSecond}
+use Rattle.ballbox.specs.Commands.{isFormat, isStream}
+use Rattle.ballbox.specs.Events.{bytesLeft, wanted, latching, secondNow, withByteReady}
+use Rattle.ballbox.specs.Good.{good, goodSettings, goodTrack, goodGoing, dormantRightly}
+use Rattle.ballbox.specs.declared.Settings.{Settings}
+use Rattle.ballbox.specs.declared.BallBox.{BallBox}
+use Rattle.ballbox.proofs.Accepting.{bytes-by-length}
+use Rattle.ballbox.proofs.Outgoing.{GoodGoing, going-parts, going-again}
+
+-- what is set
+module _ (s : Settings) (h : goodSettings s ≡ true) where
+  pub letter-known : isFormat (s .format) ≡ true
+  unfolding goodSettings
+  letter-known =
+      left (isFormat (s .format)) (isStream (s .mode) || eqb (s .mode) modeD)
+      (left (isFormat (s .format) && (isStream (s .mode) || eqb (s .mode) modeD)) (leb (s .buttons) 7) h)
+
+  pub mode-known : (isStream (s .mode) || eqb (s .mode) modeD) ≡ true
+  unfolding goodSettings
+  mode-known =
+      right (isFormat (s .format)) (isStream (s .mode) || eqb (s .mode) modeD)
+      (left (isFormat (s .format) && (isStream (s .mode) || eqb (s .mode) modeD)) (leb (s .buttons) 7) h)
+
+  pub few : leb (s .buttons) 7 ≡ true
+  unfolding goodSettings
+  few = right (isFormat (s .format) && (isStream (s .mode) || eqb (s .mode) modeD)) (leb (s .buttons) 7) h
+
+-- U's second pair leaves the count of bytes sent
+pub ready-sent : (b : BallBox) → withByteReady b .going .sent ≡ b .going .sent
+unfolding withByteReady secondLatched withSecond
+ready-sent b = cases (λ (x : BallBox). x .going .sent ≡ b .going .sent) (secondNow b) (λ e. refl) (λ e. refl)
+
+-- a good box, part by part
+pub record Good (b : BallBox) : Type 0 where
+  pub settings : goodSettings (b .settings) ≡ true
+  pub track : goodTrack (b .track) ≡ true
+  pub going : GoodGoing (b .settings .format) (b .going)
+  pub sleep : dormantRightly b ≡ true
+
+pub parts : (b : BallBox) → good b ≡ true → Good b
+unfolding good
+parts b g =
+    let s = goodSettings (b .settings) in
+    let t = goodTrack (b .track) in
+    let o = goodGoing (b .settings .format) (b .going) in
+    let three = left (s && t && o) (dormantRightly b) g in
+    let two = left (s && t) o three in
+    record {
+      settings = left s t two;
+      track = right s t two;
+      going = going-parts (b .settings .format) (b .going) (right (s && t) o three);
+      sleep = right (s && t && o) (dormantRightly b) g;
+    }
+
+pub good-again : (b : BallBox) → Good b → good b ≡ true
+unfolding good
+good-again b p = rw (p .settings, p .track, going-again (b .settings .format) (b .going) (p .going), p .sleep)
+
+pub good-buttons : (b : BallBox) → good b ≡ true → b .settings .buttons ≤ 7
+good-buttons b g = leb-true (b .settings .buttons) 7 (few (b .settings) (parts b g .settings))
+
+-- at most five bytes are going, and as many after latching
+pub good-length : (b : BallBox) → good b ≡ true → b .going .length ≤ 5
+good-length b g =
+    let f = b .settings .format in
+    let n = b .going .length in
+    or-else (leb n 3) (eqb n (sizeBy f)) (λ e. omega (arith, leb-true n 3 e)) (λ e. omega (arith, eqb-true n (sizeBy f) e, at-most-five f)) (parts b g .going .known)
+
+pub latching-length : (b : BallBox) → b .going .length ≤ 5 → latching b .going .length ≤ 5
+unfolding latching latched goingFrom
+latching-length b h =
+    cases (λ (x : BallBox). x .going .length ≤ 5) (not (bytesLeft b) && wanted b)
+    (λ e. rw (bytes-by-length (b .settings .format)) (at-most-five (b .settings .format)))
+    (λ e. h)

@@ -1,0 +1,222 @@
+// The five events, awake and dormant.
+ghost use mathlib.Core.Path.{_≡_};
+ghost use mathlib.Core.Bool.{true};
+ghost use mathlib.Core.List.{[], _∷_};
+ghost use Prim.Native.Nat.{_≤_, _<_};
+ghost use Rattle.ballbox.specs.Events.{gives, quietly, moved, onMotion, onButtons, onPeriod, bytesLeft, wanted, latching, withByteReady, after, nextByte, sending, onSlot, dropped, onHost, woken, awake, asleep};
+ghost use Rattle.ballbox.specs.Good.{good};
+ghost use Rattle.ballbox.specs.Promises.{outcome};
+use crate::BREAK;
+use crate::BallBox;
+use crate::Event;
+use crate::FORMAT_U;
+use crate::Going;
+use crate::MODE_O;
+use crate::SILENCE;
+use crate::SUCCESS;
+use crate::Sent;
+use crate::Stepped;
+use crate::commands::ACK;
+use crate::commands::heard;
+use crate::commands::is_stream;
+use crate::commands::is_timed;
+use crate::nothing;
+
+impl Going {
+    // When the next byte has gone; after the last, nothing is going.
+    fn after(mut self) -> Going
+        requires { ⌜ self .sent < 5 ⌝ }
+        ensures { λ r. ⌜ r ≡ after self ⌝ }
+    {
+        if self.sent + 1 < self.length {
+            self.sent = self.sent + 1;
+            self
+        } else {
+            nothing()
+        }
+    }
+}
+
+impl BallBox {
+    // The box, with no word or with one.
+    fn quietly(self) -> Stepped
+        ensures { λ r. ⌜ outcome r ≡ quietly self ⌝ }
+    {
+        Stepped {
+            refusal: SUCCESS,
+            next: self,
+            sent: Sent::Nothing,
+        }
+    }
+
+    fn gives(self, word: u16) -> Stepped
+        ensures { λ r. ⌜ outcome r ≡ gives (word ∷ []) self ⌝ }
+    {
+        Stepped {
+            refusal: SUCCESS,
+            next: self,
+            sent: Sent::Word(word),
+        }
+    }
+
+    fn moved(self) -> bool
+        ensures { λ r. ⌜ r ≡ moved self ⌝ }
+    {
+        let track = self.track;
+        track.has_moved(self.settings.format)
+    }
+
+    // Each counter takes the sum, and so does the position.
+    fn on_motion(mut self, dx: i16, dy: i16) -> BallBox
+        ensures { λ r. ⌜ r ≡ onMotion dx dy self ⌝ }
+    {
+        let track = self.track;
+        self.track = track.moved_by(dx, dy);
+        self
+    }
+
+    // A change is kept; in a stream mode it makes a report due.
+    fn on_buttons(mut self, n: u8) -> BallBox
+        ensures { λ r. ⌜ r ≡ onButtons n self ⌝ }
+    {
+        if n == self.settings.buttons {
+            return self;
+        }
+        self.settings.buttons = n;
+        self.due = self.due | is_stream(self.settings.mode);
+        self
+    }
+
+    // In the timed modes, if moved, a report is due.
+    fn on_period(mut self) -> BallBox
+        ensures { λ r. ⌜ r ≡ onPeriod self ⌝ }
+    {
+        let moved = self.moved();
+        self.due = self.due | (is_timed(self.settings.mode) & moved);
+        self
+    }
+
+    fn bytes_left(self) -> bool
+        ensures { λ r. ⌜ r ≡ bytesLeft self ⌝ }
+    {
+        self.going.sent < self.going.length
+    }
+
+    // A report is due, or the mode is O and the box has moved.
+    fn wanted(self) -> bool
+        ensures { λ r. ⌜ r ≡ wanted self ⌝ }
+    {
+        let moved = self.moved();
+        self.due | ((self.settings.mode == MODE_O) & moved)
+    }
+
+    // Where no bytes are left and a report is wanted, one is latched.
+    fn latching(self) -> BallBox
+        requires { ⌜ self .settings .buttons ≤ 7 ⌝ }
+        ensures { λ r. ⌜ r ≡ latching self ⌝ }
+    {
+        if !self.bytes_left() & self.wanted() {
+            self.latched()
+        } else {
+            self
+        }
+    }
+
+    // In U, the second pair is latched at the slot of byte 4.
+    fn with_byte_ready(self) -> BallBox
+        ensures { λ r. ⌜ r ≡ withByteReady self ⌝ }
+    {
+        if (self.settings.format == FORMAT_U) & (self.going.sent == 3) {
+            self.second_latched()
+        } else {
+            self
+        }
+    }
+
+    fn next_byte(mut self) -> Stepped
+        requires { ⌜ self .going .sent < 5 ⌝ }
+        ensures { λ r. ⌜ outcome r ≡ nextByte self ⌝ }
+    {
+        let going = self.going;
+        let at = going.sent as usize;
+        let byte = going.bytes[at] as u16;
+        self.going = going.after();
+        self.gives(byte)
+    }
+
+    // If bytes are left the next goes out, otherwise a silence.
+    fn sending(self) -> Stepped
+        requires { ⌜ self .going .length ≤ 5 ⌝ }
+        ensures { λ r. ⌜ outcome r ≡ sending self ⌝ }
+    {
+        if self.bytes_left() {
+            self.with_byte_ready().next_byte()
+        } else {
+            self.gives(SILENCE)
+        }
+    }
+
+    fn on_slot(self) -> Stepped
+        requires { ⌜ good self ≡ true ⌝ }
+        ensures { λ r. ⌜ outcome r ≡ onSlot self ⌝ }
+    {
+        self.latching().sending()
+    }
+
+    // Bytes that are left are dropped.
+    fn dropped(mut self) -> BallBox
+        ensures { λ r. ⌜ r ≡ dropped self ⌝ }
+    {
+        if self.bytes_left() {
+            self.going = nothing();
+        }
+        self
+    }
+
+    // Bytes that are left are broken off; then the byte is obeyed.
+    fn on_host(self, byte: u8) -> Stepped
+        ensures { λ r. ⌜ outcome r ≡ onHost byte self ⌝ }
+    {
+        let clear = self.dropped();
+        let next = clear.obeyed(heard(byte));
+        if !self.bytes_left() {
+            return next.quietly();
+        }
+        next.gives(BREAK)
+    }
+
+    // The box wakes, and an ACK is to be sent.
+    fn woken(mut self) -> BallBox
+        ensures { λ r. ⌜ r ≡ woken self ⌝ }
+    {
+        self.dormant = false;
+        self.replying(1, ACK, 0)
+    }
+
+    // An event of a box that is awake.
+    pub(crate) fn awake(self, event: Event) -> Stepped
+        requires { ⌜ good self ≡ true ⌝ }
+        ensures { λ r. ⌜ outcome r ≡ awake self event ⌝ }
+    {
+        match event {
+            Event::Motion(dx, dy) => self.on_motion(dx, dy).quietly(),
+            Event::Buttons(n) => self.on_buttons(n).quietly(),
+            Event::Host(byte) => self.on_host(byte),
+            Event::Slot => self.on_slot(),
+            Event::Period => self.on_period().quietly(),
+        }
+    }
+
+    // An event of a box that is dormant: only the host wakes it.
+    pub(crate) fn asleep(self, event: Event) -> Stepped
+        ensures { λ r. ⌜ outcome r ≡ asleep self event ⌝ }
+    {
+        match event {
+            Event::Motion(_, _) => self.quietly(),
+            Event::Buttons(_) => self.quietly(),
+            Event::Host(_) => self.woken().quietly(),
+            Event::Slot => self.gives(SILENCE),
+            Event::Period => self.quietly(),
+        }
+    }
+}

@@ -1,0 +1,111 @@
+// The good box, rule by rule.
+ghost use mathlib.Core.Path.{_≡_};
+ghost use Rattle.ballbox.specs.Good.{goodSettings, onPad, goodTrack, sentBelow, lengthKnown, fiveBegun, secondHeld, restZero, goodGoing, dormantRightly, good};
+use crate::BallBox;
+use crate::FORMAT_U;
+use crate::Going;
+use crate::MODE_D;
+use crate::MOST_BUTTONS;
+use crate::Pair;
+use crate::Settings;
+use crate::Track;
+use crate::commands::is_format;
+use crate::commands::is_stream;
+
+impl Settings {
+    // Known letters, and buttons 0 to 7.
+    fn good(self) -> bool
+        ensures { λ r. ⌜ r ≡ goodSettings self ⌝ }
+    {
+        is_format(self.format)
+            & (is_stream(self.mode) | (self.mode == MODE_D))
+            & (self.buttons <= MOST_BUTTONS)
+    }
+}
+
+impl Pair {
+    fn on_pad(self) -> bool
+        ensures { λ r. ⌜ r ≡ onPad self ⌝ }
+    {
+        ((0 <= self.x) & (self.x <= 4095)) & ((0 <= self.y) & (self.y <= 4095))
+    }
+}
+
+impl Track {
+    // Positions 0 to 4095.
+    fn good(self) -> bool
+        ensures { λ r. ⌜ r ≡ goodTrack self ⌝ }
+    {
+        let position = self.position;
+        let last = self.last;
+        position.on_pad() & last.on_pad()
+    }
+}
+
+impl Going {
+    fn sent_below(self) -> bool
+        ensures { λ r. ⌜ r ≡ sentBelow self ⌝ }
+    {
+        (self.sent < self.length) | ((self.sent == 0) & (self.length == 0))
+    }
+
+    // As long as a report of the format, or a reply.
+    fn length_known(self, letter: u8) -> bool
+        ensures { λ r. ⌜ r ≡ lengthKnown letter self ⌝ }
+    {
+        (self.length <= 3) | (self.length as usize == wire::size(letter))
+    }
+
+    fn five_begun(self) -> bool
+        ensures { λ r. ⌜ r ≡ fiveBegun self ⌝ }
+    {
+        !(self.length == 5) | (1 <= self.sent)
+    }
+
+    // In U, bytes 4 and 5 are 0 until their slot.
+    fn second_held(self, letter: u8) -> bool
+        ensures { λ r. ⌜ r ≡ secondHeld letter self ⌝ }
+    {
+        let bytes = self.bytes;
+        !(letter == FORMAT_U) | (4 <= self.sent) | ((bytes[3] == 0) & (bytes[4] == 0))
+    }
+
+    fn rest_zero(self) -> bool
+        ensures { λ r. ⌜ r ≡ restZero self ⌝ }
+    {
+        let bytes = self.bytes;
+        ((0 < self.length) | (bytes[0] == 0))
+            & ((1 < self.length) | (bytes[1] == 0))
+            & ((2 < self.length) | (bytes[2] == 0))
+            & ((3 < self.length) | (bytes[3] == 0))
+            & ((4 < self.length) | (bytes[4] == 0))
+    }
+
+    fn good(self, letter: u8) -> bool
+        ensures { λ r. ⌜ r ≡ goodGoing letter self ⌝ }
+    {
+        self.sent_below()
+            & self.length_known(letter)
+            & self.five_begun()
+            & self.second_held(letter)
+            & self.rest_zero()
+    }
+}
+
+impl BallBox {
+    // Dormant only with nothing going or due.
+    fn dormant_rightly(self) -> bool
+        ensures { λ r. ⌜ r ≡ dormantRightly self ⌝ }
+    {
+        !self.dormant | ((self.going.length == 0) & !self.due)
+    }
+
+    pub(crate) fn good(self) -> bool
+        ensures { λ r. ⌜ r ≡ good self ⌝ }
+    {
+        let settings = self.settings;
+        let track = self.track;
+        let going = self.going;
+        settings.good() & track.good() & going.good(settings.format) & self.dormant_rightly()
+    }
+}

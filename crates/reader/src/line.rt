@@ -1,0 +1,94 @@
+// Over many words: a line, and the numbers of its reports to a lent slice.
+ghost use mathlib.Core.Path.{_≡_};
+ghost use Prim.Native.Nat.{_<_, _≤_};
+ghost use mathlib.Core.List.{_++_};
+ghost use lib.ListN.{length, take, drop};
+ghost use Rattle.wire.specs.Line.{sizeBy};
+ghost use Rattle.reader.specs.State.{fiveOf};
+ghost use Rattle.reader.specs.Line.{whole, lineOf};
+use crate::Answer;
+use crate::Reader;
+use crate::Reading;
+use crate::SUCCESS;
+use wire::Report;
+
+// The five numbers of a report, to the front of a slice.
+fn put(out: &mut [i16], report: Report)
+    requires { ⌜ 5 ≤ length (now out) ⌝ }
+    ensures { λ _. ⌜ now (out .exit) ≡ fiveOf report ++ drop 5 (now (out .entry)) ⌝ }
+{
+    let buttons = report.buttons as i16;
+    let x1 = report.x1;
+    let y1 = report.y1;
+    let x2 = report.x2;
+    let y2 = report.y2;
+    out[0] = buttons;
+    out[1] = x1;
+    out[2] = y1;
+    out[3] = x2;
+    out[4] = y2;
+}
+
+// A line of which words, reports and bytes are counted so far.
+fn reading(refusal: u8, next: Reader, taken: usize, reports: usize, dropped: usize) -> Reading
+    ensures { λ r. ⌜ r ≡ record { refusal = refusal; next = next; taken = taken; reports = reports; dropped = dropped } ⌝ }
+{
+    Reading {
+        refusal: refusal,
+        next: next,
+        taken: taken,
+        reports: reports,
+        dropped: dropped,
+    }
+}
+
+impl Reader {
+    // The first word of a part of the line, and its report to the front of the places that are left.
+    fn first(self, words: &[u16], out: &mut [i16]) -> Reading
+        requires { ⌜ (self .count < sizeBy (self .format)) × (0 < length (now words)) ⌝ }
+        ensures { λ r. ⌜ whole r (now (out .exit)) ≡ lineOf self (take 1 (now (words .entry))) (now (out .entry)) ⌝ }
+    {
+        let s = self.word(words[0]);
+        if s.refusal != SUCCESS {
+            return reading(s.refusal, self, 0, 0, 0);
+        }
+        let next = s.next;
+        let answer = s.answer;
+        match answer {
+            Answer::Nothing => reading(SUCCESS, next, 1, 0, 0),
+            Answer::Dropped(k) => reading(SUCCESS, next, 1, 0, k as usize),
+            Answer::Report(report) => {
+                if out.len() < 5 {
+                    return reading(SUCCESS, self, 0, 0, 0);
+                }
+                put(out, report);
+                reading(SUCCESS, next, 1, 1, 0)
+            }
+        }
+    }
+
+    // The words of a line: what is left of it, from the next word on, is handed over with the reader that came back and the places that are left.
+    pub(crate) fn line(self, words: &[u16], out: &mut [i16]) -> Reading
+        requires { ⌜ self .count < sizeBy (self .format) ⌝ }
+        ensures { λ r. ⌜ whole r (now (out .exit)) ≡ lineOf self (now (words .entry)) (now (out .entry)) ⌝ }
+    {
+        let mut r = self;
+        let mut at: usize = 0;
+        let mut used: usize = 0;
+        let mut reports: usize = 0;
+        let mut dropped: usize = 0;
+        while at < words.len() {
+            let t = r.first(&words[at..], &mut out[used..]);
+            if t.taken == 0 {
+                return reading(t.refusal, r, at, reports, dropped);
+            }
+            let next = t.next;
+            r = next;
+            at = at + 1;
+            used = used + 5 * t.reports;
+            reports = reports + t.reports;
+            dropped = dropped + t.dropped;
+        }
+        reading(SUCCESS, r, at, reports, dropped)
+    }
+}

@@ -1,0 +1,48 @@
+-- What a box sends: reports, as they were latched, and replies.
+use Prim.Native.Nat.{ℕ}
+use mathlib.Core.Path.{_≡_}
+use mathlib.Core.Bool.{true}
+use mathlib.Core.List.{List, [], _∷_}
+use Rattle.frames.specs.Passages.{Passage, UnderWay, finishedBy, Sound, SoundPart}
+use Rattle.wire.specs.Table.{bytesOf}
+use Rattle.wire.specs.Holds.{accepted, carried}
+use Rattle.wire.specs.declared.Report.{Report}
+use Rattle.wire.specs.declared.Format.{Format}
+
+-- a report as it was latched, in the format that was set
+pub record Latched : Type 0 where
+  pub format : Format
+  pub report : Report
+
+pub data Message : Type 0 where
+  report : Latched → Message
+  reply : List ℕ → Message
+
+abbrev pub latchedIn : Format → Report → Message
+latchedIn f r = report (record { format = f; report = r })
+
+-- "each report has the manual's bytes"
+abbrev pub messageBytes : Message → List ℕ
+messageBytes (report l) = bytesOf (l .format) (l .report)
+messageBytes (reply bytes) = bytes
+
+-- a report that the format f holds
+abbrev pub HeldBy : Format → Message → Type 0
+HeldBy f (report l) = (l .format ≡ f) × (accepted f (l .report) ≡ true)
+HeldBy f (reply bytes) = ⊥
+
+-- a report as the format carries it
+abbrev pub carriedIn : Format → Message → List Report
+carriedIn f (report l) = carried f (l .report) ∷ []
+carriedIn f (reply bytes) = []
+
+-- passages of the format f, and what is under way behind them: silences and reports that f holds, no replies
+abbrev pub SoundIn : Format → List (Passage Message) → Type 0
+SoundIn f passages = Sound messageBytes (HeldBy f) passages
+
+abbrev pub SoundEnd : Format → UnderWay Message → Type 0
+SoundEnd f going = SoundPart messageBytes (HeldBy f) going
+
+-- the finished reports of passages, in the order sent, each as the format carries it
+abbrev pub finishedReports : Format → List (Passage Message) → List Report
+finishedReports f passages = finishedBy (carriedIn f) passages
