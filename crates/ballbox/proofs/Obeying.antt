@@ -8,7 +8,8 @@ use borrow.Author.Tests.{eqb-true}
 use Rattle.numbers.proofs.Choices.{other, neither, cases}
 use Rattle.wire.specs.Line.{break, letterOf, namedBy}
 use Rattle.wire.specs.declared.Format.{Format}
-use Rattle.ballbox.specs.Box.{modeD, nothing, goingFrom, withGoing, Step}
+use Rattle.ballbox.specs.Box.{modeD, nothing, goingFrom, withGoing, withMemory, Step}
+use Rattle.ballbox.specs.Presses.{hidden}
 use Rattle.ballbox.specs.Commands.{letterP, space, letterf, lettert, byte05, letterd, isFormat, isStream, commandOf, isCommand, ack, codeOf, codeByte, replyTo, obeyed}
 use Rattle.ballbox.specs.Events.{gives, quietly, bytesLeft, brokenOff, dropped, onHost, awake}
 use Rattle.ballbox.specs.Good.{good}
@@ -81,8 +82,8 @@ module _ (b : BallBox) (n : ℕ) (r : Stepped) (s : StepPromise b (Host n) r) (g
   next-is : r .next ≡ obeyed (commandOf n) (dropped b)
   next-is = ap (λ (a : Step). a .next) heard
 
-  -- an ignored byte breaks off and changes nothing else
-  pub ignored-breaks : isCommand n ≡ false → bytesLeft b ≡ true → outcome r ≡ gives (break ∷ []) (withGoing nothing b)
+  -- an ignored byte breaks off and changes nothing else, but that what was broken off shows nothing
+  pub ignored-breaks : isCommand n ≡ false → bytesLeft b ≡ true → outcome r ≡ gives (break ∷ []) (withMemory (hidden (b .memory)) (withGoing nothing b))
   unfolding obeyed
   ignored-breaks h l = rw (l, rest-ignored n h, dropped-busy b l) at heard
 
