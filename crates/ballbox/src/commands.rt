@@ -164,8 +164,8 @@ impl BallBox {
     fn put_to_sleep(mut self) -> BallBox
         ensures { λ r. ⌜ r ≡ withDormant true (withMemory none (withDue false self)) ⌝ }
     {
-        self.dormant = true;
         self.memory = none();
+        self.dormant = true;
         self.due = false;
         self
     }
