@@ -74,8 +74,8 @@ modeO = 0x4F
 abbrev pub modeD : ℕ
 modeD = 0x44
 
--- "Fresh: format U, mode O, buttons 0, position, last position and counters 0, nothing going, nothing due, awake.";
--- none remembered
+-- "Fresh: format U, mode O, buttons 0, position, last position and counters 0, nothing going, nothing due, awake."
+-- None is remembered.
 unfoldable pub freshBox : BallBox
 freshBox =
     record {

@@ -108,9 +108,9 @@ replyTo b Ignored = []
 abbrev pub replying : List ℕ → BallBox → BallBox
 replying bytes b = withGoing (goingFrom bytes) b
 
--- what a command does, where nothing is going
+-- what a command does, where nothing is going; "D, P, `d` and the format commands empty the memory"
 unfoldable pub obeyed : Command → BallBox → BallBox
--- "A B S T U V W set the format, clear counters and due, set last position to position."; "D, P, `d` and the format commands empty the memory"
+-- "A B S T U V W set the format, clear counters and due, set last position to position."
 obeyed (SetFormat f) b = withFormat f (withTrack (cleared (b .track)) (withMemory none (withDue false b)))
 -- "J K L R M Q N O set that stream mode."
 obeyed (SetStream m) b = withMode m b

@@ -11,7 +11,7 @@ use Rattle.ballbox.specs.declared.BallBox.{BallBox}
 abbrev pub memory : List ℕ → ℕ → Bool → Memory
 memory states count showing = record { states = states; count = count; showing = showing }
 
--- "the box shall remember button states in order"
+-- "In stream modes the box shall remember button states in order": those that are remembered, oldest first
 unfoldable pub remembered : Memory → List ℕ
 remembered m = take (m .count) (m .states)
 
@@ -40,8 +40,8 @@ toShow b = cond (anyRemembered (b .memory)) (at 0 (b .memory .states)) (b .setti
 unfoldable pub showingFirst : Memory → Memory
 showingFirst m = memory (m .states) (m .count) (anyRemembered m)
 
--- "each shown by a report of its own": "The state being sent keeps its place until the report's last byte has gone"; a report that
--- showed none of them removes none
+-- "each shown by a report of its own"; "The state being sent keeps its place until the report's last byte has gone": what it showed is
+-- removed then, and where it showed none of them none is
 unfoldable pub shown : Memory → Memory
 shown m = cond (m .showing) (memory (drop 1 (m .states) ++ (0 ∷ [])) (m .count - 1) false) m
 
