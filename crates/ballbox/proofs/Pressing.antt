@@ -19,12 +19,12 @@ use Rattle.ballbox.specs.Good.{good}
 use Rattle.ballbox.specs.Promises.{StepPromise}
 use Rattle.ballbox.specs.declared.BallBox.{BallBox}
 use Rattle.ballbox.specs.declared.Command.{Command}
-use Rattle.ballbox.specs.declared.Command.the-variants.{SetFormat, SetStream, SetPrompt, AskReport, AskAck, AskCode, AskLetters, AskButtons, Sleep, Ignored}
 use Rattle.ballbox.specs.declared.Event.the-variants.{Buttons, Host}
 use Rattle.ballbox.specs.declared.Stepped.{Stepped}
 use Rattle.ballbox.proofs.Outgoing.{left-idle, size-known}
 use Rattle.ballbox.proofs.Parts.{letter-known, parts}
 use Rattle.ballbox.proofs.Remembering.{remembered-none, remembered-hidden, remembered-length}
+use Rattle.ballbox.proofs.Obeying.{empties, obeyed-leaves}
 use Rattle.ballbox.proofs.Refusals.{awake-step}
 use Rattle.ballbox.proofs.Accepting.{bytes-by-length}
 use Rattle.ballbox.proofs.Goodness.{latched-left}
@@ -58,30 +58,8 @@ remembered-wanted b n ns g e =
     rw (lt-ltb 0 c (omega (arith, remembered-length (b .memory) (parts b g .memory), ap length e)), or-true (b .due))
 
 -- "D, P, `d` and the format commands empty the memory"; the others leave it
-abbrev pub empties : Command → Bool
-empties (SetFormat f) = true
-empties (SetStream m) = false
-empties SetPrompt = true
-empties AskReport = true
-empties AskAck = false
-empties AskCode = false
-empties AskLetters = false
-empties AskButtons = false
-empties Sleep = true
-empties Ignored = false
-
 pub obeyed-memory : (c : Command) (b : BallBox) → obeyed c b .memory ≡ cond (empties c) none (b .memory)
-unfolding obeyed
-obeyed-memory (SetFormat f) b = refl
-obeyed-memory (SetStream m) b = refl
-obeyed-memory SetPrompt b = refl
-obeyed-memory AskReport b = refl
-obeyed-memory AskAck b = refl
-obeyed-memory AskCode b = refl
-obeyed-memory AskLetters b = refl
-obeyed-memory AskButtons b = refl
-obeyed-memory Sleep b = refl
-obeyed-memory Ignored b = refl
+obeyed-memory c b = obeyed-leaves c b .1
 
 -- breaking off leaves what is remembered
 pub dropped-remembered : (b : BallBox) → remembered (dropped b .memory) ≡ remembered (b .memory)

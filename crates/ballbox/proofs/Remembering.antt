@@ -76,10 +76,6 @@ moved-up [] i = zero-behind [] i
 moved-up (x ∷ l) i = zero-behind l i
 
 -- what is made of a good memory is good
-pub none-good : GoodMemory none
-unfolding goodMemory
-none-good = memory-parts none refl
-
 pub remembering-good : (n : ℕ) (m : Memory) → n ≤ 7 → GoodMemory m → GoodMemory (remembering n m)
 unfolding remembering
 remembering-good n m p g =
