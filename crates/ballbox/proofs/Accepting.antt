@@ -25,6 +25,7 @@ use Rattle.wire.specs.declared.Format.the-variants.{Mm, Microsoft, Absolute, Re
 use Rattle.wire.proofs.Codec.{bytes-length}
 use Rattle.wire.proofs.Codec.Ranges.{wider}
 use Rattle.wire.proofs.Codec.Accepted.{parts-accepted, one-pair}
+use Rattle.ballbox.specs.Presses.{toShow}
 use Rattle.ballbox.specs.Motion.{isA}
 use Rattle.ballbox.specs.Latching.{limits, limited, taken, movement, latchedReport, secondOnly}
 use Rattle.ballbox.specs.declared.Track.{Track}
@@ -60,9 +61,9 @@ by-letter letter n x y p h k (known f e) = rw (e, letter-named f) (pair-accepted
 by-letter letter n x y p h k (unknown e none) = rw e
 
 -- what is latched is accepted, whatever the letter
-pub latched-accepted : (b : BallBox) → b .settings .buttons ≤ 7 → acceptedBy (b .settings .format) (latchedReport b) ≡ true
+pub latched-accepted : (b : BallBox) → toShow b ≤ 7 → acceptedBy (b .settings .format) (latchedReport b) ≡ true
 unfolding latchedReport taken
-latched-accepted b p = by-letter (b .settings .format) (b .settings .buttons) _ _ (omega arith) (limited-within _ _) (limited-within _ _) (lettered (b .settings .format))
+latched-accepted b p = by-letter (b .settings .format) (toShow b) _ _ (omega arith) (limited-within _ _) (limited-within _ _) (lettered (b .settings .format))
 
 -- and so is U's second pair
 pub second-within : (v : ℤ) → within (secondRange FiveByte) (limited (letterOf FiveByte) v) ≡ true

@@ -1,7 +1,7 @@
 -- What the host's bytes do: the ignored rest, prompt mode, and the replies.
 use Prim.Native.Nat.{ℕ, _+_, _*_}
 use mathlib.Core.Path.{_≡_, refl, ap, _∙_}
-use mathlib.Core.Bool.{true, false, _||_}
+use mathlib.Core.Bool.{Bool, true, false, cond, _||_}
 use mathlib.Core.List.{List, [], _∷_}
 use lib.Dec.{eqb}
 use borrow.Author.Tests.{eqb-true}
@@ -9,7 +9,8 @@ use Rattle.numbers.proofs.Choices.{other, neither, cases}
 use Rattle.frames.specs.Words.{break}
 use Rattle.wire.specs.Line.{letterOf, namedBy}
 use Rattle.wire.specs.declared.Format.{Format}
-use Rattle.ballbox.specs.Box.{modeD, nothing, goingFrom, withGoing, Step}
+use Rattle.ballbox.specs.Box.{modeD, nothing, goingFrom, withGoing, withMemory, Step}
+use Rattle.ballbox.specs.Presses.{none, hidden}
 use Rattle.ballbox.specs.Commands.{letterP, space, letterf, lettert, byte05, letterd, isFormat, isStream, commandOf, isCommand, ack, codeOf, codeByte, replyTo, obeyed}
 use Rattle.ballbox.specs.Events.{gives, quietly, bytesLeft, brokenOff, dropped, onHost, awake}
 use Rattle.ballbox.specs.Good.{good}
@@ -51,18 +52,34 @@ abbrev pub goingOr : Going → List ℕ → Going
 goingOr g [] = g
 goingOr g (b ∷ bytes) = goingFrom (b ∷ bytes)
 
-pub obeyed-going : (c : Command) (b : BallBox) → obeyed c b .going ≡ goingOr (b .going) (replyTo b c)
+-- it empties the memory, or leaves it
+abbrev pub empties : Command → Bool
+empties (SetFormat f) = true
+empties (SetStream m) = false
+empties SetPrompt = true
+empties AskReport = true
+empties AskAck = false
+empties AskCode = false
+empties AskLetters = false
+empties AskButtons = false
+empties Sleep = true
+empties Ignored = false
+
+pub obeyed-leaves : (c : Command) (b : BallBox) → (obeyed c b .going ≡ goingOr (b .going) (replyTo b c)) × (obeyed c b .memory ≡ cond (empties c) none (b .memory))
 unfolding obeyed
-obeyed-going (SetFormat f) b = refl
-obeyed-going (SetStream m) b = refl
-obeyed-going SetPrompt b = refl
-obeyed-going AskReport b = refl
-obeyed-going AskAck b = refl
-obeyed-going AskCode b = refl
-obeyed-going AskLetters b = refl
-obeyed-going AskButtons b = refl
-obeyed-going Sleep b = refl
-obeyed-going Ignored b = refl
+obeyed-leaves (SetFormat f) b = (refl, refl)
+obeyed-leaves (SetStream m) b = (refl, refl)
+obeyed-leaves SetPrompt b = (refl, refl)
+obeyed-leaves AskReport b = (refl, refl)
+obeyed-leaves AskAck b = (refl, refl)
+obeyed-leaves AskCode b = (refl, refl)
+obeyed-leaves AskLetters b = (refl, refl)
+obeyed-leaves AskButtons b = (refl, refl)
+obeyed-leaves Sleep b = (refl, refl)
+obeyed-leaves Ignored b = (refl, refl)
+
+pub obeyed-going : (c : Command) (b : BallBox) → obeyed c b .going ≡ goingOr (b .going) (replyTo b c)
+obeyed-going c b = obeyed-leaves c b .0
 
 reply-or : (bytes : List ℕ) → goingOr nothing bytes ≡ goingFrom bytes
 unfolding goingFrom
@@ -82,8 +99,8 @@ module _ (b : BallBox) (n : ℕ) (r : Stepped) (s : StepPromise b (Host n) r) (g
   next-is : r .next ≡ obeyed (commandOf n) (dropped b)
   next-is = ap (λ (a : Step). a .next) heard
 
-  -- an ignored byte breaks off and changes nothing else
-  pub ignored-breaks : isCommand n ≡ false → bytesLeft b ≡ true → outcome r ≡ gives (break ∷ []) (withGoing nothing b)
+  -- an ignored byte breaks off and changes nothing else, but that what was broken off shows nothing
+  pub ignored-breaks : isCommand n ≡ false → bytesLeft b ≡ true → outcome r ≡ gives (break ∷ []) (withMemory (hidden (b .memory)) (withGoing nothing b))
   unfolding obeyed
   ignored-breaks h l = rw (l, rest-ignored n h, dropped-busy b l) at heard
 

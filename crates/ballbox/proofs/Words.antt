@@ -20,7 +20,8 @@ use Rattle.wire.specs.declared.Format.the-variants.{Mm, Microsoft, Absolute, Re
 use Rattle.wire.specs.declared.Report.{Report}
 use Rattle.wire.proofs.Letters.{letter-named}
 use Rattle.wire.proofs.Codec.{bytes-below}
-use Rattle.ballbox.specs.Box.{freshBox, modeO, modeD, Step, nothing, goingFrom, Bytes, FiveBytes, withGoing}
+use Rattle.ballbox.specs.Box.{freshBox, modeO, modeD, Step, nothing, goingFrom, Bytes, FiveBytes, withGoing, withMemory}
+use Rattle.ballbox.specs.Presses.{hidden}
 use Rattle.ballbox.specs.Latching.{taken, latchedReport, latched, secondOnly, withSecond, secondLatched}
 use Rattle.ballbox.specs.Commands.{isFormat, isStream, codeOf, codeByte, commandOf, replyTo, obeyed}
 use Rattle.ballbox.specs.Events.{Speaks, onButtons, onPeriod, bytesLeft, wanted, latching, secondNow, withByteReady, after, nextByte, sending, onSlot, dropped, onHost, woken, awake, asleep}
@@ -36,7 +37,7 @@ use Rattle.ballbox.specs.declared.Stepped.{Stepped}
 use Rattle.ballbox.proofs.Letters.{Lettered, known, unknown, lettered}
 use Rattle.ballbox.proofs.Accepting.{latched-accepted, second-accepted}
 use Rattle.ballbox.proofs.Obeying.{goingOr, obeyed-going}
-use Rattle.ballbox.proofs.Parts.{letter-known, mode-known, few, parts, good-buttons}
+use Rattle.ballbox.proofs.Parts.{letter-known, mode-known, few, parts, good-shown}
 
 no-word : {X : Type 0} {w : ℕ} {ws : List ℕ} → [] ≡ w ∷ ws → X
 no-word e = let z : _≡_ {A = ℕ} 0 1 = cc in absurd (omega arith)
@@ -127,7 +128,7 @@ latched-five : (b : BallBox) → good b ≡ true → FiveBytes (latched b .going
 unfolding latched
 latched-five b g =
     let f = b .settings .format in
-    going-five (bytesBy f (latchedReport b)) (report-bytes f (latchedReport b) (lettered f) (latched-accepted b (good-buttons b g)))
+    going-five (bytesBy f (latchedReport b)) (report-bytes f (latchedReport b) (lettered f) (latched-accepted b (good-shown b g)))
 
 second-five : (b : BallBox) → b .settings .format ≡ letterOf FiveByte → FiveBytes (b .going) → FiveBytes (secondLatched b .going)
 unfolding secondLatched withSecond acceptedBy namedBy
@@ -238,7 +239,7 @@ host-sound n b g h =
     let c = commandOf n in
     let s = parts b g .settings in
     record {
-      bytes = cases (λ (x : BallBox). FiveBytes (obeyed c x .going)) (bytesLeft b) (λ e. obeyed-five c (withGoing nothing b) s nothing-five) (λ e. obeyed-five c b s h);
+      bytes = cases (λ (x : BallBox). FiveBytes (obeyed c x .going)) (bytesLeft b) (λ e. obeyed-five c (withMemory (hidden (b .memory)) (withGoing nothing b)) s nothing-five) (λ e. obeyed-five c b s h);
       legal = cases (λ (words : List ℕ). lineWords words ≡ true) (bytesLeft b) (λ e. refl) (λ e. refl);
     }
 

@@ -6,7 +6,8 @@ use lib.Dec.{eqb}
 use Rattle.wire.specs.Line.{letterOf, namedBy, ofNamed}
 use Rattle.wire.specs.declared.Format.{Format}
 use Rattle.wire.specs.declared.Format.the-variants.{Mm, Microsoft, Absolute, Relative, FiveByte, ThreeByte, Hexadecimal}
-use Rattle.ballbox.specs.Box.{goingFrom, modeO, modeD, withFormat, withMode, withTrack, withGoing, withDue, withDormant}
+use Rattle.ballbox.specs.Box.{goingFrom, modeO, modeD, withFormat, withMode, withTrack, withGoing, withMemory, withDue, withDormant}
+use Rattle.ballbox.specs.Presses.{none}
 use Rattle.ballbox.specs.Latching.{cleared}
 use Rattle.ballbox.specs.declared.BallBox.{BallBox}
 use Rattle.ballbox.specs.declared.Command.{Command}
@@ -107,21 +108,21 @@ replyTo b Ignored = []
 abbrev pub replying : List ℕ → BallBox → BallBox
 replying bytes b = withGoing (goingFrom bytes) b
 
--- what a command does, where nothing is going
+-- what a command does, where nothing is going; "D, P, `d` and the format commands empty the memory"
 unfoldable pub obeyed : Command → BallBox → BallBox
 -- "A B S T U V W set the format, clear counters and due, set last position to position."
-obeyed (SetFormat f) b = withFormat f (withTrack (cleared (b .track)) (withDue false b))
+obeyed (SetFormat f) b = withFormat f (withTrack (cleared (b .track)) (withMemory none (withDue false b)))
 -- "J K L R M Q N O set that stream mode."
 obeyed (SetStream m) b = withMode m b
 -- "D sets prompt mode, whose letter is D however it was set, and clears due."
-obeyed SetPrompt b = withMode modeD (withDue false b)
+obeyed SetPrompt b = withMode modeD (withMemory none (withDue false b))
 -- "P sets prompt mode and makes a report due."
-obeyed AskReport b = withMode modeD (withDue true b)
+obeyed AskReport b = withMode modeD (withMemory none (withDue true b))
 obeyed AskAck b = replying (replyTo b AskAck) b
 obeyed AskCode b = replying (replyTo b AskCode) b
 obeyed AskLetters b = replying (replyTo b AskLetters) b
 obeyed AskButtons b = replying (replyTo b AskButtons) b
 -- "`d`: dormant, due cleared."
-obeyed Sleep b = withDormant true (withDue false b)
+obeyed Sleep b = withDormant true (withMemory none (withDue false b))
 -- "The rest are ignored (001), though they too break off."
 obeyed Ignored b = b
