@@ -181,20 +181,26 @@ awake-told f b (Host byte) g a h = (sound-broken f g (h .sound), rw (asking-repl
 awake-told f b Slot g a h = sound-sent f (paired b (begun b g)) (sound-ready f b g h)
 awake-told f b Period g a h = (tt, h .sound)
 
-refused-next : (b : BallBox) (e : Event) → good b ≡ true → aboveSeven e ≡ true → stepOf b e .next ≡ b
+pub refused-next : (b : BallBox) (e : Event) → good b ≡ true → aboveSeven e ≡ true → stepOf b e .next ≡ b
 unfolding stepOf
 refused-next b e k p = rw (k, p)
 
-refused-told : (b : BallBox) (e : Event) (g : UnderWay Message) → aboveSeven e ≡ true → toldBy b e g ≡ told [] g
+pub refused-told : (b : BallBox) (e : Event) (g : UnderWay Message) → aboveSeven e ≡ true → toldBy b e g ≡ told [] g
 unfolding toldBy
 refused-told b e g p = rw p
 
+pub step-alike : (b : BallBox) (e : Event) → asks e ≡ true → good b ≡ true → b .dormant ≡ false → Alike b (stepOf b e .next)
+step-alike b e a k d = go (aboveSeven e) refl
+  where
+    go : (t : Bool) → aboveSeven e ≡ t → Alike b (stepOf b e .next)
+    go true p = rw (refused-next b e k p) (alike b)
+    go false p = rw (ruled b e false k p d) (awake-alike b e a)
+
 -- one step of such a box
 asked-step : (f : Format) (b : BallBox) (e : Event) (g : UnderWay Message) → asks e ≡ true → SetTo f b g → SoundIn f (toldBy b e g .passages) × SetTo f (nextBox b e) (toldBy b e g .going)
-asked-step f b e g a h = go (aboveSeven e) refl
-  where
-    next : Alike b (stepOf b e .next) → SoundIn f (toldBy b e g .passages) × SoundEnd f (toldBy b e g .going) → SoundIn f (toldBy b e g .passages) × SetTo f (nextBox b e) (toldBy b e g .going)
-    next l s = (
+asked-step f b e g a h =
+    let l = step-alike b e a (h .good) (h .awake) in
+    let s = told-sound in (
       s .0,
       record {
         good = stepped-good b e (h .good);
@@ -204,11 +210,13 @@ asked-step f b e g a h = go (aboveSeven e) refl
         sound = s .1;
       },
     )
-
-    go : (t : Bool) → aboveSeven e ≡ t → SoundIn f (toldBy b e g .passages) × SetTo f (nextBox b e) (toldBy b e g .going)
-    go true p = next (rw (refused-next b e (h .good) p) (alike b)) (rw (refused-told b e g p) (tt, h .sound))
-    go false p =
-        next (rw (ruled b e false (h .good) p (h .awake)) (awake-alike b e a)) (rw (told-is b e g false p (h .awake)) (awake-told f b e g a h))
+  where
+    told-sound : SoundIn f (toldBy b e g .passages) × SoundEnd f (toldBy b e g .going)
+    told-sound = go (aboveSeven e) refl
+      where
+        go : (t : Bool) → aboveSeven e ≡ t → SoundIn f (toldBy b e g .passages) × SoundEnd f (toldBy b e g .going)
+        go true p = rw (refused-told b e g p) (tt, h .sound)
+        go false p = rw (told-is b e g false p (h .awake)) (awake-told f b e g a h)
 
 -- over every list of such events
 pub asked-sound : (f : Format) (b : BallBox) (g : UnderWay Message) (events : List Event) → onlyAsks events ≡ true → SetTo f b g → SoundIn f (passagesOf b g events) × SoundEnd f (goingAfter b g events)

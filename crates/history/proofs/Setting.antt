@@ -18,7 +18,7 @@ use Rattle.ballbox.specs.declared.Command.the-variants.{SetFormat}
 use Rattle.ballbox.specs.declared.Event.the-variants.{Host}
 use Rattle.ballbox.proofs.Goodness.{stepped-good}
 use Rattle.ballbox.proofs.Refusals.{ruled}
-use Rattle.ballbox.proofs.Slots.{dropped-idle}
+use Rattle.history.proofs.Hosts.{none-left}
 use Rattle.history.proofs.Asking.{SetTo, dropped-alike}
 
 sets-format : (f : Format) → commandOf (letterOf f) ≡ SetFormat (letterOf f)
@@ -30,14 +30,6 @@ sets-format Relative = refl
 sets-format FiveByte = refl
 sets-format ThreeByte = refl
 sets-format Hexadecimal = refl
-
-none-left : (b : BallBox) → bytesLeft (dropped b) ≡ false
-unfolding dropped
-none-left b = go (bytesLeft b) refl
-  where
-    go : (t : Bool) → bytesLeft b ≡ t → bytesLeft (dropped b) ≡ false
-    go true e = rw e
-    go false e = ap bytesLeft (dropped-idle b e) ∙ e
 
 set-by : (f : Format) (b : BallBox) → good b ≡ true → b .dormant ≡ false → stepOf b (Host (letterOf f)) ≡ gives (cond (bytesLeft b) (break ∷ []) []) (obeyed (SetFormat (letterOf f)) (dropped b))
 unfolding awake onHost
