@@ -119,3 +119,11 @@ first-silence-needed h =
     let l = Nothing ∷ Nothing ∷ Nothing ∷ Nothing ∷ Nothing ∷ answer.Report fast ∷ Nothing ∷ Nothing ∷ Nothing ∷ Nothing ∷ Nothing ∷ answer.Report slow ∷ Nothing ∷ Nothing ∷ [] in
     let e = only-these (computed FiveByte (257 ∷ wordsU) l refl a refl) (h a refl) in
     let z : _≡_ {A = ℕ} 0 1 = cc in omega arith
+
+-- and the format unmarked: of 90 05 03, a silence and 8C 02 07 a fresh reader of S hands out the report in front of the silence too
+pub no-mark-needed : HandsOut Mm (0x90 ∷ 0x05 ∷ 0x03 ∷ 257 ∷ 0x8C ∷ 0x02 ∷ 0x07 ∷ []) (finishedReports Mm (finished (latchedIn Mm pressed) ∷ [])) → ⊥
+unfolding computing
+no-mark-needed h =
+    let a = freshOf (letterOf Mm) in
+    let e = only-these (computed Mm _ (Nothing ∷ Nothing ∷ answer.Report moved ∷ Nothing ∷ Nothing ∷ Nothing ∷ answer.Report pressed ∷ []) refl a refl) (h a refl) in
+    let z : _≡_ {A = ℕ} 0 1 = cc in omega arith
