@@ -79,7 +79,7 @@ unfolding computing
 marked-run =
     marked Mm (finished (latchedIn Mm moved) ∷ silent ∷ broken 2 (latchedIn Mm pressed) ∷ finished (latchedIn Mm pressed) ∷ []) (first 1 (latchedIn Mm moved))
     (256 ∷ []) (0x90 ∷ []) (0x05 ∷ 0x03 ∷ 257 ∷ 0x8C ∷ []) (0x9A ∷ 0x7F ∷ 0xFF ∷ []) (0x02 ∷ 256 ∷ 0x8C ∷ 0x02 ∷ 0x07 ∷ 0x90 ∷ []) replaced-S
-    (finished (latchedIn Mm moved) ∷ silent ∷ broken 2 (latchedIn Mm pressed) ∷ []) (record { format = Mm; report = pressed }) [] refl 9 refl refl (omega arith)
+    (finished (latchedIn Mm moved) ∷ silent ∷ broken 2 (latchedIn Mm pressed) ∷ []) (record { format = Mm; report = pressed; shows = false }) [] refl 9 refl refl (omega arith)
 
 pub marked-answers : Answered Mm (256 ∷ 0x90 ∷ 0x9A ∷ 0x7F ∷ 0xFF ∷ 0x02 ∷ 256 ∷ 0x8C ∷ 0x02 ∷ 0x07 ∷ 0x90 ∷ [])
     (Nothing ∷ Nothing ∷ Dropped 1 ∷ Nothing ∷ Dropped 3 ∷ Dropped 1 ∷ Nothing ∷ Nothing ∷ Nothing ∷ answer.Report pressed ∷ Nothing ∷ [])
@@ -105,7 +105,7 @@ unfolding computing
 unmarked-run =
     unmarked FiveByte (finished (latchedIn FiveByte fast) ∷ silent ∷ finished (latchedIn FiveByte slow) ∷ []) nothing
     [] [] (0x87 ∷ []) [] (0x85 ∷ 0x00 ∷ 0x85 ∷ 0x00 ∷ 257 ∷ 0x87 ∷ 0x01 ∷ 0x02 ∷ 0x03 ∷ 0x04 ∷ []) joined-U
-    (finished (latchedIn FiveByte fast) ∷ silent ∷ []) (record { format = FiveByte; report = slow }) [] refl 9 refl (finished (latchedIn FiveByte fast) ∷ []) [] refl tt (omega arith)
+    (finished (latchedIn FiveByte fast) ∷ silent ∷ []) (record { format = FiveByte; report = slow; shows = false }) [] refl 9 refl (finished (latchedIn FiveByte fast) ∷ []) [] refl tt (omega arith)
 
 pub unmarked-answers : Answered FiveByte (0x85 ∷ 0x00 ∷ 0x85 ∷ 0x00 ∷ 257 ∷ 0x87 ∷ 0x01 ∷ 0x02 ∷ 0x03 ∷ 0x04 ∷ [])
     (Dropped 1 ∷ Dropped 1 ∷ Dropped 1 ∷ Dropped 1 ∷ Nothing ∷ Nothing ∷ Nothing ∷ Nothing ∷ Nothing ∷ answer.Report slow ∷ [])
