@@ -1,29 +1,38 @@
 -- Demand 1: "Every public entry takes every event, line word, state and buffer and ends with an answer. A refusal has a number from the list, hands
 -- back the old state and writes nothing; a reader given many words does all before the bad one and stops there."
--- That each entry takes every argument and ends is the check of the function itself, which has no condition. Here: its answer is one, and what a
--- refusal leaves.
-use Prim.Native.Nat.{ℕ, _<_}
-use mathlib.Core.Path.{_≡_}
+use Prim.Native.Nat.{ℕ, _<_, _≤_}
+use mathlib.Core.Path.{_≡_, refl, _∙_, ap}
 use mathlib.Core.Bool.{Bool, true, false}
-use mathlib.Core.List.{List, _∷_, _++_}
+use mathlib.Core.List.{List, [], _∷_, _++_, List·Memᴰ·head as here, List·Memᴰ·tail as there}
 use mathlib.Core.Logic.{_⊎_}
+use borrow.Author.Tests.{eqb-true}
+use lib.Dec.{eqb}
 use lib.ListN.{length, getD}
 use lib.IntN.{ℤ}
+use Rattle.numbers.proofs.Choices.{or-else}
 use Rattle.frames.specs.Words.{silence}
-use Rattle.wire.specs.Line.{known, letterOf}
-use Rattle.wire.specs.Numbers.{success, badState, badLetter, badButtons, badWord}
-use Rattle.wire.specs.Encoder.{refusalOf, lengthOf}
-use Rattle.wire.specs.Promises.{SizePromise, MarkedPromise, FitsPromise, ReportPromise, EncodePromise, RefusalPromise, LengthPromise}
+use Rattle.wire.specs.Line.{known, letterOf, namedBy, sizeOf}
+use Rattle.wire.specs.Holds as holding
+use Rattle.wire.specs.Holds.{holds}
+use Rattle.wire.specs.Numbers.{success, badState, badLetter, badButtons, badMovement, shortBuffer, badWord}
+use Rattle.wire.specs.Encoder.{Encoding, refusalOf, lengthOf}
+use Rattle.wire.specs.Encoder as encoding
+use Rattle.wire.specs.Promises as encoder
+use Rattle.wire.specs.Promises.{KnownPromise, SizePromise, MarkedPromise, FitsPromise, ReportPromise, EncodePromise, RefusalPromise, LengthPromise}
+use Rattle.wire.specs.declared.Format.{Format}
 use Rattle.wire.specs.declared.Format.the-variants.{FiveByte}
+use Rattle.wire.specs.declared.Named.the-variants.{Unknown}
 use Rattle.wire.specs.declared.Report.{Report}
 use Rattle.wire.specs.declared.Encoded.{Encoded}
+use Rattle.wire.specs.declared.Encoded.the-variants.{NoSuchLetter, ButtonsAboveSeven, MovementNotHeld, BufferTooShort}
 use Rattle.wire.proofs.Answers as wire
+use Rattle.wire.proofs.Refusals as wire-refusals
 use Rattle.reader.specs.State.{fresh}
 use Rattle.reader.specs.Good as readers
 use Rattle.reader.specs.Rules.{refusing}
-use Rattle.reader.specs.Line.{whole, stopped, withRefusal}
+use Rattle.reader.specs.Line.{Long, whole, stopped, withRefusal}
 use Rattle.reader.specs.Promises as reader
-use Rattle.reader.specs.Promises.{ReadPromise, newReader}
+use Rattle.reader.specs.Promises.{RefusesRightly, accepted, refusal, ReadPromise, beforeBad, newReader}
 use Rattle.reader.specs.declared.Reader.{Reader}
 use Rattle.reader.specs.declared.NewReader.{NewReader}
 use Rattle.reader.specs.declared.Read.{Read}
@@ -31,7 +40,7 @@ use Rattle.reader.specs.declared.Reading.{Reading}
 use Rattle.reader.proofs.Permitted as permitted
 use Rattle.reader.proofs.Refusals as refusals
 use Rattle.reader.proofs.Goodness as goodness
-use Rattle.ballbox.specs.Box.{refused}
+use Rattle.ballbox.specs.Box.{Step, refused}
 use Rattle.ballbox.specs.Good as boxes
 use Rattle.ballbox.specs.Promises as box
 use Rattle.ballbox.specs.Promises.{outcome}
@@ -44,7 +53,7 @@ use Rattle.ballbox.proofs.Refusals as box-refusals
 use Rattle.ballbox.proofs.Goodness as box-goodness
 use Rattle.listing.specs.Machine as listers
 use Rattle.listing.specs.Promises as lister
-use Rattle.listing.specs.Promises.{FeedPromise, FinishPromise}
+use Rattle.listing.specs.Promises.{Whole, FeedPromise, FinishPromise}
 use Rattle.listing.specs.declared.Lister.{Lister}
 use Rattle.listing.specs.declared.Listed.{Listed}
 use Rattle.listing.proofs.Answers as listing
@@ -54,142 +63,323 @@ use Rattle.text.specs.Promises.{NonePromise, WithPromise, DigitsPromise, Number
 use Rattle.text.specs.declared.Text.{Text}
 use Rattle.text.proofs.Answers as text
 
--- `wire::size`, `marked`, `fits`, `report_of`, `Encoded::refusal`, `Encoded::length`: one answer
-pub size-one : (letter : ℕ) {a b : ℕ} → SizePromise letter a → SizePromise letter b → a ≡ b
-size-one = wire.one-size
+-- "Every public entry takes every event, line word, state and buffer and ends with an answer": that it takes every argument and ends is the check
+-- of the function itself, which has no condition. Its answer is one: two that the promise permits are equal, and with them every number of a lent slice.
+abbrev pub One : {A : Type 0} → (A → Type 0) → Type 0
+One {A} Permitted = (a b : A) → Permitted a → Permitted b → a ≡ b
 
-pub marked-one : (letter : ℕ) {a b : Bool} → MarkedPromise letter a → MarkedPromise letter b → a ≡ b
-marked-one = wire.one-marked
+abbrev pub OneWith : {A S : Type 0} → (A → S → Type 0) → Type 0
+OneWith {A} {S} Permitted = (a b : A) (after behind : S) → Permitted a after → Permitted b behind → (a ≡ b) × (after ≡ behind)
 
-pub fits-one : (letter place byte : ℕ) {a b : Bool} → FitsPromise letter place byte a → FitsPromise letter place byte b → a ≡ b
-fits-one = wire.one-fits
+-- `wire::known`, `size`, `marked`, `fits`, `report_of`, `encode`, `Encoded::refusal`, `Encoded::length`
+pub known-one : (letter : ℕ) → One (KnownPromise letter)
+known-one letter a b = wire.one-known letter
 
-pub report-one : (letter : ℕ) (bytes : List ℕ) {a b : Report} → ReportPromise letter bytes a → ReportPromise letter bytes b → a ≡ b
-report-one = wire.one-report
+pub size-one : (letter : ℕ) → One (SizePromise letter)
+size-one letter a b = wire.one-size letter
 
-pub refusal-one : (encoded : Encoded) {a b : ℕ} → RefusalPromise encoded a → RefusalPromise encoded b → a ≡ b
-refusal-one = wire.one-refusal
+pub marked-one : (letter : ℕ) → One (MarkedPromise letter)
+marked-one letter a b = wire.one-marked letter
 
-pub length-one : (encoded : Encoded) {a b : ℕ} → LengthPromise encoded a → LengthPromise encoded b → a ≡ b
-length-one = wire.one-length
+pub fits-one : (letter place byte : ℕ) → One (FitsPromise letter place byte)
+fits-one letter place byte a b = wire.one-fits letter place byte
 
--- `wire::encode`: one answer, every byte of the buffer with it; a refusal tells no length and writes nothing
-pub encode-one : (letter : ℕ) (r : Report) (before : List ℕ) {a b : Encoded} {after behind : List ℕ} → EncodePromise letter r before a after → EncodePromise letter r before b behind → (a ≡ b) × (after ≡ behind)
-encode-one = wire.one-encoding
+pub report-one : (letter : ℕ) (bytes : List ℕ) → One (ReportPromise letter bytes)
+report-one letter bytes a b = wire.one-report letter bytes
 
-pub encode-refused : (letter : ℕ) (r : Report) (before after : List ℕ) (a : Encoded) → EncodePromise letter r before a after → (refusalOf a ≡ success → ⊥) → (lengthOf a ≡ 0) × (after ≡ before)
-encode-refused = wire.refusal-leaves
+pub encode-one : (letter : ℕ) (r : Report) (before : List ℕ) → OneWith (EncodePromise letter r before)
+encode-one letter r before a b after behind = wire.one-encoding letter r before
 
--- `Reader::fresh`: one answer; 1 comes with a fresh reader of U
-pub fresh-reader-one : (letter : ℕ) (a b : NewReader) → reader.FreshPromise letter a → reader.FreshPromise letter b → a ≡ b
+pub refusal-one : (encoded : Encoded) → One (RefusalPromise encoded)
+refusal-one encoded a b = wire.one-refusal encoded
+
+pub length-one : (encoded : Encoded) → One (LengthPromise encoded)
+length-one encoded a b = wire.one-length encoded
+
+-- `Reader::fresh`, `good`, `step`, `read`
+pub fresh-reader-one : (letter : ℕ) → One (reader.FreshPromise letter)
 fresh-reader-one = permitted.one-fresh
 
-pub fresh-reader-refused : (letter : ℕ) (a : NewReader) → known letter ≡ false → reader.FreshPromise letter a → a ≡ newReader badLetter (fresh (letterOf FiveByte))
-fresh-reader-refused = refusals.unknown-letter
+pub good-reader-one : (r : Reader) → One (reader.GoodPromise r)
+good-reader-one = permitted.one-good
 
--- `Reader::step`: one answer; 6, and then 4, hand back the old reader and answer nothing
-pub read-word-one : (r : Reader) (w : ℕ) (a b : Read) → reader.StepPromise r w a → reader.StepPromise r w b → a ≡ b
+pub read-word-one : (r : Reader) (w : ℕ) → One (reader.StepPromise r w)
 read-word-one = permitted.one-step
 
-pub read-word-bad-state : (r : Reader) (w : ℕ) (s : Read) → readers.good r ≡ false → reader.StepPromise r w s → s ≡ refusing badState r
-read-word-bad-state = refusals.bad-state
-
-pub read-word-bad-word : (r : Reader) (w : ℕ) (s : Read) → readers.good r ≡ true → silence < w → reader.StepPromise r w s → s ≡ refusing badWord r
-read-word-bad-word = refusals.bad-word
-
--- `Reader::read`: one answer, every number of the slice with it; 6 leaves all as it was, with counts of 0
-pub read-line-one : (r : Reader) (words : List ℕ) (out : List ℤ) (a b : Reading) (x y : List ℤ) → ReadPromise r words out a x → ReadPromise r words out b y → (a ≡ b) × (x ≡ y)
+pub read-line-one : (r : Reader) (words : List ℕ) (out : List ℤ) → OneWith (ReadPromise r words out)
 read-line-one = permitted.one-read
 
-pub read-line-bad-state : (r : Reader) (words : List ℕ) (out : List ℤ) (a : Reading) (after : List ℤ) → readers.good r ≡ false → ReadPromise r words out a after → whole a after ≡ stopped badState r out
-read-line-bad-state = refusals.bad-state-read
-
--- "a reader given many words does all before the bad one and stops there": 4 is the outcome of the words before it, but for the number
-pub read-line-bad-word : (r : Reader) (p q : List ℕ) (w : ℕ) (out : List ℤ) (a b : Reading) (x y : List ℤ) → readers.good r ≡ true → silence < w → ReadPromise r p out b y → b .taken ≡ length p → ReadPromise r (p ++ w ∷ q) out a x → whole a x ≡ withRefusal badWord (whole b y)
-read-line-bad-word = refusals.bad-word-read
-
-pub read-line-ends : (r : Reader) (words : List ℕ) (out : List ℤ) (a : Reading) (after : List ℤ) → readers.good r ≡ true → ReadPromise r words out a after → (a .refusal ≡ success) ⊎ ((a .refusal ≡ badWord) × (silence < getD words (a .taken) 0))
-read-line-ends = refusals.read-ends
-
--- `BallBox::fresh` and `BallBox::step`: one answer; 6, and then 3, hand back the old box and no word
-pub fresh-box-one : (b c : BallBox) → box.FreshPromise b → box.FreshPromise c → b ≡ c
+-- `BallBox::fresh`, `step`
+pub fresh-box-one : One box.FreshPromise
 fresh-box-one = box-answers.one-fresh
 
-pub box-step-one : (b : BallBox) (e : Event) (r s : Stepped) → box.StepPromise b e r → box.StepPromise b e s → r ≡ s
+pub box-step-one : (b : BallBox) (e : Event) → One (box.StepPromise b e)
 box-step-one = box-answers.one-step
 
-pub box-step-bad-state : (b : BallBox) (e : Event) (r : Stepped) → box.StepPromise b e r → boxes.good b ≡ false → outcome r ≡ refused badState b
-box-step-bad-state = box-refusals.bad-state
-
-pub box-step-bad-buttons : (b : BallBox) (n : ℕ) (r : Stepped) → box.StepPromise b (Buttons n) r → boxes.good b ≡ true → 7 < n → outcome r ≡ refused badButtons b
-box-step-bad-buttons = box-refusals.bad-buttons
-
--- `Lister::fresh`, `Lister::feed`, `Lister::finish`: one answer, every byte of the slice with it; 6 hands back the old lister, with counts of 0, and
--- writes nothing; no other lister is refused
-pub fresh-lister-one : (a b : Lister) → lister.FreshPromise a → lister.FreshPromise b → a ≡ b
+-- `Lister::fresh`, `feed`, `finish`
+pub fresh-lister-one : One lister.FreshPromise
 fresh-lister-one a b = listing.one-fresh
 
-pub feed-one : (m : Lister) (input before : List ℕ) {a b : Listed} {after behind : List ℕ} → FeedPromise m input before a after → FeedPromise m input before b behind → (a ≡ b) × (after ≡ behind)
-feed-one = listing.one-feed
+pub feed-one : (m : Lister) (input before : List ℕ) → OneWith (FeedPromise m input before)
+feed-one m input before a b after behind = listing.one-feed m input before
 
-pub finish-one : (m : Lister) (before : List ℕ) {a b : Listed} {after behind : List ℕ} → FinishPromise m before a after → FinishPromise m before b behind → (a ≡ b) × (after ≡ behind)
-finish-one = listing.one-finish
+pub finish-one : (m : Lister) (before : List ℕ) → OneWith (FinishPromise m before)
+finish-one m before a b after behind = listing.one-finish m before
 
-pub feed-bad-state : (m : Lister) (input before after : List ℕ) (a : Listed) → listers.good m ≡ false → FeedPromise m input before a after → lister.whole a after ≡ lister.refused m before
-feed-bad-state = listing-refusals.bad-state-feed
+-- `Text::none`, `with`, `digits`, `number`, `signed`, `put`
+pub no-text-one : One NonePromise
+no-text-one a b = text.one-none
 
-pub finish-bad-state : (m : Lister) (before after : List ℕ) (a : Listed) → listers.good m ≡ false → FinishPromise m before a after → lister.whole a after ≡ lister.refused m before
-finish-bad-state = listing-refusals.bad-state-finish
+pub with-one : (t : Text) (byte : ℕ) → One (WithPromise t byte)
+with-one t byte a b = text.one-with t byte
 
-pub feed-accepts : (m : Lister) (input before after : List ℕ) (a : Listed) → listers.good m ≡ true → FeedPromise m input before a after → a .refusal ≡ success
-feed-accepts = listing-refusals.good-feed
+pub digits-one : (t : Text) (places n : ℕ) → One (DigitsPromise t places n)
+digits-one t places n a b = text.one-digits t places n
 
-pub finish-accepts : (m : Lister) (before after : List ℕ) (a : Listed) → listers.good m ≡ true → FinishPromise m before a after → a .refusal ≡ success
-finish-accepts = listing-refusals.good-finish
+pub number-one : (t : Text) (places n : ℕ) → One (NumberPromise t places n)
+number-one t places n a b = text.one-number t places n
 
--- `Text::none`, `with`, `digits`, `number`, `signed`, `put`: one answer; what has no room in a slice is not put, and writes nothing
-pub no-text-one : {a b : Text} → NonePromise a → NonePromise b → a ≡ b
-no-text-one = text.one-none
+pub signed-one : (t : Text) (places : ℕ) (x : ℤ) → One (SignedPromise t places x)
+signed-one t places x a b = text.one-signed t places x
 
-pub with-one : (t : Text) (byte : ℕ) {a b : Text} → WithPromise t byte a → WithPromise t byte b → a ≡ b
-with-one = text.one-with
+pub put-one : (t : Text) (at : ℕ) (before : List ℕ) → OneWith (PutPromise t at before)
+put-one t at before a b after behind = text.one-put t at before
 
-pub digits-one : (t : Text) (places n : ℕ) {a b : Text} → DigitsPromise t places n a → DigitsPromise t places n b → a ≡ b
-digits-one = text.one-digits
+-- a refusal by its number, and by whether the state is good
+by-number : {A : Type 0} (of : ℕ → A) {a : A} (n m : ℕ)
+    → a ≡ of n
+    → eqb n m ≡ true
+    → a ≡ of m
+by-number of n m e h = e ∙ ap of (eqb-true n m h)
 
-pub number-one : (t : Text) (places n : ℕ) {a b : Text} → NumberPromise t places n a → NumberPromise t places n b → a ≡ b
-number-one = text.one-number
+by-goodness : {A : Type 0} {number : A → ℕ} {bad a : A} (good : Bool)
+    → (good ≡ true → number a ≡ success)
+    → (good ≡ false → a ≡ bad)
+    → RefusesRightly number (bad ∷ []) a
+by-goodness true h k = accepted (h refl)
+by-goodness false h k = refusal (here (k refl))
 
-pub signed-one : (t : Text) (places : ℕ) (x : ℤ) {a b : Text} → SignedPromise t places x a → SignedPromise t places x b → a ≡ b
-signed-one = text.one-signed
+-- "A refusal has a number from the list, hands back the old state and writes nothing": all that a call leaves is no refusal, or it is one of those
+-- named here. Of the encoder: 1, 3, 2 and 5, which tell no length and leave the buffer.
+abbrev pub unwritten : List ℕ → List Encoding
+unwritten before = encoding.refused badLetter before ∷ encoding.refused badButtons before ∷ encoding.refused badMovement before ∷ encoding.refused shortBuffer before ∷ []
 
-pub put-one : (t : Text) (at : ℕ) (before : List ℕ) {a b : Bool} {after behind : List ℕ} → PutPromise t at before a after → PutPromise t at before b behind → (a ≡ b) × (after ≡ behind)
-put-one = text.one-put
+pub encode-refusals : (letter : ℕ) (r : Report) (before after : List ℕ) (a : Encoded)
+    → EncodePromise letter r before a after
+    → RefusesRightly (λ (e : Encoding). e .refusal) (unwritten before) (encoding.outcome a after)
+encode-refusals letter r before after a p = go (wire-refusals.refusals letter r before after a p)
+  where
+    go : {e : Encoding} → encoder.RefusesRightly before e → RefusesRightly (λ (e : Encoding). e .refusal) (unwritten before) e
+    go (encoder.accepted e) = accepted e
+    go (encoder.refusal n l e) =
+        let is = by-number (λ (m : ℕ). encoding.refused m before) n in
+        refusal
+        (or-else _ _
+        (or-else _ _
+        (or-else _ _ (λ h. here (is badLetter e h)) (λ h. there (here (is badButtons e h))))
+        (λ h. there (there (here (is badMovement e h)))))
+        (λ h. there (there (there (here (is shortBuffer e h)))))
+        l)
 
+pub encode-refused : (letter : ℕ) (r : Report) (before after : List ℕ) (a : Encoded)
+    → EncodePromise letter r before a after
+    → (refusalOf a ≡ success → ⊥)
+    → (lengthOf a ≡ 0) × (after ≡ before)
+encode-refused = wire.refusal-leaves
+
+-- of a new reader: 1, with "a fresh one of U"
+pub fresh-reader-refusals : (letter : ℕ) (a : NewReader)
+    → reader.FreshPromise letter a
+    → RefusesRightly (λ (n : NewReader). n .refusal) (newReader badLetter (fresh (letterOf FiveByte)) ∷ []) a
+fresh-reader-refusals = refusals.fresh-refusals
+
+-- of a reader given a word: 6 and 4, with the reader as it was and no answer
+pub read-word-refusals : (r : Reader) (w : ℕ) (s : Read)
+    → reader.StepPromise r w s
+    → RefusesRightly (λ (s : Read). s .refusal) (refusing badState r ∷ refusing badWord r ∷ []) s
+read-word-refusals = refusals.step-refusals
+
+-- of a reader given many words: 6, with the reader and the slice as they were and counts of 0; and 4, with all as the words before the bad one leave it
+pub read-line-refusals : (r : Reader) (words : List ℕ) (out : List ℤ) (a : Reading) (after : List ℤ)
+    → ReadPromise r words out a after
+    → RefusesRightly (λ (l : Long). l .reading .refusal) (stopped badState r out ∷ beforeBad r words out a ∷ []) (whole a after)
+read-line-refusals = refusals.read-refusals
+
+-- of the box: 6 and 3, with the box as it was and no word
+pub box-step-refusals : (b : BallBox) (e : Event) (r : Stepped)
+    → box.StepPromise b e r
+    → RefusesRightly (λ (s : Step). s .refusal) (refused badState b ∷ refused badButtons b ∷ []) (outcome r)
+box-step-refusals b e r p = go (box-refusals.refusals b e r p)
+  where
+    go : {s : Step} → box.RefusesRightly b s → RefusesRightly (λ (s : Step). s .refusal) (refused badState b ∷ refused badButtons b ∷ []) s
+    go (box.accepted e) = accepted e
+    go (box.refusal n l e) =
+        let is = by-number (λ (m : ℕ). refused m b) n in
+        refusal (or-else _ _ (λ h. here (is badState e h)) (λ h. there (here (is badButtons e h))) l)
+
+-- of the lister: 6, with the lister and the slice as they were and counts of 0
+pub feed-refusals : (m : Lister) (input before after : List ℕ) (a : Listed)
+    → FeedPromise m input before a after
+    → RefusesRightly (λ (w : Whole). w .listed .refusal) (lister.refused m before ∷ []) (lister.whole a after)
+feed-refusals m input before after a p =
+    by-goodness (listers.good m) (λ g. listing-refusals.good-feed m input before after a g p) (λ g. listing-refusals.bad-state-feed m input before after a g p)
+
+pub finish-refusals : (m : Lister) (before after : List ℕ) (a : Listed)
+    → FinishPromise m before a after
+    → RefusesRightly (λ (w : Whole). w .listed .refusal) (lister.refused m before ∷ []) (lister.whole a after)
+finish-refusals m before after a p =
+    by-goodness (listers.good m) (λ g. listing-refusals.good-finish m before after a g p) (λ g. listing-refusals.bad-state-finish m before after a g p)
+
+-- a text has no refusal: where there is no room for it, it is not put, and nothing is written
 pub put-leaves : (t : Text) (at : ℕ) (before after : List ℕ) → PutPromise t at before false after → after ≡ before
 put-leaves = text.put-leaves
 
+-- Which of them it is: "Tested in that order, where they apply". The encoder tests 1, 3, 2 and then 5.
+pub encode-bad-letter : (letter : ℕ) (r : Report) (before after : List ℕ) (a : Encoded)
+    → namedBy letter ≡ Unknown
+    → EncodePromise letter r before a after
+    → (a ≡ NoSuchLetter) × (after ≡ before)
+encode-bad-letter = wire.letter-refused
+
+pub encode-bad-buttons : (f : Format) (r : Report) (before after : List ℕ) (a : Encoded)
+    → 7 < r .buttons
+    → EncodePromise (letterOf f) r before a after
+    → (a ≡ ButtonsAboveSeven) × (after ≡ before)
+encode-bad-buttons = wire.buttons-refused
+
+pub encode-bad-movement : (f : Format) (r : Report) (before after : List ℕ) (a : Encoded)
+    → r .buttons ≤ 7
+    → holds f r ≡ false
+    → EncodePromise (letterOf f) r before a after
+    → (a ≡ MovementNotHeld) × (after ≡ before)
+encode-bad-movement = wire.movement-refused
+
+pub encode-short-buffer : (f : Format) (r : Report) (before after : List ℕ) (a : Encoded)
+    → holding.accepted f r ≡ true
+    → length before < sizeOf f
+    → EncodePromise (letterOf f) r before a after
+    → (a ≡ BufferTooShort) × (after ≡ before)
+encode-short-buffer = wire.room-refused
+
+-- the reader tests 1 where it is new, and else 6 and then 4
+pub fresh-reader-refused : (letter : ℕ) (a : NewReader)
+    → known letter ≡ false
+    → reader.FreshPromise letter a
+    → a ≡ newReader badLetter (fresh (letterOf FiveByte))
+fresh-reader-refused = refusals.unknown-letter
+
+pub read-word-bad-state : (r : Reader) (w : ℕ) (s : Read)
+    → readers.good r ≡ false
+    → reader.StepPromise r w s
+    → s ≡ refusing badState r
+read-word-bad-state = refusals.bad-state
+
+pub read-word-bad-word : (r : Reader) (w : ℕ) (s : Read)
+    → readers.good r ≡ true
+    → silence < w
+    → reader.StepPromise r w s
+    → s ≡ refusing badWord r
+read-word-bad-word = refusals.bad-word
+
+pub read-line-bad-state : (r : Reader) (words : List ℕ) (out : List ℤ) (a : Reading) (after : List ℤ)
+    → readers.good r ≡ false
+    → ReadPromise r words out a after
+    → whole a after ≡ stopped badState r out
+read-line-bad-state = refusals.bad-state-read
+
+pub read-line-ends : (r : Reader) (words : List ℕ) (out : List ℤ) (a : Reading) (after : List ℤ)
+    → readers.good r ≡ true
+    → ReadPromise r words out a after
+    → (a .refusal ≡ success) ⊎ ((a .refusal ≡ badWord) × (silence < getD words (a .taken) 0))
+read-line-ends = refusals.read-ends
+
+-- the box tests 6 and then 3
+pub box-step-bad-state : (b : BallBox) (e : Event) (r : Stepped)
+    → box.StepPromise b e r
+    → boxes.good b ≡ false
+    → outcome r ≡ refused badState b
+box-step-bad-state = box-refusals.bad-state
+
+pub box-step-bad-buttons : (b : BallBox) (n : ℕ) (r : Stepped)
+    → box.StepPromise b (Buttons n) r
+    → boxes.good b ≡ true
+    → 7 < n
+    → outcome r ≡ refused badButtons b
+box-step-bad-buttons = box-refusals.bad-buttons
+
+-- the lister tests 6, and refuses none that is good
+pub feed-bad-state : (m : Lister) (input before after : List ℕ) (a : Listed)
+    → listers.good m ≡ false
+    → FeedPromise m input before a after
+    → lister.whole a after ≡ lister.refused m before
+feed-bad-state = listing-refusals.bad-state-feed
+
+pub finish-bad-state : (m : Lister) (before after : List ℕ) (a : Listed)
+    → listers.good m ≡ false
+    → FinishPromise m before a after
+    → lister.whole a after ≡ lister.refused m before
+finish-bad-state = listing-refusals.bad-state-finish
+
+pub feed-accepts : (m : Lister) (input before after : List ℕ) (a : Listed)
+    → listers.good m ≡ true
+    → FeedPromise m input before a after
+    → a .refusal ≡ success
+feed-accepts = listing-refusals.good-feed
+
+pub finish-accepts : (m : Lister) (before after : List ℕ) (a : Listed)
+    → listers.good m ≡ true
+    → FinishPromise m before a after
+    → a .refusal ≡ success
+finish-accepts = listing-refusals.good-finish
+
+-- "a reader given many words does all before the bad one and stops there": 4 is the outcome of the words before it, but for the number
+pub read-line-bad-word : (r : Reader) (p q : List ℕ) (w : ℕ) (out : List ℤ) (a b : Reading) (x y : List ℤ)
+    → readers.good r ≡ true
+    → silence < w
+    → ReadPromise r p out b y
+    → b .taken ≡ length p
+    → ReadPromise r (p ++ w ∷ q) out a x
+    → whole a x ≡ withRefusal badWord (whole b y)
+read-line-bad-word = refusals.bad-word-read
+
 -- no state that these entries give is ever refused
-pub fresh-reader-good : (letter : ℕ) (a : NewReader) → reader.FreshPromise letter a → readers.good (a .reader) ≡ true
+pub fresh-reader-good : (letter : ℕ) (a : NewReader)
+    → reader.FreshPromise letter a
+    → readers.good (a .reader) ≡ true
 fresh-reader-good = goodness.fresh-is-good
 
-pub reader-stays-good : (r : Reader) (w : ℕ) (s : Read) → readers.good r ≡ true → reader.StepPromise r w s → (readers.good (s .next) ≡ true) × (s .next .format ≡ r .format)
+pub reader-stays-good : (r : Reader) (w : ℕ) (s : Read)
+    → readers.good r ≡ true
+    → reader.StepPromise r w s
+    → (readers.good (s .next) ≡ true) × (s .next .format ≡ r .format)
 reader-stays-good = goodness.step-stays-good
 
-pub read-stays-good : (r : Reader) (words : List ℕ) (out : List ℤ) (a : Reading) (after : List ℤ) → readers.good r ≡ true → ReadPromise r words out a after → (readers.good (a .next) ≡ true) × (a .next .format ≡ r .format)
+pub read-stays-good : (r : Reader) (words : List ℕ) (out : List ℤ) (a : Reading) (after : List ℤ)
+    → readers.good r ≡ true
+    → ReadPromise r words out a after
+    → (readers.good (a .next) ≡ true) × (a .next .format ≡ r .format)
 read-stays-good = goodness.read-stays-good
 
 pub fresh-box-good : (b : BallBox) → box.FreshPromise b → boxes.good b ≡ true
 fresh-box-good = box-goodness.fresh-is-good
 
-pub box-stays-good : (b : BallBox) (e : Event) (r : Stepped) → box.StepPromise b e r → boxes.good b ≡ true → boxes.good (r .next) ≡ true
+pub box-stays-good : (b : BallBox) (e : Event) (r : Stepped)
+    → box.StepPromise b e r
+    → boxes.good b ≡ true
+    → boxes.good (r .next) ≡ true
 box-stays-good = box-goodness.step-stays-good
 
 pub fresh-lister-good : (m : Lister) → lister.FreshPromise m → listers.good m ≡ true
 fresh-lister-good = listing-refusals.fresh-is-good
 
-pub feed-stays-good : (m : Lister) (input before after : List ℕ) (a : Listed) → listers.good m ≡ true → FeedPromise m input before a after → listers.good (a .next) ≡ true
+pub feed-stays-good : (m : Lister) (input before after : List ℕ) (a : Listed)
+    → listers.good m ≡ true
+    → FeedPromise m input before a after
+    → listers.good (a .next) ≡ true
 feed-stays-good = calls.next-good
 
-pub finish-stays-good : (m : Lister) (before after : List ℕ) (a : Listed) → listers.good m ≡ true → FinishPromise m before a after → listers.good (a .next) ≡ true
+pub finish-stays-good : (m : Lister) (before after : List ℕ) (a : Listed)
+    → listers.good m ≡ true
+    → FinishPromise m before a after
+    → listers.good (a .next) ≡ true
 finish-stays-good = listing-refusals.finish-stays-good

@@ -2,7 +2,7 @@
 -- with a ready reader gives back the report, less the button Microsoft's format doesn't carry; what was read, encoded again, gives the same bytes,
 -- except a minus zero."
 use Prim.Native.Nat.{ℕ, _+_, _-_, _*_, _≤_}
-use mathlib.Core.Path.{_≡_}
+use mathlib.Core.Path.{_≡_, ap}
 use mathlib.Core.Bool.{true, false}
 use mathlib.Core.List.{List, [], _∷_, _++_}
 use lib.ListN.{length, take, drop, replicate}
@@ -23,7 +23,7 @@ use Rattle.wire.specs.declared.Encoded.the-variants.{Written}
 use Rattle.wire.proofs.Answers.{accepted-written}
 use Rattle.reader.specs.State.{ready, keptIn, fiveOf}
 use Rattle.reader.specs.Good as readers
-use Rattle.reader.specs.Line.{whole}
+use Rattle.reader.specs.Line.{Long}
 use Rattle.reader.specs.Counts.{byteIn, bytesIn, reportsIn, droppedIn}
 use Rattle.reader.specs.Promises as reader
 use Rattle.reader.specs.Promises.{ReadPromise}
@@ -47,33 +47,78 @@ use Rattle.history.specs.History.{passagesOf, goingAfter}
 use Rattle.history.proofs.Bridge.{run-passages}
 
 -- "each event moves the box as the rules say": `awake` and `asleep` are the rules of crates/ballbox/specs/Events.antt
-pub box-awake : (b : BallBox) (e : Event) (r : Stepped) → StepPromise b e r → good b ≡ true → aboveSeven e ≡ false → b .dormant ≡ false → outcome r ≡ awake b e
+pub box-awake : (b : BallBox) (e : Event) (r : Stepped)
+    → StepPromise b e r
+    → good b ≡ true
+    → aboveSeven e ≡ false
+    → b .dormant ≡ false
+    → outcome r ≡ awake b e
 box-awake = awake-step
 
-pub box-asleep : (b : BallBox) (e : Event) (r : Stepped) → StepPromise b e r → good b ≡ true → aboveSeven e ≡ false → b .dormant ≡ true → outcome r ≡ asleep b e
+pub box-asleep : (b : BallBox) (e : Event) (r : Stepped)
+    → StepPromise b e r
+    → good b ≡ true
+    → aboveSeven e ≡ false
+    → b .dormant ≡ true
+    → outcome r ≡ asleep b e
 box-asleep = asleep-step
 
 -- "each report has the manual's bytes": those of the table, from the encoder, and in a run of the box those of what was latched
-pub encoded : (f : Format) (r : Report) (before after : List ℕ) (a : Encoded) → accepted f r ≡ true → sizeOf f ≤ length before → EncodePromise (letterOf f) r before a after → (a ≡ Written (sizeOf f)) × (after ≡ bytesOf f r ++ drop (sizeOf f) before)
+pub encoded : (f : Format) (r : Report) (before after : List ℕ) (a : Encoded)
+    → accepted f r ≡ true
+    → sizeOf f ≤ length before
+    → EncodePromise (letterOf f) r before a after
+    → (a ≡ Written (sizeOf f))
+    × (after ≡ bytesOf f r ++ drop (sizeOf f) before)
 encoded = accepted-written
 
-pub in-a-run : (b : BallBox) (events : List Event) (run : List Stepped) → good b ≡ true → bytesLeft b ≡ false → RunPromise b events run → wordsGiven run ≡ passageWords messageBytes (passagesOf b nothing events) ++ partWords messageBytes (goingAfter b nothing events)
+pub in-a-run : (b : BallBox) (events : List Event) (run : List Stepped)
+    → good b ≡ true
+    → bytesLeft b ≡ false
+    → RunPromise b events run
+    → wordsGiven run ≡ passageWords messageBytes (passagesOf b nothing events) ++ partWords messageBytes (goingAfter b nothing events)
 in-a-run = run-passages
 
 -- "reading them with a ready reader gives back the report, less the button Microsoft's format doesn't carry"
-pub read-back : (letter : ℕ) (p : Report) (before after : List ℕ) (e : Encoded) (steps : List Read) → EncodePromise letter p before e after → refusalOf e ≡ success → StepsPromise (ready letter) (take (lengthOf e) after) steps → (answers steps ≡ replicate (lengthOf e - 1) answer.Nothing ++ answer.Report (carriedBy letter p) ∷ []) × (readerAfter (ready letter) steps ≡ ready letter)
+pub read-back : (letter : ℕ) (p : Report) (before after : List ℕ) (e : Encoded) (steps : List Read)
+    → EncodePromise letter p before e after
+    → refusalOf e ≡ success
+    → StepsPromise (ready letter) (take (lengthOf e) after) steps
+    → (answers steps ≡ replicate (lengthOf e - 1) answer.Nothing ++ answer.Report (carriedBy letter p) ∷ [])
+    × (readerAfter (ready letter) steps ≡ ready letter)
 read-back = there.there
 
-pub read-back-at-once : (letter : ℕ) (p : Report) (before after : List ℕ) (e : Encoded) (out written : List ℤ) (a : Reading) → EncodePromise letter p before e after → refusalOf e ≡ success → 5 ≤ length out → ReadPromise (ready letter) (take (lengthOf e) after) out a written → whole a written ≡ whole (record { refusal = success; next = ready letter; taken = lengthOf e; reports = 1; dropped = 0 }) (fiveOf (carriedBy letter p) ++ drop 5 out)
-read-back-at-once = there.there-read
+pub read-back-at-once : (letter : ℕ) (p : Report) (before after : List ℕ) (e : Encoded) (out written : List ℤ) (a : Reading)
+    → EncodePromise letter p before e after
+    → refusalOf e ≡ success
+    → 5 ≤ length out
+    → ReadPromise (ready letter) (take (lengthOf e) after) out a written
+    → (a ≡ record { refusal = success; next = ready letter; taken = lengthOf e; reports = 1; dropped = 0 })
+    × (written ≡ fiveOf (carriedBy letter p) ++ drop 5 out)
+read-back-at-once letter p before after e out written a encoded ok room read =
+    let h = there.there-read letter p before after e out written a encoded ok room read in
+    (ap (λ (l : Long). l .reading) h, ap (λ (l : Long). l .out) h)
 
 -- "what was read, encoded again, gives the same bytes, except a minus zero": `settledBy` sets a minus zero's sign bit and changes nothing else
-pub encoded-again : (r : Reader) (w : ℕ) (s : Read) (p : Report) (before after : List ℕ) (e : Encoded) → readers.good r ≡ true → reader.StepPromise r w s → s .answer ≡ answer.Report p → sizeBy (r .format) ≤ length before → EncodePromise (r .format) p before e after → (refusalOf e ≡ success) × (lengthOf e ≡ sizeBy (r .format)) × (after ≡ settledBy (r .format) (keptIn r ++ w ∷ []) ++ drop (sizeBy (r .format)) before)
+pub encoded-again : (r : Reader) (w : ℕ) (s : Read) (p : Report) (before after : List ℕ) (e : Encoded)
+    → readers.good r ≡ true
+    → reader.StepPromise r w s
+    → s .answer ≡ answer.Report p
+    → sizeBy (r .format) ≤ length before
+    → EncodePromise (r .format) p before e after
+    → (refusalOf e ≡ success)
+    × (lengthOf e ≡ sizeBy (r .format))
+    × (after ≡ settledBy (r .format) (keptIn r ++ w ∷ []) ++ drop (sizeBy (r .format)) before)
 encoded-again = back.back
 
 -- "from which follows: bytes in plus kept before equal bytes in reports plus dropped plus kept after"
-pub word-counts : (r : Reader) (w : ℕ) (s : Read) → reader.StepPromise r w s → s .refusal ≡ 0 → byteIn w + r .count ≡ sizeBy (r .format) * reportsIn (s .answer) + droppedIn (s .answer) + s .next .count
+pub word-counts : (r : Reader) (w : ℕ) (s : Read)
+    → reader.StepPromise r w s
+    → s .refusal ≡ success
+    → byteIn w + r .count ≡ sizeBy (r .format) * reportsIn (s .answer) + droppedIn (s .answer) + s .next .count
 word-counts = counting.step-counts
 
-pub line-counts : (r : Reader) (words : List ℕ) (out : List ℤ) (a : Reading) (after : List ℤ) → ReadPromise r words out a after → bytesIn (take (a .taken) words) + r .count ≡ sizeBy (r .format) * a .reports + a .dropped + a .next .count
+pub line-counts : (r : Reader) (words : List ℕ) (out : List ℤ) (a : Reading) (after : List ℤ)
+    → ReadPromise r words out a after
+    → bytesIn (take (a .taken) words) + r .count ≡ sizeBy (r .format) * a .reports + a .dropped + a .next .count
 line-counts = counting.read-counts

@@ -1,12 +1,11 @@
 -- "Four useless programs have to be caught": what meets the promises is none of them.
 use Prim.Native.Nat.{ℕ, zero, suc, _+_, _-_, _*_, _≤_, zero-le}
-use mathlib.Core.Path.{_≡_, refl, sym, _∙_, ap}
-use mathlib.Core.Bool.{Bool, true, false}
-use mathlib.Core.List.{List, [], _∷_}
+use mathlib.Core.Path.{_≡_, sym, _∙_, ap}
+use mathlib.Core.Bool.{true}
+use mathlib.Core.List.{List, [], _∷_, List·Memᴰ·head, List·Memᴰ·tail}
 use native.Mathlib.Omega.{arith}
-use borrow.Author.Tests.{leb-true, leb-false}
 use lib.ListN.{take, getD, List·getD-eq-default}
-use lib.Dec.{leb, lit≤}
+use lib.Dec.{lit≤}
 use lib.IntN.{ℤ, pos}
 use Rattle.frames.specs.Words.{silence}
 use Rattle.wire.specs.Line.{letterOf, sizeBy}
@@ -17,7 +16,6 @@ use Rattle.wire.specs.Promises.{EncodePromise}
 use Rattle.wire.specs.declared.Report.{Report}
 use Rattle.wire.specs.declared.Encoded.{Encoded}
 use Rattle.wire.specs.declared.Format.the-variants.{Mm, Microsoft}
-use Rattle.reader.specs.Good as readers
 use Rattle.reader.specs.Line.{Long}
 use Rattle.reader.specs.Counts.{bytesIn}
 use Rattle.reader.specs.Promises as reader
@@ -27,7 +25,7 @@ use Rattle.reader.specs.declared.NewReader.{NewReader}
 use Rattle.reader.specs.declared.Read.{Read}
 use Rattle.reader.specs.declared.Reading.{Reading}
 use Rattle.reader.specs.declared.Answer.the-variants as answer
-use Rattle.reader.proofs.Refusals.{bad-state, bad-word, takes-line-words}
+use Rattle.reader.proofs.Refusals.{step-refusals}
 use Rattle.reader.proofs.Useless.{skipping-the-rest}
 use Rattle.ballbox.specs.Good as boxes
 use Rattle.ballbox.specs.Promises as box
@@ -36,7 +34,7 @@ use Rattle.ballbox.specs.declared.Event.{Event}
 use Rattle.ballbox.specs.declared.Event.the-variants.{Slot}
 use Rattle.ballbox.specs.declared.Stepped.{Stepped}
 use Rattle.ballbox.proofs.Useless.{not-only-silence}
-use Rattle.demands.specs.Figures.{p4, p5}
+use Rattle.demands.specs.Figures.{figures}
 use Rattle.demands.specs.Demand2.{line-counts}
 use Rattle.demands.specs.Worked.{marked-S}
 
@@ -47,12 +45,17 @@ pub record Encoder : Type 0 where
 
 -- it meets the promise, for every letter, report and buffer
 abbrev pub Keeps : Encoder → Type 0
-Keeps e = (letter : ℕ) (r : Report) (before : List ℕ) → EncodePromise letter r before (e .answer letter r before) (e .buffer letter r before)
+Keeps e =
+    (letter : ℕ) (r : Report) (before : List ℕ)
+    → EncodePromise letter r before (e .answer letter r before) (e .buffer letter r before)
 
 -- "an encoder with one fixed report (2, p4 against p5)": of the reports that it accepts it writes the same bytes
 abbrev pub Fixed : Encoder → Type 0
 Fixed e =
-    (letter : ℕ) (r s : Report) (before : List ℕ) → refusalOf (e .answer letter r before) ≡ success → refusalOf (e .answer letter s before) ≡ success → e .buffer letter r before ≡ e .buffer letter s before
+    (letter : ℕ) (r s : Report) (before : List ℕ)
+    → refusalOf (e .answer letter r before) ≡ success
+    → refusalOf (e .answer letter s before) ≡ success
+    → e .buffer letter r before ≡ e .buffer letter s before
 
 pub no-fixed-encoder : (e : Encoder) → Keeps e → Fixed e → ⊥
 no-fixed-encoder e keeps fixed =
@@ -60,8 +63,8 @@ no-fixed-encoder e keeps fixed =
     let r : Report = report 4 (pos 5) (pos 3) in
     let s : Report = report 0 (pos 0) (pos 128) in
     let letter = letterOf Microsoft in
-    let a = p4 room (e .buffer letter r room) (e .answer letter r room) (lit≤ tt) (keeps letter r room) in
-    let b = p5 room (e .buffer letter s room) (e .answer letter s room) (lit≤ tt) (keeps letter s room) in
+    let a = figures .p4 .written room (e .buffer letter r room) (e .answer letter r room) (lit≤ tt) (keeps letter r room) in
+    let b = figures .p5 .written room (e .buffer letter s room) (e .answer letter s room) (lit≤ tt) (keeps letter s room) in
     let same = fixed letter r s room (ap refusalOf (a .0)) (ap refusalOf (b .0)) in
     let z : _≡_ {A = ℕ} 0x6C 0x48 = ap first (sym (a .1) ∙ same ∙ b .1) in
     omega arith
@@ -83,28 +86,41 @@ stepsBy : ReaderProgram → Reader → List ℕ → List Read
 stepsBy p r [] = []
 stepsBy p r (w ∷ words) = p .step r w ∷ stepsBy p (p .step r w .next) words
 
-steps-kept : (p : ReaderProgram) → KeepsReading p → (r : Reader) (words : List ℕ) → StepsPromise r words (stepsBy p r words)
+steps-kept : (p : ReaderProgram)
+    → KeepsReading p
+    → (r : Reader) (words : List ℕ)
+    → StepsPromise r words (stepsBy p r words)
 unfolding stepsBy StepsPromise
 steps-kept p k r [] = tt
 steps-kept p k r (w ∷ words) = (k .step r w, steps-kept p k (p .step r w .next) words)
 
 -- a refusal answers nothing
-refused-nothing : (r : Reader) (w : ℕ) (s : Read) → reader.StepPromise r w s → (s .refusal ≡ success → ⊥) → s .answer ≡ answer.Nothing
-refused-nothing r w s p n = go (readers.good r) refl (leb w silence) refl
+refused-nothing : (r : Reader) (w : ℕ) (s : Read)
+    → reader.StepPromise r w s
+    → (s .refusal ≡ success → ⊥)
+    → s .answer ≡ answer.Nothing
+refused-nothing r w s p n = go (step-refusals r w s p)
   where
-    go : (t : Bool) → readers.good r ≡ t → (u : Bool) → leb w silence ≡ u → s .answer ≡ answer.Nothing
-    go false g u e = ap (λ (x : Read). x .answer) (bad-state r w s g p)
-    go true g true e = absurd (n (takes-line-words r w s g (leb-true w silence e) p))
-    go true g false e = ap (λ (x : Read). x .answer) (bad-word r w s g (leb-false w silence e) p)
+    go : reader.StepRefusal r s → s .answer ≡ answer.Nothing
+    go (reader.accepted e) = absurd (n e)
+    go (reader.refusal (List·Memᴰ·head e)) = ap (λ (x : Read). x .answer) e
+    go (reader.refusal (List·Memᴰ·tail (List·Memᴰ·head e))) = ap (λ (x : Read). x .answer) e
 
-all-nothing : (p : ReaderProgram) → KeepsReading p → ((r : Reader) (w : ℕ) → p .step r w .refusal ≡ success → ⊥) → (r : Reader) (words : List ℕ) (i : ℕ) → getD (answers (stepsBy p r words)) i answer.Nothing ≡ answer.Nothing
+all-nothing : (p : ReaderProgram)
+    → KeepsReading p
+    → ((r : Reader) (w : ℕ) → p .step r w .refusal ≡ success → ⊥)
+    → (r : Reader) (words : List ℕ) (i : ℕ)
+    → getD (answers (stepsBy p r words)) i answer.Nothing ≡ answer.Nothing
 unfolding stepsBy
 all-nothing p k n r [] i = List·getD-eq-default [] answer.Nothing (zero-le {n = i})
 all-nothing p k n r (w ∷ words) zero = refused-nothing r w (p .step r w) (k .step r w) (n r w)
 all-nothing p k n r (w ∷ words) (suc i) = all-nothing p k n (p .step r w .next) words i
 
 -- "a reader that refuses everything (3 shuts it out, over 2's reports)": of the words of a box, with a stretch replaced, it would hand out nothing
-pub no-refusing-reader : (p : ReaderProgram) → KeepsReading p → ((r : Reader) (w : ℕ) → p .step r w .refusal ≡ success → ⊥) → ⊥
+pub no-refusing-reader : (p : ReaderProgram)
+    → KeepsReading p
+    → ((r : Reader) (w : ℕ) → p .step r w .refusal ≡ success → ⊥)
+    → ⊥
 no-refusing-reader p k n =
     let a = p .fresh (letterOf Mm) in
     let words : List ℕ = 0x90 ∷ 0x9A ∷ 0x7F ∷ 0xFF ∷ 0x9C ∷ 0x00 ∷ 0x00 ∷ [] in
@@ -113,14 +129,22 @@ no-refusing-reader p k n =
     let z : _≡_ {A = ℕ} 0 1 = cc in
     omega arith
 
--- "a box that sends only silence (2, Slot)"
-pub no-silent-box : (step : BallBox → Event → Stepped) → ((b : BallBox) (e : Event) → box.StepPromise b e (step b e)) → ((b : BallBox) → boxes.good b ≡ true → box.sentWords (step b Slot .sent) ≡ silence ∷ []) → ⊥
+-- "a box that sends only silence (2, Slot)": one by which every good box that is asked by Slot sends 257
+pub no-silent-box : (step : BallBox → Event → Stepped)
+    → ((b : BallBox) (e : Event) → box.StepPromise b e (step b e))
+    → ((b : BallBox) → boxes.good b ≡ true → box.sentWords (step b Slot .sent) ≡ silence ∷ [])
+    → ⊥
 no-silent-box = not-only-silence
 
 -- "a long read that reads its first report and skips the rest (2, since every word's answer is fixed)"
-pub no-skipping-read : (read : Reader → List ℕ → List ℤ → Long) → ((r : Reader) (words : List ℕ) (out : List ℤ) → reader.ReadPromise r words out (read r words out .reading) (read r words out .out)) → ((r : Reader) (words : List ℕ) (out : List ℤ) → read r words out .reading .reports ≤ 1) → ⊥
+pub no-skipping-read : (read : Reader → List ℕ → List ℤ → Long)
+    → ((r : Reader) (words : List ℕ) (out : List ℤ) → reader.ReadPromise r words out (read r words out .reading) (read r words out .out))
+    → ((r : Reader) (words : List ℕ) (out : List ℤ) → read r words out .reading .reports ≤ 1)
+    → ⊥
 no-skipping-read = skipping-the-rest
 
 -- "A made-up dropped count is caught by 2": it is what is left of the bytes
-pub no-made-up-count : (r : Reader) (words : List ℕ) (out : List ℤ) (a : Reading) (after : List ℤ) → reader.ReadPromise r words out a after → a .dropped ≡ bytesIn (take (a .taken) words) + r .count - (sizeBy (r .format) * a .reports + a .next .count)
+pub no-made-up-count : (r : Reader) (words : List ℕ) (out : List ℤ) (a : Reading) (after : List ℤ)
+    → reader.ReadPromise r words out a after
+    → a .dropped ≡ bytesIn (take (a .taken) words) + r .count - (sizeBy (r .format) * a .reports + a .next .count)
 no-made-up-count r words out a after p = let e = line-counts r words out a after p in omega arith

@@ -129,14 +129,13 @@ fn at_line(said: Said) -> Turn
 }
 
 impl Lister {
-    // Whether it keeps its rules: no line too many, five bytes at most, a good reader (a bad one refuses even a silence).
+    // Whether it keeps its rules: no line too many, five bytes at most, a good reader.
     pub(crate) fn good(self) -> bool
         ensures { λ r. ⌜ r ≡ good self ⌝ }
     {
         let place = self.place;
         let reader = place.reader;
-        let silent = reader.step(257);
-        (place.line <= MOST_LINES) & (self.count <= 5) & (silent.refusal == 0)
+        (place.line <= MOST_LINES) & (self.count <= 5) & reader.good()
     }
 
     // The opening, where nothing has been written yet.

@@ -1,17 +1,15 @@
--- The lines, the bytes, and the reader by its answer to a silence.
+-- The lines, the bytes, and the reader by its own test.
 use borrow.Author.Needs.{needs}
-use Rattle.reader.proofs.Permitted.{step-is}
 use Rattle.listing.specs.Machine.{good}
-use Rattle.listing.proofs.Letters.{silence-good}
 use Rattle.listing.proofs.Lister.good.Statement.{statement}
 use Rattle.listing.proofs.Lister.good.Tie as tie
 
-step-requires : tie.Need-step-requires
-step-requires c κs = search needs
+good-requires : tie.Need-good-requires
+good-requires c κs = search needs
 
 returns : tie.Need-returns
 unfolding good
-returns c = rw (step-is (c .before .before .before .before .before .before .args .self .place .reader) 257 (c .before .before .before .step .result) (c .before .before .before .step .ensures), silence-good)
+returns c = rw (c .good2 .ensures)
 
 pub good-spec : {M : Type 1} → statement M
-good-spec = tie.close (tie.spec step-requires returns)
+good-spec = tie.close (tie.spec good-requires returns)

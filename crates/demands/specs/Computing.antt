@@ -1,0 +1,23 @@
+-- All that figures and worked runs compute with: what says `unfolding computing` sees through the rules of the box and of the reader, and what they rest on.
+use lib.Count.{ones, onesIn}
+use Rattle.numbers.specs.Signed.{held, heldSum}
+use Rattle.numbers.specs.Parity.{withParity}
+use Rattle.frames.specs.Sender.{passagesOver, goingOver}
+use Rattle.wire.specs.Digits.{digit, undigit}
+use Rattle.wire.specs.Table.{rowsV, bytesV, rowsA, bytesB, rowsW, bytesW, bytesBy}
+use Rattle.wire.specs.Reading.{readW}
+use Rattle.reader.proofs.Computing as reader
+use Rattle.ballbox.specs.Box.{freshBox, goingFrom}
+use Rattle.ballbox.specs.Motion.{counted, placedAt, placed, movedBy, apart, hasMoved}
+use Rattle.ballbox.specs.Latching.{limits, limited, movement, taken, cleared, latchedReport, latched, withSecond, secondLatched}
+use Rattle.ballbox.specs.Commands.{commandOf, obeyed}
+use Rattle.ballbox.specs.Events.{onButtons, latching, withByteReady, after, nextByte, sending, dropped, onHost, awake}
+use Rattle.ballbox.specs.Good.{good, goodSettings, goodTrack, goodGoing}
+use Rattle.ballbox.specs.Promises.{stepOf}
+use Rattle.history.specs.Runs.{sentAs, answerTo, answersTo}
+use Rattle.history.specs.History.{toldBy}
+use Rattle.history.specs.Asked.{onlyAsks}
+
+unfoldable pub computing : Unit {0}
+unfolding reader.computing ones onesIn held heldSum withParity digit undigit rowsV bytesV rowsA bytesB rowsW bytesW bytesBy readW freshBox goingFrom counted placedAt placed movedBy apart hasMoved limits limited movement taken cleared latchedReport latched withSecond secondLatched commandOf obeyed onButtons latching withByteReady after nextByte sending dropped onHost awake good goodSettings goodTrack goodGoing stepOf passagesOver goingOver sentAs answerTo answersTo toldBy onlyAsks
+computing = tt
