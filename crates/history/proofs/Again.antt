@@ -23,7 +23,8 @@ use Rattle.ballbox.specs.declared.Event.the-variants.{Motion, Buttons, Host, Sl
 use Rattle.ballbox.proofs.Remembering.{remembered-length}
 use Rattle.ballbox.proofs.Parts.{parts}
 use Rattle.history.specs.History.{latchedNow, begun, pairedAt, paired, isFive, replying, toldBy, nextBox, passagesOf, goingAfter}
-use Rattle.history.specs.Presses.{empties, hostsPass, allHosts, noneEmpties, noHost, changeTo, noting, shownIn, shownBy, Shows, ShowsIn, NextShows, ShownAgain}
+use Rattle.history.specs.Asked.{hostsPass, allHosts}
+use Rattle.history.specs.Presses.{empties, noneEmpties, noHost, changeTo, noting, shownIn, shownBy, Shows, ShowsIn, NextShows, ShownAgain}
 use Rattle.history.proofs.Slots.{not-yet}
 use Rattle.history.proofs.Bridge.{told-is}
 use Rattle.history.proofs.Showing.{first-shown}

@@ -10,7 +10,7 @@ use borrow.Author.Tests.{eqb-true, eqb-false}
 use Rattle.frames.specs.Passages.{UnderWay, nothing, first}
 use Rattle.frames.specs.Sender.{told, sentOne, brokenOff, passagesOver, goingOver}
 use Rattle.frames.proofs.Passages.{sound-append}
-use Rattle.numbers.proofs.Choices.{cases, or-else}
+use Rattle.numbers.proofs.Choices.{cases, or-else, both}
 use Rattle.numbers.proofs.Tested.{left, right}
 use Rattle.wire.specs.Line.{letterOf}
 use Rattle.wire.specs.Messages.{Latched, Message, report, reply, messageBytes, HeldBy, SoundIn, SoundEnd}
@@ -33,7 +33,7 @@ use Rattle.ballbox.proofs.Goodness.{stepped-good}
 use Rattle.ballbox.proofs.Refusals.{ruled}
 use Rattle.ballbox.proofs.Obeying.{dropped-settings, dropped-awake}
 use Rattle.history.specs.History.{formatOf, latchedNow, begun, pairedAt, paired, isFive, whenAwake, toldBy, nextBox, passagesOf, goingAfter}
-use Rattle.history.specs.Asked.{asks, onlyAsks}
+use Rattle.history.specs.Asked.{allHosts, asks, onlyAsks}
 use Rattle.history.proofs.Carries.{Alike, Carries}
 use Rattle.history.proofs.Slots.{latched-carries, not-yet, five-is, pair-accepted, pairs}
 use Rattle.history.proofs.Bridge.{step-sends, told-is, buttons-line}
@@ -220,9 +220,19 @@ asked-step f b e g a h =
 
 -- over every list of such events
 pub asked-sound : (f : Format) (b : BallBox) (g : UnderWay Message) (events : List Event) → onlyAsks events ≡ true → SetTo f b g → SoundIn f (passagesOf b g events) × SoundEnd f (goingAfter b g events)
-unfolding onlyAsks passagesOver goingOver
+unfolding allHosts passagesOver goingOver
 asked-sound f b g [] a h = (tt, h .sound)
 asked-sound f b g (e ∷ events) a h =
     let s = asked-step f b e g (left (asks e) (onlyAsks events) a) h in
     let r = asked-sound f (nextBox b e) (toldBy b e g .going) events (right (asks e) (onlyAsks events) a) (s .1) in
     (sound-append messageBytes (HeldBy f) (toldBy b e g .passages) (passagesOf (nextBox b e) (toldBy b e g .going) events) (s .0) (r .0), r .1)
+
+-- events whose bytes of the host's pass one test pass another
+pub hosts-by : (P Q : ℕ → Bool) → ((byte : ℕ) → P byte ≡ true → Q byte ≡ true) → (events : List Event) → allHosts P events ≡ true → allHosts Q events ≡ true
+unfolding allHosts
+hosts-by P Q by [] h = refl
+hosts-by P Q by (Motion dx dy ∷ events) h = hosts-by P Q by events h
+hosts-by P Q by (Buttons n ∷ events) h = hosts-by P Q by events h
+hosts-by P Q by (Host byte ∷ events) h = both (Q byte) (allHosts Q events) (by byte (left (P byte) (allHosts P events) h)) (hosts-by P Q by events (right (P byte) (allHosts P events) h))
+hosts-by P Q by (Slot ∷ events) h = hosts-by P Q by events h
+hosts-by P Q by (Period ∷ events) h = hosts-by P Q by events h

@@ -2,7 +2,7 @@
 use Prim.Native.Nat.{ℕ, zero, suc, _+_, _-_, _*_, _≤_, _<_}
 use mathlib.Core.Path.{_≡_, refl, sym, _∙_, ap}
 use mathlib.Core.Bool.{Bool, true, false, not, cond, _&&_}
-use mathlib.Core.List.{List, [], _∷_, _++_, append-assoc, append-nil}
+use mathlib.Core.List.{List, [], _∷_, _++_, map, append-assoc, append-nil}
 use native.Mathlib.Omega.{arith}
 use lib.ListN.{length, take, drop, length-append}
 use lib.IntN.{ℤ}
@@ -11,10 +11,14 @@ use lib.Dec.{eqb, leb}
 use borrow.Author.Tests.{leb-true, leb-false, ltb-true, ltb-false, lt-leb, not-true}
 use Rattle.numbers.proofs.Choices.{cases}
 use Rattle.numbers.proofs.Tested.{left, right}
-use Rattle.frames.specs.Passages.{Passage, UnderWay, nothing, first, finishedBy}
+use Rattle.frames.specs.Passages.{Passage, silent, finished, broken, UnderWay, nothing, first, Sub, none, gone, stays}
 use Rattle.frames.specs.Sender.{told, sentOne, passagesOver, goingOver}
 use Rattle.frames.proofs.Passages.{finished-append}
-use Rattle.wire.specs.Messages.{Latched, Message, report, reply, messageBytes}
+use Rattle.wire.specs.Holds.{carried}
+use Rattle.wire.specs.Messages.{Message, report, reply, messageBytes, finishedReports}
+use Rattle.wire.specs.declared.Report.{Report}
+use Rattle.wire.specs.declared.Format.{Format}
+use Rattle.wire.specs.declared.Format.the-variants.{Mm, Microsoft, Absolute, Relative, FiveByte, ThreeByte, Hexadecimal}
 use Rattle.ballbox.specs.Box as box
 use Rattle.ballbox.specs.Presses.{remembered, full}
 use Rattle.ballbox.specs.Latching.{latched, secondLatched}
@@ -32,12 +36,13 @@ use Rattle.ballbox.specs.declared.Stepped.{Stepped}
 use Rattle.ballbox.proofs.Goodness.{stepped-good}
 use Rattle.ballbox.proofs.Remembering.{remembered-length}
 use Rattle.ballbox.proofs.Parts.{parts}
+use Rattle.ballbox.proofs.Pressing.{idle-shows-none}
 use Rattle.ballbox.proofs.Refusals.{ruled}
 use Rattle.ballbox.proofs.Obeying.{dropped-settings, dropped-awake}
 use Rattle.history.specs.Runs.{RunPromise}
 use Rattle.history.specs.History.{whenAwake, toldBy, nextBox, passagesOf, goingAfter}
-use Rattle.history.specs.Asked.{asks}
-use Rattle.history.specs.Presses.{empties, hostsPass, allHosts, noneEmpties, changeTo, changesIn, inPlaceOfLast, noting, statesOver, noNinth, neverNinth, shownIn, shownBy, boxAfter, lastBox}
+use Rattle.history.specs.Asked.{hostsPass, allHosts, asks}
+use Rattle.history.specs.Presses.{NoReport, nothing-going, a-reply, empties, noneEmpties, changeTo, changesIn, inPlaceOfLast, noting, statesOver, noNinth, neverNinth, shownIn, shownBy, boxAfter, lastBox}
 use Rattle.history.proofs.Carries.{Carries}
 use Rattle.history.proofs.Bridge.{step-sends, told-is}
 use Rattle.history.proofs.Asking.{refused-next, refused-told}
@@ -50,6 +55,11 @@ pub record Streams (b : BallBox) (g : UnderWay Message) : Type 0 where
   pub stream : isStream (b .settings .mode) ≡ true
   pub carries : Carries b g
   pub showing : Showing b g
+
+pub streams-from : (b : BallBox) (g : UnderWay Message) → good b ≡ true → b .dormant ≡ false → isStream (b .settings .mode) ≡ true → NoReport b g → Streams b g
+streams-from b g k d m (nothing-going e) = record { good = k; awake = d; stream = m; carries = e; showing = idle-shows-none b k e }
+streams-from b g k d m (a-reply n bytes e l short h) =
+    record { good = k; awake = d; stream = m; carries = (e, record { left = l; sendable = short; awake = d }); showing = h }
 
 -- it stays awake in a stream mode
 pub record Listens (b : BallBox) : Type 0 where
@@ -286,3 +296,37 @@ first-stay b g (e ∷ events) front j h a few l =
   where
     eight : (b : BallBox) → good b ≡ true → full (b .memory) ≡ true → 8 ≤ length (remembered (b .memory))
     eight b g f = omega (arith, remembered-length (b .memory) (parts b g .memory), leb-true 8 (b .memory .count) f)
+
+-- with no change none is a ninth
+pub unchanged-never : (b : BallBox) (events : List Event) → changesIn b events ≡ [] → neverNinth b events ≡ true
+unfolding changesIn neverNinth
+unchanged-never b [] h = refl
+unchanged-never b (e ∷ events) h = go (changeTo b e) refl h (unchanged-never (nextBox b e) events)
+  where
+    go : (c : List ℕ) → changeTo b e ≡ c → changeTo b e ++ changesIn (nextBox b e) events ≡ []
+        → (changesIn (nextBox b e) events ≡ [] → neverNinth (nextBox b e) events ≡ true)
+        → noNinth b (changeTo b e) && neverNinth (nextBox b e) events ≡ true
+    go [] q h rest = rw (q, rest (rw q at h))
+    go (n ∷ more) q h rest = absurd (omega (arith, ap length (rw q at h)))
+
+-- each state that was shown is among the buttons of the finished reports, as a format carries them, in order; but in V, which does not carry M
+carried-buttons : (f : Format) (r : Report) → (f ≡ Microsoft → ⊥) → carried f r .buttons ≡ r .buttons
+carried-buttons Mm r h = refl
+carried-buttons Microsoft r h = absurd (h refl)
+carried-buttons Absolute r h = refl
+carried-buttons Relative r h = refl
+carried-buttons FiveByte r h = refl
+carried-buttons ThreeByte r h = refl
+carried-buttons Hexadecimal r h = refl
+
+pub shown-carried : (f : Format) (passages : List (Passage Message)) → (f ≡ Microsoft → ⊥) → Sub (shownBy passages) (map (λ (r : Report). r .buttons) (finishedReports f passages))
+shown-carried f [] h = none
+shown-carried f (silent ∷ passages) h = shown-carried f passages h
+shown-carried f (finished (report l) ∷ passages) h = go (l .shows) refl (shown-carried f passages h)
+  where
+    go : (t : Bool) → l .shows ≡ t → Sub (shownBy passages) (map (λ (r : Report). r .buttons) (finishedReports f passages))
+        → Sub (shownBy (finished (report l) ∷ passages)) (map (λ (r : Report). r .buttons) (finishedReports f (finished (report l) ∷ passages)))
+    go true e d = rw (e, carried-buttons f (l .report) h) (stays d)
+    go false e d = rw e (gone d)
+shown-carried f (finished (reply bytes) ∷ passages) h = shown-carried f passages h
+shown-carried f (broken n m ∷ passages) h = shown-carried f passages h

@@ -32,7 +32,7 @@ use Rattle.ballbox.proofs.Remembering.{memory-parts, memory-again, showing-good
 use Rattle.ballbox.proofs.Parts.{parts}
 use Rattle.ballbox.proofs.Slots.{latching-busy, latching-wanted, latching-idle, sending-byte, sending-silence, dropped-busy, dropped-idle}
 use Rattle.history.specs.History.{latchedNow, begun, pairedAt, paired, isFive, replying, whenAwake, toldBy, nextBox}
-use Rattle.history.specs.Presses.{empties, hostsPass, changeTo, inPlaceOfLast, noting, shownIn, shownBy}
+use Rattle.history.specs.Presses.{empties, changeTo, inPlaceOfLast, noting, shownIn, shownBy}
 use Rattle.history.proofs.Carries.{Carries, onLine}
 use Rattle.history.proofs.Slots.{bytes-left, pairs, latched-carries, not-yet}
 

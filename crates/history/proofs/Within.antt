@@ -29,8 +29,8 @@ use Rattle.ballbox.specs.declared.Event.the-variants.{Motion, Buttons, Host, Sl
 use Rattle.ballbox.proofs.Remembering.{remembered-length}
 use Rattle.ballbox.proofs.Parts.{parts}
 use Rattle.history.specs.History.{formatOf, latchedNow, begun, pairedAt, paired, isFive, whenAwake, toldBy, nextBox, passagesOf}
-use Rattle.history.specs.Asked.{asks}
-use Rattle.history.specs.Presses.{empties, hostsPass, allHosts, noHost, changeTo, inPlaceOfLast, noting, shownIn, shownBy, slotsIn}
+use Rattle.history.specs.Asked.{hostsPass, allHosts, asks}
+use Rattle.history.specs.Presses.{empties, noHost, changeTo, inPlaceOfLast, noting, shownIn, shownBy, slotsIn}
 use Rattle.history.proofs.Slots.{known-format, not-yet}
 use Rattle.history.proofs.Bridge.{told-is}
 use Rattle.history.proofs.Asking.{refused-told, step-alike}

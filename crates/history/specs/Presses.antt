@@ -1,36 +1,39 @@
 -- Presses in a run: the button states that are to be shown, and those that its reports showed.
-use Prim.Native.Nat.{ℕ, _+_}
+use Prim.Native.Nat.{ℕ, _+_, _≤_, _<_}
 use mathlib.Core.Path.{_≡_}
 use mathlib.Core.Bool.{Bool, true, false, not, cond, _&&_, _||_}
 use mathlib.Core.List.{List, [], _∷_, _++_}
+use lib.ListN.{length}
 use lib.Dec.{eqb, leb}
 use Rattle.frames.specs.Passages.{Passage, silent, finished, broken, UnderWay, nothing, first, finishedBy}
+use Rattle.wire.specs.Table.{five}
 use Rattle.wire.specs.Messages.{Latched, Message, report, reply}
 use Rattle.ballbox.specs.Box.{modeD}
 use Rattle.ballbox.specs.Presses.{full}
 use Rattle.ballbox.specs.Commands.{isFormat, isStream, letterP, letterd}
+use Rattle.ballbox.specs.Events.{bytesLeft}
 use Rattle.ballbox.specs.declared.BallBox.{BallBox}
 use Rattle.ballbox.specs.declared.Event.{Event}
 use Rattle.ballbox.specs.declared.Event.the-variants.{Motion, Buttons, Host, Slot, Period}
 use Rattle.ballbox.specs.declared.Stepped.{Stepped}
 use Rattle.history.specs.History.{nextBox}
+use Rattle.history.specs.Asked.{allHosts}
+
+-- of the box no report is going: nothing is, or a reply of at most three bytes, of which n have gone
+pub data NoReport (b : BallBox) : UnderWay Message → Type 0 where
+  nothing-going : bytesLeft b ≡ false → NoReport b nothing
+  a-reply : (n : ℕ) (bytes : List ℕ)
+      → b .going ≡ record { length = length bytes; sent = n; bytes = five bytes }
+      → n < length bytes
+      → length bytes ≤ 3
+      → b .memory .showing ≡ false
+      → NoReport b (first n (reply bytes))
 
 -- "D, P, `d` and the format commands empty the memory": every other byte of the host's leaves it
 abbrev pub empties : ℕ → Bool
 empties byte = isFormat byte || eqb byte modeD || eqb byte letterP || eqb byte letterd
 
 -- events of which none empties the memory; of which none is a byte of the host's; of which such a byte is one of J K L R M Q N O
-abbrev pub hostsPass : (ℕ → Bool) → Event → Bool
-hostsPass test (Motion dx dy) = true
-hostsPass test (Buttons n) = true
-hostsPass test (Host byte) = test byte
-hostsPass test Slot = true
-hostsPass test Period = true
-
-unfoldable pub allHosts : (ℕ → Bool) → List Event → Bool
-allHosts test [] = true
-allHosts test (e ∷ events) = hostsPass test e && allHosts test events
-
 abbrev pub noneEmpties : List Event → Bool
 noneEmpties events = allHosts (λ byte. not (empties byte)) events
 
