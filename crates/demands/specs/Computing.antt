@@ -11,7 +11,7 @@ use Rattle.ballbox.specs.Box.{freshBox, goingFrom}
 use Rattle.ballbox.specs.Presses.{remembered, remembering, toShow, showingFirst, shown, hidden}
 use Rattle.ballbox.specs.Motion.{counted, placedAt, placed, movedBy, apart, hasMoved}
 use Rattle.ballbox.specs.Latching.{limits, limited, movement, taken, cleared, latchedReport, latched, withSecond, secondLatched}
-use Rattle.ballbox.specs.Commands.{commandOf, obeyed}
+use Rattle.ballbox.specs.Commands.{commandOf, codeByte, obeyed}
 use Rattle.ballbox.specs.Events.{onButtons, latching, withByteReady, after, memoryAfter, nextByte, sending, dropped, onHost, awake}
 use Rattle.ballbox.specs.Good.{good, goodSettings, goodTrack, goodGoing, goodMemory}
 use Rattle.ballbox.specs.Promises.{stepOf}
@@ -21,5 +21,5 @@ use Rattle.history.specs.Asked.{allHosts}
 use Rattle.history.specs.Presses.{changesIn, statesOver, neverNinth, slotsIn, boxAfter, lastBox}
 
 unfoldable pub computing : Unit {0}
-unfolding reader.computing ones onesIn held heldSum withParity digit undigit rowsV bytesV rowsA bytesB rowsW bytesW bytesBy readW freshBox goingFrom counted placedAt placed movedBy apart hasMoved limits limited movement taken cleared latchedReport latched withSecond secondLatched commandOf obeyed onButtons latching withByteReady after memoryAfter nextByte sending dropped onHost awake good goodSettings goodTrack goodGoing goodMemory remembered remembering toShow showingFirst shown hidden stepOf passagesOver goingOver sentAs answerTo answersTo toldBy allHosts changesIn statesOver neverNinth slotsIn boxAfter lastBox
+unfolding reader.computing ones onesIn held heldSum withParity digit undigit rowsV bytesV rowsA bytesB rowsW bytesW bytesBy readW freshBox goingFrom counted placedAt placed movedBy apart hasMoved limits limited movement taken cleared latchedReport latched withSecond secondLatched commandOf codeByte obeyed onButtons latching withByteReady after memoryAfter nextByte sending dropped onHost awake good goodSettings goodTrack goodGoing goodMemory remembered remembering toShow showingFirst shown hidden stepOf passagesOver goingOver sentAs answerTo answersTo toldBy allHosts changesIn statesOver neverNinth slotsIn boxAfter lastBox
 computing = tt

@@ -6,6 +6,7 @@ pub mod Demand3
 pub mod Presses
 pub mod Computing
 pub mod Worked
+pub mod Taps
 pub mod Said
 pub mod Figures
 pub mod Strength
