@@ -7,10 +7,10 @@ use lib.Dec.{ltb, eqb}
 use borrow.Author.Tests.{ltb-false, lt-ltb, le-ltb, eqb-true, eq-eqb, not-true, not-false}
 use Rattle.numbers.proofs.Choices.{or-else, either, both, cases}
 use Rattle.numbers.proofs.Tested.{right}
-use Rattle.wire.specs.Line.{sizeBy}
+use Rattle.wire.specs.Line.{sizeBy, known}
 use Rattle.ballbox.specs.Box.{nothing}
 use Rattle.ballbox.specs.Presses.{anyRemembered, full, none, remembering, showingFirst, shown, hidden}
-use Rattle.ballbox.specs.Commands.{isFormat, isStream}
+use Rattle.ballbox.specs.Commands.{isStream}
 use Rattle.ballbox.specs.Events.{moreBehind, after, memoryAfter}
 use Rattle.ballbox.specs.Good.{goodMemory, showsRightly}
 use Rattle.ballbox.specs.declared.Going.{Going}
@@ -80,7 +80,7 @@ module _ (mode letter : ℕ) (g : Going) (m : Memory) (r : Remembers mode letter
       go false = shown-remembers nothing
 
   -- where nothing is going nothing is shown, whatever is to be sent then
-  pub idle-remembers : (h : Going) → isFormat letter ≡ true → g .length ≡ 0 → Remembers mode letter h m
+  pub idle-remembers : (h : Going) → known letter ≡ true → g .length ≡ 0 → Remembers mode letter h m
   idle-remembers h f z = record { good = r .good; stream = r .stream; shows = rw (unshown (m .showing) (r .shows)) }
     where
       unshown : (t : Bool) → not t || (anyRemembered m && eqb (g .length) (sizeBy letter)) ≡ true → t ≡ false

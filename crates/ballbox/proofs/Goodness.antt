@@ -11,13 +11,13 @@ use borrow.Author.Tests.{ltb-true, ltb-false, lt-ltb, le-leb, eqb-true, not-true
 use Rattle.numbers.proofs.Choices.{both, cases}
 use Rattle.numbers.proofs.Held.{held-inside}
 use Rattle.numbers.proofs.Tested.{left, right}
-use Rattle.wire.specs.Line.{letterOf}
+use Rattle.wire.specs.Line.{letterOf, known, namedBy}
 use Rattle.wire.specs.declared.Format.the-variants.{FiveByte}
 use Rattle.ballbox.specs.Box.{modeD, goingFrom, nothing, freshBox, withTrack, withGoing, withMemory, withDue, withFormat, withMode, withButtons, Step}
 use Rattle.ballbox.specs.Presses.{anyRemembered, none}
 use Rattle.ballbox.specs.Motion.{placedAt, placed, movedBy}
 use Rattle.ballbox.specs.Latching.{cleared, latchedReport, latched, withSecond, secondLatched}
-use Rattle.ballbox.specs.Commands.{isFormat, isStream, commandOf, ack, obeyed}
+use Rattle.ballbox.specs.Commands.{isStream, commandOf, ack, obeyed}
 use Rattle.ballbox.specs.Events.{onButtons, onPeriod, bytesLeft, wanted, latching, secondNow, withByteReady, nextByte, sending, onSlot, dropped, onHost, woken, awake, asleep}
 use Rattle.ballbox.specs.Good.{onPad, goodSettings, goodTrack, goodGoing, goodMemory, good}
 use Rattle.ballbox.specs.Promises.{aboveSeven, stepOf, FreshPromise, StepPromise}
@@ -39,12 +39,12 @@ use Rattle.ballbox.proofs.Parts.{letter-known, mode-known, few, Good, p
 use Rattle.ballbox.proofs.Slots.{ready-plain}
 
 pub fresh-is-good : (b : BallBox) → FreshPromise b → good b ≡ true
-unfolding freshBox good goodSettings goodTrack goodGoing goodMemory
+unfolding freshBox good goodSettings goodTrack goodGoing goodMemory known namedBy
 fresh-is-good b e = ap good e
 
 -- what is set
-set-good : (f m n : ℕ) → isFormat f ≡ true → (isStream m || eqb m modeD) ≡ true → leb n 7 ≡ true → goodSettings (record { format = f; mode = m; buttons = n }) ≡ true
-unfolding goodSettings
+set-good : (f m n : ℕ) → known f ≡ true → (isStream m || eqb m modeD) ≡ true → leb n 7 ≡ true → goodSettings (record { format = f; mode = m; buttons = n }) ≡ true
+unfolding goodSettings known namedBy
 set-good f m n h k l = both _ _ (both _ _ h k) l
 
 -- the positions stay on the pad
@@ -121,7 +121,7 @@ module _ {G : ℕ → Going → Type 0} (b : BallBox) (a : Awake G b) where
   emptied : (d : Bool) → Awake G (withMemory none (withDue d b))
   emptied d = record { settings = a .settings; track = a .track; going = a .going; memory = none-remembers _ _ _; up = a .up }
 
-with-format : (b : BallBox) → Awake Idle b → b .memory ≡ none → (f : ℕ) → isFormat f ≡ true → Awake GoodGoing (withFormat f b)
+with-format : (b : BallBox) → Awake Idle b → b .memory ≡ none → (f : ℕ) → known f ≡ true → Awake GoodGoing (withFormat f b)
 with-format b a e f h =
     record {
       settings = set-good f (b .settings .mode) (b .settings .buttons) h (mode-known (b .settings) (a .settings)) (few (b .settings) (a .settings));

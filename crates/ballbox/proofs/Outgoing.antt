@@ -11,7 +11,7 @@ use borrow.Author.Tests.{leb-true, ltb-false, lt-ltb, le-leb, lt-leb, eqb-true, 
 use Rattle.numbers.proofs.Choices.{or-else, other, either, neither, cases}
 use Rattle.numbers.specs.Signed.{twos}
 use Rattle.numbers.proofs.Tested.{left, right, holds, each-at, each-of}
-use Rattle.wire.specs.Line.{letterOf, namedBy, sizeBy}
+use Rattle.wire.specs.Line.{letterOf, namedBy, sizeBy, known}
 use Rattle.wire.specs.Table.{five, bytesU, bytesBy}
 use Rattle.wire.specs.Reading.{at}
 use Rattle.wire.specs.declared.Format.the-variants.{FiveByte}
@@ -19,13 +19,12 @@ use Rattle.wire.proofs.Letters.{letter-named}
 use Rattle.wire.proofs.Front.{size-between}
 use Rattle.ballbox.specs.Box.{goingFrom, nothing}
 use Rattle.ballbox.specs.Latching.{latchedReport, latched, withSecond}
-use Rattle.ballbox.specs.Commands.{isFormat}
 use Rattle.ballbox.specs.Events.{after}
 use Rattle.ballbox.specs.Good.{sentBelow, lengthKnown, fiveBegun, secondHeld, zeroFrom, restZero, goodGoing}
 use Rattle.ballbox.specs.declared.Pair.{Pair}
 use Rattle.ballbox.specs.declared.Going.{Going}
 use Rattle.ballbox.specs.declared.BallBox.{BallBox}
-use Rattle.ballbox.proofs.Letters.{Lettered, known, unknown, lettered}
+use Rattle.ballbox.proofs.Letters.{Lettered, named, unnamed, lettered}
 use Rattle.ballbox.proofs.Accepting.{bytes-by-length}
 
 -- the rules of what is going
@@ -167,15 +166,15 @@ second-sendable letter p g o l u s =
     record { below = l; known = o .known; second = rw (s, or-true); zero = rw all }
 
 -- a report is latched, and none of it is sent
-size-by : (letter : ℕ) → Lettered letter → isFormat letter ≡ true → 3 ≤ sizeBy letter
+size-by : (letter : ℕ) → Lettered letter → known letter ≡ true → 3 ≤ sizeBy letter
 unfolding sizeBy
-size-by letter (known f e) h = rw (e, letter-named f) (size-between f .0)
-size-by letter (unknown e none) h = absurd (holds (sym none ∙ h))
+size-by letter (named f e) h = rw (e, letter-named f) (size-between f .0)
+size-by letter (unnamed e none) h = absurd (holds (sym none ∙ h))
 
-pub size-known : (letter : ℕ) → isFormat letter ≡ true → 3 ≤ sizeBy letter
+pub size-known : (letter : ℕ) → known letter ≡ true → 3 ≤ sizeBy letter
 size-known letter = size-by letter (lettered letter)
 
-pub latched-sendable : (b : BallBox) → isFormat (b .settings .format) ≡ true → Sendable (b .settings .format) (latched b .going)
+pub latched-sendable : (b : BallBox) → known (b .settings .format) ≡ true → Sendable (b .settings .format) (latched b .going)
 unfolding latched latchedReport goingFrom bytesBy namedBy bytesU twos
 latched-sendable b h =
     let l = b .settings .format in

@@ -7,12 +7,12 @@ use lib.Dec.{leb, eqb}
 use borrow.Author.Tests.{leb-true, eqb-true}
 use Rattle.numbers.proofs.Choices.{or-else, cases}
 use Rattle.numbers.proofs.Tested.{left, right}
-use Rattle.wire.specs.Line.{sizeBy}
+use Rattle.wire.specs.Line.{sizeBy, known}
 use Rattle.wire.proofs.Letters.{at-most-five}
 use Rattle.ballbox.specs.Box.{modeD, goingFrom}
 use Rattle.ballbox.specs.Presses.{toShow}
 use Rattle.ballbox.specs.Latching.{latched, secondLatched, withSecond}
-use Rattle.ballbox.specs.Commands.{isFormat, isStream}
+use Rattle.ballbox.specs.Commands.{isStream}
 use Rattle.ballbox.specs.Events.{bytesLeft, wanted, latching, secondNow, withByteReady}
 use Rattle.ballbox.specs.Good.{good, goodSettings, goodTrack, goodGoing, dormantRightly, goodMemory, remembersRightly, showsRightly}
 use Rattle.ballbox.specs.declared.Settings.{Settings}
@@ -23,21 +23,21 @@ use Rattle.ballbox.proofs.Outgoing.{GoodGoing, going-parts, going-again
 
 -- what is set
 module _ (s : Settings) (h : goodSettings s ≡ true) where
-  pub letter-known : isFormat (s .format) ≡ true
+  pub letter-known : known (s .format) ≡ true
   unfolding goodSettings
   letter-known =
-      left (isFormat (s .format)) (isStream (s .mode) || eqb (s .mode) modeD)
-      (left (isFormat (s .format) && (isStream (s .mode) || eqb (s .mode) modeD)) (leb (s .buttons) 7) h)
+      left (known (s .format)) (isStream (s .mode) || eqb (s .mode) modeD)
+      (left (known (s .format) && (isStream (s .mode) || eqb (s .mode) modeD)) (leb (s .buttons) 7) h)
 
   pub mode-known : (isStream (s .mode) || eqb (s .mode) modeD) ≡ true
   unfolding goodSettings
   mode-known =
-      right (isFormat (s .format)) (isStream (s .mode) || eqb (s .mode) modeD)
-      (left (isFormat (s .format) && (isStream (s .mode) || eqb (s .mode) modeD)) (leb (s .buttons) 7) h)
+      right (known (s .format)) (isStream (s .mode) || eqb (s .mode) modeD)
+      (left (known (s .format) && (isStream (s .mode) || eqb (s .mode) modeD)) (leb (s .buttons) 7) h)
 
   pub few : leb (s .buttons) 7 ≡ true
   unfolding goodSettings
-  few = right (isFormat (s .format) && (isStream (s .mode) || eqb (s .mode) modeD)) (leb (s .buttons) 7) h
+  few = right (known (s .format) && (isStream (s .mode) || eqb (s .mode) modeD)) (leb (s .buttons) 7) h
 
 -- U's second pair leaves the count of bytes sent
 pub ready-sent : (b : BallBox) → withByteReady b .going .sent ≡ b .going .sent

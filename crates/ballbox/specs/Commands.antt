@@ -3,7 +3,7 @@ use Prim.Native.Nat.{ℕ, _+_, _*_}
 use mathlib.Core.Bool.{Bool, true, false, cond, _||_}
 use mathlib.Core.List.{List, [], _∷_}
 use lib.Dec.{eqb}
-use Rattle.wire.specs.Line.{letterOf, namedBy, ofNamed}
+use Rattle.wire.specs.Line.{letterOf, namedBy, ofNamed, known}
 use Rattle.wire.specs.declared.Format.{Format}
 use Rattle.wire.specs.declared.Format.the-variants.{Mm, Microsoft, Absolute, Relative, FiveByte, ThreeByte, Hexadecimal}
 use Rattle.ballbox.specs.Box.{goingFrom, modeO, modeD, withFormat, withMode, withTrack, withGoing, withMemory, withDue, withDormant}
@@ -32,12 +32,6 @@ byte05 = 0x05
 abbrev pub letterd : ℕ
 letterd = 0x64
 
--- "A B S T U V W"
-abbrev pub isFormat : ℕ → Bool
-isFormat b =
-    eqb b (letterOf Absolute) || eqb b (letterOf Relative) || eqb b (letterOf Mm) || eqb b (letterOf ThreeByte) ||
-    eqb b (letterOf FiveByte) || eqb b (letterOf Microsoft) || eqb b (letterOf Hexadecimal)
-
 -- "J K L R M Q N": the modes in which the report interval counts; "000 prints M as 40H; ASCII decides, 4DH"
 abbrev pub isTimed : ℕ → Bool
 isTimed b = eqb b 0x4A || eqb b 0x4B || eqb b 0x4C || eqb b 0x52 || eqb b 0x4D || eqb b 0x51 || eqb b 0x4E
@@ -50,7 +44,7 @@ isStream b = isTimed b || eqb b modeO
 -- due"; "Space: ACK"; "`f`: one byte"; "`t`: format letter, mode letter"; "05H: buttons, 0, 0"; "`d`: dormant"; "The rest are ignored"
 unfoldable pub commandOf : ℕ → Command
 commandOf b =
-    cond (isFormat b) (SetFormat b)
+    cond (known b) (SetFormat b)
     (cond (isStream b) (SetStream b)
     (cond (eqb b modeD) SetPrompt
     (cond (eqb b letterP) AskReport
@@ -67,7 +61,7 @@ asksForReports b = isStream b || eqb b modeD || eqb b letterP
 -- the bytes that are not "the rest"
 abbrev pub isCommand : ℕ → Bool
 isCommand b =
-    isFormat b || isStream b || eqb b modeD || eqb b letterP || eqb b space || eqb b letterf || eqb b lettert || eqb b byte05 || eqb b letterd
+    known b || isStream b || eqb b modeD || eqb b letterP || eqb b space || eqb b letterf || eqb b lettert || eqb b byte05 || eqb b letterd
 
 -- "ACK (06H)"
 abbrev pub ack : List ℕ

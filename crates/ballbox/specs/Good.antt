@@ -5,13 +5,13 @@ use lib.Dec.{eqb, ltb, leb}
 use lib.IntN.{pos}
 use lib.ListN.{length}
 use Rattle.numbers.specs.Tests.{each}
-use Rattle.wire.specs.Line.{letterOf, sizeBy}
+use Rattle.wire.specs.Line.{letterOf, sizeBy, known}
 use Rattle.wire.specs.Holds.{_to_, within}
 use Rattle.wire.specs.Reading.{at}
 use Rattle.wire.specs.declared.Format.the-variants.{FiveByte}
 use Rattle.ballbox.specs.Box.{modeD}
 use Rattle.ballbox.specs.Presses.{anyRemembered}
-use Rattle.ballbox.specs.Commands.{isFormat, isStream}
+use Rattle.ballbox.specs.Commands.{isStream}
 use Rattle.ballbox.specs.declared.Pair.{Pair}
 use Rattle.ballbox.specs.declared.Settings.{Settings}
 use Rattle.ballbox.specs.declared.Track.{Track}
@@ -21,7 +21,7 @@ use Rattle.ballbox.specs.declared.BallBox.{BallBox}
 
 -- "letters and modes as above; buttons 0-7"
 unfoldable pub goodSettings : Settings → Bool
-goodSettings s = isFormat (s .format) && (isStream (s .mode) || eqb (s .mode) modeD) && leb (s .buttons) 7
+goodSettings s = known (s .format) && (isStream (s .mode) || eqb (s .mode) modeD) && leb (s .buttons) 7
 
 -- "positions 0-4095"
 abbrev pub onPad : Pair → Bool

@@ -5,7 +5,7 @@ ghost use mathlib.Core.List.{[], _∷_};
 ghost use Rattle.ballbox.specs.Box.{modeD, withFormat, withMode, withTrack, withGoing, withMemory, withDue, withDormant};
 ghost use Rattle.ballbox.specs.Presses.{none};
 ghost use Rattle.ballbox.specs.Latching.{cleared};
-ghost use Rattle.ballbox.specs.Commands.{isFormat, isTimed, isStream, commandOf, codeByte, obeyed};
+ghost use Rattle.ballbox.specs.Commands.{isTimed, isStream, commandOf, codeByte, obeyed};
 use crate::BallBox;
 use crate::Command;
 use crate::FORMAT_A;
@@ -49,18 +49,6 @@ const MODE_Q: u8 = b'Q';
 const MODE_N: u8 = b'N';
 
 pub(crate) const ACK: u8 = 6;
-
-pub(crate) fn is_format(letter: u8) -> bool
-    ensures { λ r. ⌜ r ≡ isFormat letter ⌝ }
-{
-    (letter == FORMAT_A)
-        | (letter == FORMAT_B)
-        | (letter == FORMAT_S)
-        | (letter == FORMAT_T)
-        | (letter == FORMAT_U)
-        | (letter == FORMAT_V)
-        | (letter == FORMAT_W)
-}
 
 pub(crate) fn is_timed(mode: u8) -> bool
     ensures { λ r. ⌜ r ≡ isTimed mode ⌝ }

@@ -10,7 +10,6 @@ use crate::Memory;
 use crate::Pair;
 use crate::Settings;
 use crate::Track;
-use crate::commands::is_format;
 use crate::commands::is_stream;
 use crate::presses::PLACES;
 
@@ -19,7 +18,7 @@ impl Settings {
     fn good(self) -> bool
         ensures { λ r. ⌜ r ≡ goodSettings self ⌝ }
     {
-        is_format(self.format)
+        wire::known(self.format)
             & (is_stream(self.mode) | (self.mode == MODE_D))
             & (self.buttons <= MOST_BUTTONS)
     }

@@ -12,7 +12,7 @@ use Rattle.frames.specs.Sender.{told, sentOne, brokenOff, passagesOver, goingOv
 use Rattle.frames.proofs.Passages.{sound-append}
 use Rattle.numbers.proofs.Choices.{cases, or-else, both}
 use Rattle.numbers.proofs.Tested.{left, right}
-use Rattle.wire.specs.Line.{letterOf}
+use Rattle.wire.specs.Line.{letterOf, namedBy, known}
 use Rattle.wire.specs.Messages.{Latched, Message, report, reply, messageBytes, HeldBy, SoundIn, SoundEnd}
 use Rattle.wire.specs.declared.Format.{Format}
 use Rattle.wire.specs.declared.Format.the-variants.{FiveByte}
@@ -129,7 +129,7 @@ byte-asks : (n : ℕ) → Asking (commandOf n) → (byte : ℕ) → eqb byte n �
 byte-asks n h byte e = rw (eqb-true byte n e) h
 
 asking-command : (byte : ℕ) → asksForReports byte ≡ true → Asking (commandOf byte)
-unfolding commandOf
+unfolding commandOf known namedBy
 asking-command byte =
     or-else _ _
     (or-else _ _

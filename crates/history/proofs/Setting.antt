@@ -3,7 +3,7 @@ use mathlib.Core.Path.{_≡_, refl, _∙_, ap}
 use mathlib.Core.Bool.{Bool, true, false, cond}
 use mathlib.Core.List.{[], _∷_}
 use Rattle.frames.specs.Words.{break}
-use Rattle.wire.specs.Line.{letterOf}
+use Rattle.wire.specs.Line.{letterOf, namedBy, known}
 use Rattle.frames.specs.Passages.{nothing}
 use Rattle.wire.specs.declared.Format.{Format}
 use Rattle.wire.specs.declared.Format.the-variants.{Mm, Microsoft, Absolute, Relative, FiveByte, ThreeByte, Hexadecimal}
@@ -22,7 +22,7 @@ use Rattle.history.proofs.Hosts.{none-left}
 use Rattle.history.proofs.Asking.{SetTo, dropped-alike}
 
 sets-format : (f : Format) → commandOf (letterOf f) ≡ SetFormat (letterOf f)
-unfolding commandOf
+unfolding commandOf known namedBy
 sets-format Mm = refl
 sets-format Microsoft = refl
 sets-format Absolute = refl

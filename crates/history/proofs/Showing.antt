@@ -11,13 +11,13 @@ use Rattle.numbers.proofs.Choices.{cases, neither}
 use Rattle.numbers.proofs.Tested.{holds, left, right}
 use Rattle.frames.specs.Passages.{UnderWay, nothing, first}
 use Rattle.frames.specs.Sender.{sentOne, brokenOff}
-use Rattle.wire.specs.Line.{letterOf}
+use Rattle.wire.specs.Line.{letterOf, known}
 use Rattle.wire.specs.Messages.{Latched, Message, report, reply, messageBytes}
 use Rattle.wire.specs.declared.Format.the-variants.{FiveByte}
 use Rattle.ballbox.specs.Box.{modeD}
 use Rattle.ballbox.specs.Presses.{remembered, anyRemembered, full, remembering, toShow, showingFirst, shown, hidden}
 use Rattle.ballbox.specs.Latching.{latched, latchedReport, secondLatched}
-use Rattle.ballbox.specs.Commands.{isFormat, isStream, letterP, space, letterf, lettert, byte05, letterd, commandOf, replyTo, obeyed}
+use Rattle.ballbox.specs.Commands.{isStream, letterP, space, letterf, lettert, byte05, letterd, commandOf, replyTo, obeyed}
 use Rattle.ballbox.specs.Events.{bytesLeft, wanted, latching, secondNow, withByteReady, memoryAfter, nextByte, sending, onSlot, dropped, onHost, onButtons, onPeriod, awake}
 use Rattle.ballbox.specs.Good.{good, goodMemory}
 use Rattle.ballbox.specs.Promises.{aboveSeven, stepOf}
@@ -230,9 +230,9 @@ Kept Ignored = Unit {0}
 pub kept-command : (byte : ℕ) → empties byte ≡ false → Kept (commandOf byte)
 unfolding commandOf
 kept-command byte h =
-    let three = neither (isFormat byte || eqb byte modeD || eqb byte letterP) (eqb byte letterd) h in
-    let two = neither (isFormat byte || eqb byte modeD) (eqb byte letterP) (three .0) in
-    let one = neither (isFormat byte) (eqb byte modeD) (two .0) in
+    let three = neither (known byte || eqb byte modeD || eqb byte letterP) (eqb byte letterd) h in
+    let two = neither (known byte || eqb byte modeD) (eqb byte letterP) (three .0) in
+    let one = neither (known byte) (eqb byte modeD) (two .0) in
     rw (one .0, one .1, two .1, three .1)
     (cases Kept (isStream byte) (λ e. e)
     (λ _. cases Kept (eqb byte space) (λ _. tt)

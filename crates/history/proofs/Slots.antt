@@ -11,7 +11,7 @@ use Rattle.numbers.proofs.Tested.{holds, left, right}
 use Rattle.frames.specs.Passages.{UnderWay, nothing, first, partWords}
 use Rattle.frames.specs.Sender.{sentOne}
 use Rattle.frames.proofs.Sender.{nextWord, sends}
-use Rattle.wire.specs.Line.{letterOf, namedBy, ofNamed}
+use Rattle.wire.specs.Line.{letterOf, namedBy, ofNamed, known}
 use Rattle.wire.specs.Table.{bytesOf, five, bytesU}
 use Rattle.wire.specs.Reading.{at}
 use Rattle.wire.specs.Holds.{accepted, acceptedBy}
@@ -25,14 +25,13 @@ use Rattle.wire.proofs.Codec.{bytes-length}
 use Rattle.wire.proofs.Codec.Accepted.{parts, parts-accepted}
 use Rattle.ballbox.specs.Box.{goingFrom}
 use Rattle.ballbox.specs.Latching.{movement, taken, secondOnly, withSecond, secondLatched, latched, latchedReport}
-use Rattle.ballbox.specs.Commands.{isFormat}
 use Rattle.ballbox.specs.Events.{bytesLeft, wanted, secondNow, withByteReady, after, nextByte, onSlot}
 use Rattle.ballbox.specs.Good.{good}
 use Rattle.ballbox.specs.declared.BallBox.{BallBox}
 use Rattle.ballbox.specs.declared.Going.{Going}
 use Rattle.ballbox.specs.declared.Track.{Track}
 use Rattle.ballbox.specs.declared.Pair.{Pair}
-use Rattle.ballbox.proofs.Letters.{Lettered, known, unknown, lettered}
+use Rattle.ballbox.proofs.Letters.{Lettered, named, unnamed, lettered}
 use Rattle.ballbox.proofs.Accepting.{second-within, latched-accepted}
 use Rattle.ballbox.proofs.Slots.{latching-busy, latching-wanted, latching-idle, sending-byte, sending-silence}
 use Rattle.ballbox.proofs.Parts.{letter-known, parts as good-parts, good-shown}
@@ -152,9 +151,9 @@ slot-busy b n m h =
     rw (latching-busy b e, sending-byte b e) (next-sends b n m h)
 
 -- the format of a good box is one of the table
-format-in : (l : ℕ) → Lettered l → isFormat l ≡ true → l ≡ letterOf (ofNamed FiveByte (λ f. f) (namedBy l))
-format-in l (known f e) h = rw (e, letter-named f)
-format-in l (unknown e none) h = absurd (holds (sym none ∙ h))
+format-in : (l : ℕ) → Lettered l → known l ≡ true → l ≡ letterOf (ofNamed FiveByte (λ f. f) (namedBy l))
+format-in l (named f e) h = rw (e, letter-named f)
+format-in l (unnamed e none) h = absurd (holds (sym none ∙ h))
 
 pub known-format : (b : BallBox) → good b ≡ true → b .settings .format ≡ letterOf (formatOf b)
 known-format b g =

@@ -5,12 +5,13 @@ use mathlib.Core.Bool.{Bool, true, false, not, cond, _&&_, _||_}
 use mathlib.Core.List.{List, [], _∷_, _++_}
 use lib.ListN.{length}
 use lib.Dec.{eqb, leb}
+use Rattle.wire.specs.Line.{known}
 use Rattle.frames.specs.Passages.{Passage, silent, finished, broken, UnderWay, nothing, first, finishedBy}
 use Rattle.wire.specs.Table.{five}
 use Rattle.wire.specs.Messages.{Latched, Message, report, reply}
 use Rattle.ballbox.specs.Box.{modeD}
 use Rattle.ballbox.specs.Presses.{full}
-use Rattle.ballbox.specs.Commands.{isFormat, isStream, letterP, letterd}
+use Rattle.ballbox.specs.Commands.{isStream, letterP, letterd}
 use Rattle.ballbox.specs.Events.{bytesLeft}
 use Rattle.ballbox.specs.declared.BallBox.{BallBox}
 use Rattle.ballbox.specs.declared.Event.{Event}
@@ -31,7 +32,7 @@ pub data NoReport (b : BallBox) : UnderWay Message → Type 0 where
 
 -- "D, P, `d` and the format commands empty the memory": every other byte of the host's leaves it
 abbrev pub empties : ℕ → Bool
-empties byte = isFormat byte || eqb byte modeD || eqb byte letterP || eqb byte letterd
+empties byte = known byte || eqb byte modeD || eqb byte letterP || eqb byte letterd
 
 -- events of which none empties the memory; of which none is a byte of the host's; of which such a byte is one of J K L R M Q N O
 abbrev pub noneEmpties : List Event → Bool
