@@ -33,7 +33,7 @@ fn second_mark() {
     answers(b'S', &words);
 }
 
-// "S, 94 sent, Host R: 256": what is left of the report is lost, and the box has nothing more to send.
+// "S, 94 sent, Host R: 256": what is left of the report is lost with its movement, and another with the same buttons follows.
 fn broken_off() {
     print::say(b"S");
     let b = after(BallBox::fresh(), Event::Host(b'S'));
