@@ -25,11 +25,12 @@ use Rattle.wire.specs.declared.Format.the-variants.{Mm, Microsoft, Absolute, Re
 use Rattle.wire.proofs.Codec.{bytes-length}
 use Rattle.wire.proofs.Codec.Ranges.{wider}
 use Rattle.wire.proofs.Codec.Accepted.{parts-accepted, one-pair}
+use Rattle.ballbox.specs.Presses.{toShow}
 use Rattle.ballbox.specs.Motion.{isA}
 use Rattle.ballbox.specs.Latching.{limits, limited, taken, movement, latchedReport, secondOnly}
 use Rattle.ballbox.specs.declared.Track.{Track}
 use Rattle.ballbox.specs.declared.BallBox.{BallBox}
-use Rattle.ballbox.proofs.Letters.{Lettered, known, unknown, lettered}
+use Rattle.ballbox.proofs.Letters.{Lettered, named, unnamed, lettered}
 
 -- what is limited lies within the limits
 ordered : (a b : Bool) (r s t : Range) → leZ (r .low) (r .high) ≡ true → leZ (s .low) (s .high) ≡ true → leZ (t .low) (t .high) ≡ true → leZ (cond a r (cond b s t) .low) (cond a r (cond b s t) .high) ≡ true
@@ -56,13 +57,13 @@ pair-accepted Hexadecimal n x y p h k = parts-accepted Hexadecimal (report n x y
 
 by-letter : (letter n : ℕ) (x y : ℤ) → n < 8 → within (limits letter) x ≡ true → within (limits letter) y ≡ true → Lettered letter → acceptedBy letter (report n x y) ≡ true
 unfolding acceptedBy
-by-letter letter n x y p h k (known f e) = rw (e, letter-named f) (pair-accepted f n x y p (rw e at h) (rw e at k))
-by-letter letter n x y p h k (unknown e none) = rw e
+by-letter letter n x y p h k (named f e) = rw (e, letter-named f) (pair-accepted f n x y p (rw e at h) (rw e at k))
+by-letter letter n x y p h k (unnamed e none) = rw e
 
 -- what is latched is accepted, whatever the letter
-pub latched-accepted : (b : BallBox) → b .settings .buttons ≤ 7 → acceptedBy (b .settings .format) (latchedReport b) ≡ true
+pub latched-accepted : (b : BallBox) → toShow b ≤ 7 → acceptedBy (b .settings .format) (latchedReport b) ≡ true
 unfolding latchedReport taken
-latched-accepted b p = by-letter (b .settings .format) (b .settings .buttons) _ _ (omega arith) (limited-within _ _) (limited-within _ _) (lettered (b .settings .format))
+latched-accepted b p = by-letter (b .settings .format) (toShow b) _ _ (omega arith) (limited-within _ _) (limited-within _ _) (lettered (b .settings .format))
 
 -- and so is U's second pair
 pub second-within : (v : ℤ) → within (secondRange FiveByte) (limited (letterOf FiveByte) v) ≡ true
@@ -80,8 +81,8 @@ second-accepted t =
 -- the bytes by a letter are as many as the size by it
 length-in : (letter : ℕ) (r : Report) → Lettered letter → length (bytesBy letter r) ≡ sizeBy letter
 unfolding bytesBy sizeBy
-length-in letter r (known f e) = rw (e, letter-named f) (bytes-length f r)
-length-in letter r (unknown e none) = rw e
+length-in letter r (named f e) = rw (e, letter-named f) (bytes-length f r)
+length-in letter r (unnamed e none) = rw e
 
 pub bytes-by-length : (letter : ℕ) (r : Report) → length (bytesBy letter r) ≡ sizeBy letter
 bytes-by-length letter r = length-in letter r (lettered letter)
@@ -105,8 +106,8 @@ known-bytes f r a = ap (λ (e : Encoding). e .buffer) (accepts f r blank a (size
 
 bytes-in : (letter : ℕ) (r : Report) → Lettered letter → acceptedBy letter r ≡ true → encodeOf letter r blank .buffer ≡ five (bytesBy letter r)
 unfolding acceptedBy bytesBy encodeIn
-bytes-in letter r (known f e) a = rw (e, letter-named f) (known-bytes f r (rw (e, letter-named f) at a))
-bytes-in letter r (unknown e none) a = rw e
+bytes-in letter r (named f e) a = rw (e, letter-named f) (known-bytes f r (rw (e, letter-named f) at a))
+bytes-in letter r (unnamed e none) a = rw e
 
 pub encoded-bytes : (letter : ℕ) (r : Report) → acceptedBy letter r ≡ true → encodeOf letter r blank .buffer ≡ five (bytesBy letter r)
 encoded-bytes letter r a = bytes-in letter r (lettered letter) a

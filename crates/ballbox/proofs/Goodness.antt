@@ -1,44 +1,50 @@
 -- A fresh box is good, and a step of a good box gives a good box.
-use Prim.Native.Nat.{ℕ}
-use mathlib.Core.Path.{_≡_, refl, ap, _∙_}
-use mathlib.Core.Bool.{Bool, true, false, not, _&&_, _||_, and-false}
+use Prim.Native.Nat.{ℕ, _+_, _-_, _≤_}
+use mathlib.Core.Path.{_≡_, refl, sym, ap, _∙_}
+use mathlib.Core.List.{List}
+use mathlib.Core.Bool.{Bool, true, false, not, _&&_, _||_, and-false, or-true, or-false}
 use native.Mathlib.Omega.{arith}
 use lib.Dec.{leb, ltb, eqb}
+use lib.ListN.{length}
 use lib.IntN.{ℤ, pos, _+ℤ_}
-use borrow.Author.Tests.{ltb-true, ltb-false, lt-ltb, le-leb, eqb-true}
+use borrow.Author.Tests.{ltb-true, ltb-false, lt-ltb, le-leb, eqb-true, not-true}
 use Rattle.numbers.proofs.Choices.{both, cases}
 use Rattle.numbers.proofs.Held.{held-inside}
 use Rattle.numbers.proofs.Tested.{left, right}
-use Rattle.wire.specs.Line.{letterOf}
+use Rattle.wire.specs.Line.{letterOf, known, namedBy}
 use Rattle.wire.specs.declared.Format.the-variants.{FiveByte}
-use Rattle.ballbox.specs.Box.{modeD, goingFrom, nothing, freshBox, withTrack, withGoing, withDue, withFormat, withMode, withButtons, Step}
+use Rattle.ballbox.specs.Box.{modeD, goingFrom, nothing, freshBox, withTrack, withGoing, withMemory, withDue, withFormat, withMode, withButtons, Step}
+use Rattle.ballbox.specs.Presses.{anyRemembered, none}
 use Rattle.ballbox.specs.Motion.{placedAt, placed, movedBy}
-use Rattle.ballbox.specs.Latching.{cleared, latched, secondLatched}
-use Rattle.ballbox.specs.Commands.{isFormat, isStream, commandOf, ack, obeyed}
-use Rattle.ballbox.specs.Events.{onButtons, onPeriod, bytesLeft, wanted, latching, secondNow, withByteReady, after, nextByte, sending, onSlot, dropped, onHost, woken, awake, asleep}
-use Rattle.ballbox.specs.Good.{onPad, goodSettings, goodTrack, goodGoing, good}
+use Rattle.ballbox.specs.Latching.{cleared, latchedReport, latched, withSecond, secondLatched}
+use Rattle.ballbox.specs.Commands.{isStream, commandOf, ack, obeyed}
+use Rattle.ballbox.specs.Events.{onButtons, onPeriod, bytesLeft, wanted, latching, secondNow, withByteReady, nextByte, sending, onSlot, dropped, onHost, woken, awake, asleep}
+use Rattle.ballbox.specs.Good.{onPad, goodSettings, goodTrack, goodGoing, goodMemory, good}
 use Rattle.ballbox.specs.Promises.{aboveSeven, stepOf, FreshPromise, StepPromise}
 use Rattle.ballbox.specs.declared.Pair.{Pair}
 use Rattle.ballbox.specs.declared.Track.{Track}
 use Rattle.ballbox.specs.declared.Going.{Going}
+use Rattle.ballbox.specs.declared.Memory.{Memory}
 use Rattle.ballbox.specs.declared.BallBox.{BallBox}
 use Rattle.ballbox.specs.declared.Command.{Command}
 use Rattle.ballbox.specs.declared.Command.the-variants.{SetFormat, SetStream, SetPrompt, AskReport, AskAck, AskCode, AskLetters, AskButtons, Sleep, Ignored}
 use Rattle.ballbox.specs.declared.Event.{Event}
 use Rattle.ballbox.specs.declared.Event.the-variants.{Motion, Buttons, Host, Slot, Period}
 use Rattle.ballbox.specs.declared.Stepped.{Stepped}
-use Rattle.ballbox.proofs.Letters.{lettered, Lettering, lettering}
+use Rattle.ballbox.proofs.Letters.{Lettering, lettering}
 use Rattle.ballbox.proofs.Outgoing.{GoodGoing, Idle, idle-good, nothing-idle, left-idle, reply-good, Sendable, after-good, going-sendable, second-sendable, latched-sendable}
+use Rattle.ballbox.proofs.Accepting.{bytes-by-length}
+use Rattle.ballbox.proofs.Beside.{Remembers, none-remembers, remembering-remembers, showing-remembers, hidden-remembers, after-remembers, idle-remembers}
 use Rattle.ballbox.proofs.Parts.{letter-known, mode-known, few, Good, parts, good-again}
 use Rattle.ballbox.proofs.Slots.{ready-plain}
 
 pub fresh-is-good : (b : BallBox) → FreshPromise b → good b ≡ true
-unfolding freshBox good goodSettings goodTrack goodGoing
+unfolding freshBox good goodSettings goodTrack goodGoing goodMemory known namedBy
 fresh-is-good b e = ap good e
 
 -- what is set
-set-good : (f m n : ℕ) → isFormat f ≡ true → (isStream m || eqb m modeD) ≡ true → leb n 7 ≡ true → goodSettings (record { format = f; mode = m; buttons = n }) ≡ true
-unfolding goodSettings
+set-good : (f m n : ℕ) → known f ≡ true → (isStream m || eqb m modeD) ≡ true → leb n 7 ≡ true → goodSettings (record { format = f; mode = m; buttons = n }) ≡ true
+unfolding goodSettings known namedBy
 set-good f m n h k l = both _ _ (both _ _ h k) l
 
 -- the positions stay on the pad
@@ -59,70 +65,116 @@ record Awake (G : ℕ → Going → Type 0) (b : BallBox) : Type 0 where
   settings : goodSettings (b .settings) ≡ true
   track : goodTrack (b .track) ≡ true
   going : G (b .settings .format) (b .going)
+  memory : Remembers (b .settings .mode) (b .settings .format) (b .going) (b .memory)
   up : b .dormant ≡ false
 
 wake : (b : BallBox) → b .dormant ≡ false → Good b → Awake GoodGoing b
-wake b d g = record { settings = g .settings; track = g .track; going = g .going; up = d }
+wake b d g =
+    record {
+      settings = g .settings;
+      track = g .track;
+      going = g .going;
+      memory = record { good = g .memory; stream = rw d at (g .remembers); shows = g .shows };
+      up = d;
+    }
 
 again : (b : BallBox) → Awake GoodGoing b → Good b
-again b a = record { settings = a .settings; track = a .track; going = a .going; sleep = rw (a .up) }
+again b a =
+    let m = a .memory in
+    record { settings = a .settings; track = a .track; going = a .going; sleep = rw (a .up); memory = m .good; remembers = rw (a .up) (m .stream); shows = m .shows }
 
 settled : (b : BallBox) → Awake Idle b → Awake GoodGoing b
-settled b a = record { settings = a .settings; track = a .track; going = idle-good (b .settings .format) (b .going) (a .going); up = a .up }
+settled b a = record { settings = a .settings; track = a .track; going = idle-good (b .settings .format) (b .going) (a .going); memory = a .memory; up = a .up }
 
--- one part of it replaced
+-- one part of it replaced; what is going, with what is remembered beside it
 module _ {G : ℕ → Going → Type 0} (b : BallBox) (a : Awake G b) where
   with-track : (t : Track) → goodTrack t ≡ true → Awake G (withTrack t b)
-  with-track t h = record { settings = a .settings; track = h; going = a .going; up = a .up }
+  with-track t h = record { settings = a .settings; track = h; going = a .going; memory = a .memory; up = a .up }
 
   with-due : (d : Bool) → Awake G (withDue d b)
-  with-due d = record { settings = a .settings; track = a .track; going = a .going; up = a .up }
+  with-due d = record { settings = a .settings; track = a .track; going = a .going; memory = a .memory; up = a .up }
 
-  with-going : {H : ℕ → Going → Type 0} (g : Going) → H (b .settings .format) g → Awake H (withGoing g b)
-  with-going g h = record { settings = a .settings; track = a .track; going = h; up = a .up }
+  with-going : {H : ℕ → Going → Type 0} (g : Going) (m : Memory) → H (b .settings .format) g → Remembers (b .settings .mode) (b .settings .format) g m → Awake H (withMemory m (withGoing g b))
+  with-going g m h r = record { settings = a .settings; track = a .track; going = h; memory = r; up = a .up }
 
-  with-mode : (m : ℕ) → (isStream m || eqb m modeD) ≡ true → Awake G (withMode m b)
-  with-mode m h = record { settings = set-good (b .settings .format) m (b .settings .buttons) (letter-known (b .settings) (a .settings)) h (few (b .settings) (a .settings)); track = a .track; going = a .going; up = a .up }
+  with-mode : (m : ℕ) → (isStream m || eqb m modeD) ≡ true → not (anyRemembered (b .memory)) || isStream m ≡ true → Awake G (withMode m b)
+  with-mode m h s =
+      record {
+        settings = set-good (b .settings .format) m (b .settings .buttons) (letter-known (b .settings) (a .settings)) h (few (b .settings) (a .settings));
+        track = a .track;
+        going = a .going;
+        memory = record { good = a .memory .good; stream = s; shows = a .memory .shows };
+        up = a .up;
+      }
 
   with-buttons : (n : ℕ) → leb n 7 ≡ true → Awake G (withButtons n b)
-  with-buttons n h = record { settings = set-good (b .settings .format) (b .settings .mode) n (letter-known (b .settings) (a .settings)) (mode-known (b .settings) (a .settings)) h; track = a .track; going = a .going; up = a .up }
+  with-buttons n h =
+      record {
+        settings = set-good (b .settings .format) (b .settings .mode) n (letter-known (b .settings) (a .settings)) (mode-known (b .settings) (a .settings)) h;
+        track = a .track;
+        going = a .going;
+        memory = a .memory;
+        up = a .up;
+      }
 
-with-format : (b : BallBox) → Awake Idle b → (f : ℕ) → isFormat f ≡ true → Awake GoodGoing (withFormat f b)
-with-format b a f h = record { settings = set-good f (b .settings .mode) (b .settings .buttons) h (mode-known (b .settings) (a .settings)) (few (b .settings) (a .settings)); track = a .track; going = idle-good f (b .going) (a .going); up = a .up }
+  -- nothing is remembered
+  emptied : (d : Bool) → Awake G (withMemory none (withDue d b))
+  emptied d = record { settings = a .settings; track = a .track; going = a .going; memory = none-remembers _ _ _; up = a .up }
+
+with-format : (b : BallBox) → Awake Idle b → b .memory ≡ none → (f : ℕ) → known f ≡ true → Awake GoodGoing (withFormat f b)
+with-format b a e f h =
+    record {
+      settings = set-good f (b .settings .mode) (b .settings .buttons) h (mode-known (b .settings) (a .settings)) (few (b .settings) (a .settings));
+      track = a .track;
+      going = idle-good f (b .going) (a .going);
+      memory = rw e (none-remembers _ _ _);
+      up = a .up;
+    }
 
 -- the events of a box that is awake
 buttons-good : (b : BallBox) (n : ℕ) → ltb 7 n ≡ false → Awake GoodGoing b → Awake GoodGoing (onButtons n b)
 unfolding onButtons
 buttons-good b n l a =
-    cases (Awake GoodGoing) (eqb n (b .settings .buttons)) (λ e. a)
-    (λ e. with-buttons (withDue _ b) (with-due b a _) n (le-leb n 7 (ltb-false 7 n l)))
+    let s = b .settings in
+    let few = ltb-false 7 n l in
+    let m =
+    cases (Remembers (s .mode) (s .format) (b .going)) (isStream (s .mode))
+    (remembering-remembers (s .mode) (s .format) (b .going) (b .memory) (a .memory) n few)
+    (λ e. a .memory)
+    in
+    cases (Awake GoodGoing) (eqb n (s .buttons)) (λ e. a)
+    (λ e. with-buttons (withMemory _ b) (with-going b a (b .going) _ (a .going) m) n (le-leb n 7 few))
 
 sent-good : (b : BallBox) → Awake Sendable b → Awake GoodGoing (nextByte b .next)
 unfolding nextByte
-sent-good b a = with-going b a (after (b .going)) (after-good (b .settings .format) (b .going) (a .going))
+sent-good b a =
+    let s = b .settings in
+    with-going b a _ _ (after-good (s .format) (b .going) (a .going)) (after-remembers (s .mode) (s .format) (b .going) (b .memory) (a .memory))
 
 ready-good : (b : BallBox) → bytesLeft b ≡ true → Awake GoodGoing b → Awake Sendable (withByteReady b)
-unfolding withByteReady secondLatched
+unfolding withByteReady secondLatched withSecond
 ready-good b l a =
     let f = b .settings .format in
     let u = eqb f (letterOf FiveByte) in
     let third = eqb (b .going .sent) 3 in
     let h = ltb-true (b .going .sent) (b .going .length) l in
+    let m = a .memory in
     cases (Awake Sendable) (secondNow b)
-    (λ e. with-track (withGoing _ b) (with-going b a _ (second-sendable f _ (b .going) (a .going) h (eqb-true _ _ (left u third e)) (eqb-true _ _ (right u third e)))) _ (cleared-good (b .track) (a .track)))
-    (λ e. with-going b a (b .going) (going-sendable f (b .going) (a .going) h))
+    (λ e. with-track (withGoing _ b) (with-going b a _ (b .memory) (second-sendable f _ (b .going) (a .going) h (eqb-true _ _ (left u third e)) (eqb-true _ _ (right u third e))) (record { good = m .good; stream = m .stream; shows = m .shows })) _ (cleared-good (b .track) (a .track)))
+    (λ e. with-going b a (b .going) (b .memory) (going-sendable f (b .going) (a .going) h) m)
 
 latched-good : (b : BallBox) → Awake GoodGoing b → Awake Sendable (latched b)
-unfolding latched
+unfolding latched goingFrom
 latched-good b a =
-    let s = latched-sendable b (lettered (b .settings .format)) (letter-known (b .settings) (a .settings)) in
-    with-due _ (with-track (withGoing _ b) (with-going b a _ s) _ (cleared-good (b .track) (a .track))) false
+    let f = b .settings .format in
+    let s = latched-sendable b (letter-known (b .settings) (a .settings)) in
+    let m = showing-remembers (b .settings .mode) f (b .going) (b .memory) (a .memory) (latched b .going) (bytes-by-length f (latchedReport b)) in
+    with-due _ (with-track _ (with-going b a _ _ s m) _ (cleared-good (b .track) (a .track))) false
 
 -- the first byte of what is latched is there to be sent
 pub latched-left : (b : BallBox) → Good b → bytesLeft (latched b) ≡ true
 latched-left b g =
-    lt-ltb (latched b .going .sent) (latched b .going .length)
-    (latched-sendable b (lettered (b .settings .format)) (letter-known (b .settings) (g .settings)) .below)
+    lt-ltb (latched b .going .sent) (latched b .going .length) (latched-sendable b (letter-known (b .settings) (g .settings)) .below)
 
 -- and is not that of byte 4
 first-plain : (b : BallBox) → withByteReady (latched b) ≡ latched b
@@ -139,23 +191,38 @@ slot-good b a =
 dropped-idle : (b : BallBox) → Awake GoodGoing b → Awake Idle (dropped b)
 unfolding dropped
 dropped-idle b a =
+    let s = b .settings in
     cases (Awake Idle) (bytesLeft b)
-    (λ l. with-going b a nothing (nothing-idle (b .settings .format)))
-    (λ l. with-going b a (b .going) (left-idle (b .settings .format) (b .going) (a .going) l))
+    (λ l. with-going b a nothing _ (nothing-idle (s .format)) (hidden-remembers (s .mode) (s .format) (b .going) (b .memory) (a .memory) nothing))
+    (λ l. with-going b a (b .going) (b .memory) (left-idle (s .format) (b .going) (a .going) l) (a .memory))
 
--- each command
+-- a reply, and each command
+replying-good : (b : BallBox) → Awake Idle b → (bytes : List ℕ) → 1 ≤ length bytes → length bytes ≤ 3 → Good (withGoing (goingFrom bytes) b)
+replying-good b a bytes l k =
+    let s = b .settings in
+    let m = idle-remembers (s .mode) (s .format) (b .going) (b .memory) (a .memory) (goingFrom bytes) (letter-known s (a .settings)) (a .going .length0) in
+    again _ (with-going b a _ (b .memory) (reply-good (s .format) bytes l k) m)
+
 obeyed-good : (c : Command) → Lettering c → (b : BallBox) → Awake Idle b → Good (obeyed c b)
 unfolding obeyed
-obeyed-good (SetFormat f) h b a = again _ (with-format (withTrack (cleared (b .track)) (withDue false b)) (with-track (withDue false b) (with-due b a false) _ (cleared-good (b .track) (a .track))) f h)
-obeyed-good (SetStream m) h b a = again _ (with-mode b (settled b a) m (rw h))
-obeyed-good SetPrompt h b a = again _ (with-mode (withDue false b) (with-due b (settled b a) false) modeD refl)
-obeyed-good AskReport h b a = again _ (with-mode (withDue true b) (with-due b (settled b a) true) modeD refl)
-obeyed-good AskAck h b a = again _ (with-going b a _ (reply-good _ _ (omega arith) (omega arith)))
-obeyed-good AskCode h b a = again _ (with-going b a _ (reply-good _ _ (omega arith) (omega arith)))
-obeyed-good AskLetters h b a = again _ (with-going b a _ (reply-good _ _ (omega arith) (omega arith)))
-obeyed-good AskButtons h b a = again _ (with-going b a _ (reply-good _ _ (omega arith) (omega arith)))
+obeyed-good (SetFormat f) h b a = again _ (with-format (withTrack (cleared (b .track)) (withMemory none (withDue false b))) (with-track _ (emptied b a false) _ (cleared-good (b .track) (a .track))) refl f h)
+obeyed-good (SetStream m) h b a = again _ (with-mode b (settled b a) m (rw h) (rw (h, or-true)))
+obeyed-good SetPrompt h b a = again _ (with-mode (withMemory none (withDue false b)) (settled _ (emptied b a false)) modeD refl refl)
+obeyed-good AskReport h b a = again _ (with-mode (withMemory none (withDue true b)) (settled _ (emptied b a true)) modeD refl refl)
+obeyed-good AskAck h b a = replying-good b a _ (omega arith) (omega arith)
+obeyed-good AskCode h b a = replying-good b a _ (omega arith) (omega arith)
+obeyed-good AskLetters h b a = replying-good b a _ (omega arith) (omega arith)
+obeyed-good AskButtons h b a = replying-good b a _ (omega arith) (omega arith)
 obeyed-good Sleep h b a =
-    record { settings = a .settings; track = a .track; going = settled b a .going; sleep = rw (a .going .length0) }
+    record {
+      settings = a .settings;
+      track = a .track;
+      going = settled b a .going;
+      sleep = rw (a .going .length0);
+      memory = emptied b a false .memory .good;
+      remembers = refl;
+      shows = refl;
+    }
 obeyed-good Ignored h b a = again _ (settled b a)
 
 -- an event, awake or dormant
@@ -167,13 +234,28 @@ awake-good b (Host n) l a = obeyed-good (commandOf n) (lettering n) (dropped b) 
 awake-good b Slot l a = again _ (slot-good b a)
 awake-good b Period l a = again _ (with-due b a _)
 
-asleep-good : (b : BallBox) (e : Event) → Good b → Good (asleep b e .next)
-unfolding asleep woken
-asleep-good b (Motion dx dy) g = g
-asleep-good b (Buttons n) g = g
-asleep-good b (Host n) g = record { settings = g .settings; track = g .track; going = reply-good (b .settings .format) ack (omega arith) (omega arith); sleep = refl }
-asleep-good b Slot g = g
-asleep-good b Period g = g
+woken-good : (b : BallBox) → b .dormant ≡ true → Good b → Good (woken b)
+unfolding woken
+woken-good b d g =
+    let none : not (anyRemembered (b .memory)) ≡ true = sym (or-false _) ∙ (rw d at (g .remembers)) in
+    let unshown : not (b .memory .showing) ≡ true = sym (or-false _) ∙ (rw (not-true (anyRemembered (b .memory)) none) at (g .shows)) in
+    record {
+      settings = g .settings;
+      track = g .track;
+      going = reply-good (b .settings .format) ack (omega arith) (omega arith);
+      sleep = refl;
+      memory = g .memory;
+      remembers = rw none;
+      shows = rw unshown;
+    }
+
+asleep-good : (b : BallBox) (e : Event) → b .dormant ≡ true → Good b → Good (asleep b e .next)
+unfolding asleep
+asleep-good b (Motion dx dy) d g = g
+asleep-good b (Buttons n) d g = g
+asleep-good b (Host n) d g = woken-good b d g
+asleep-good b Slot d g = g
+asleep-good b Period d g = g
 
 pub stepped-good : (b : BallBox) (e : Event) → good b ≡ true → good (stepOf b e .next) ≡ true
 unfolding stepOf
@@ -181,7 +263,7 @@ stepped-good b e g =
     let p = parts b g in
     rw g
     (cases (λ (x : Step). good (x .next) ≡ true) (aboveSeven e) (λ l. g)
-    (λ l. cases (λ (x : Step). good (x .next) ≡ true) (b .dormant) (λ d. good-again _ (asleep-good b e p)) (λ d. good-again _ (awake-good b e l (wake b d p)))))
+    (λ l. cases (λ (x : Step). good (x .next) ≡ true) (b .dormant) (λ d. good-again _ (asleep-good b e d p)) (λ d. good-again _ (awake-good b e l (wake b d p)))))
 
 pub step-stays-good : (b : BallBox) (e : Event) (r : Stepped) → StepPromise b e r → good b ≡ true → good (r .next) ≡ true
 step-stays-good b e r s g = ap (λ (x : Step). good (x .next)) s ∙ stepped-good b e g

@@ -74,7 +74,7 @@ slot-first b w ws =
 pub first-sent : (b : BallBox) (r : Stepped) (w : ℕ) (ws : List ℕ) → good b ≡ true → b .dormant ≡ false → b .going ≡ goingFrom (w ∷ ws) → StepPromise b Slot r → sentWords (r .sent) ≡ w ∷ []
 unfolding awake
 first-sent b r w ws g d e s =
-    let same : b ≡ withGoing (goingFrom (w ∷ ws)) b = λ i. record { settings = b .settings; track = b .track; going = e i; due = b .due; dormant = b .dormant } in
+    let same : b ≡ withGoing (goingFrom (w ∷ ws)) b = λ i. record { settings = b .settings; track = b .track; going = e i; memory = b .memory; due = b .due; dormant = b .dormant } in
     ap (λ (a : Step). a .words) (awake-step b Slot r s g refl d) ∙ (ap (λ (x : BallBox). onSlot x .words) same ∙ slot-first b w ws)
 
 -- a report that is wanted is latched, and its first byte goes out

@@ -1,11 +1,13 @@
 -- The laws of the ball box: its one answer (Answers), the refusals and else the rules (Refusals), good boxes (Goodness), the words (Words),
--- what moved means (Moving), what is latched (Latches), the host's bytes (Obeying), the dormant box (Dormancy), the useless box (Useless)
+-- what moved means (Moving), what is latched (Latches), the host's bytes (Obeying), what is remembered (Pressing), the dormant box (Dormancy), the useless box (Useless)
 -- and wrong answers (Wrong).
--- What these and the functions' proofs share: the letters (Letters), that what is latched is accepted (Accepting), what is going (Outgoing), a good
--- box part by part (Parts), and a slot case by case (Slots).
+-- What these and the functions' proofs share: the letters (Letters), that what is latched is accepted (Accepting), what is going (Outgoing), what
+-- is remembered (Remembering, Beside), a good box part by part (Parts), and a slot case by case (Slots).
 pub mod Letters
+pub mod Remembering
 pub mod Accepting
 pub mod Outgoing
+pub mod Beside
 pub mod Parts
 pub mod Slots
 pub mod Goodness
@@ -15,6 +17,7 @@ pub mod Moving
 pub mod Latches
 pub mod Obeying
 pub mod Words
+pub mod Pressing
 pub mod Dormancy
 pub mod Useless
 pub mod Wrong

@@ -1,16 +1,17 @@
 -- What the host's bytes do: the ignored rest, prompt mode, and the replies.
 use Prim.Native.Nat.{ℕ, _+_, _*_}
 use mathlib.Core.Path.{_≡_, refl, ap, _∙_}
-use mathlib.Core.Bool.{true, false, _||_}
+use mathlib.Core.Bool.{Bool, true, false, cond, _||_}
 use mathlib.Core.List.{List, [], _∷_}
 use lib.Dec.{eqb}
 use borrow.Author.Tests.{eqb-true}
 use Rattle.numbers.proofs.Choices.{other, neither, cases}
 use Rattle.frames.specs.Words.{break}
-use Rattle.wire.specs.Line.{letterOf, namedBy}
+use Rattle.wire.specs.Line.{letterOf, namedBy, known}
 use Rattle.wire.specs.declared.Format.{Format}
-use Rattle.ballbox.specs.Box.{modeD, nothing, goingFrom, withGoing, Step}
-use Rattle.ballbox.specs.Commands.{letterP, space, letterf, lettert, byte05, letterd, isFormat, isStream, commandOf, isCommand, ack, codeOf, codeByte, replyTo, obeyed}
+use Rattle.ballbox.specs.Box.{modeD, nothing, goingFrom, withGoing, withMemory, Step}
+use Rattle.ballbox.specs.Presses.{none, hidden}
+use Rattle.ballbox.specs.Commands.{letterP, space, letterf, lettert, byte05, letterd, isStream, commandOf, isCommand, ack, codeOf, codeByte, replyTo, obeyed}
 use Rattle.ballbox.specs.Events.{gives, quietly, bytesLeft, brokenOff, dropped, onHost, awake}
 use Rattle.ballbox.specs.Good.{good}
 use Rattle.ballbox.specs.Promises.{outcome, StepPromise}
@@ -27,9 +28,9 @@ use Rattle.ballbox.proofs.Refusals.{awake-step}
 use Rattle.ballbox.proofs.Slots.{dropped-busy, dropped-idle}
 
 pub rest-ignored : (n : ℕ) → isCommand n ≡ false → commandOf n ≡ Ignored
-unfolding commandOf
+unfolding commandOf known namedBy
 rest-ignored n h =
-    let a2 = isFormat n || isStream n in
+    let a2 = known n || isStream n in
     let a3 = a2 || eqb n modeD in
     let a4 = a3 || eqb n letterP in
     let a5 = a4 || eqb n space in
@@ -43,7 +44,7 @@ rest-ignored n h =
     let e5 = neither a4 (eqb n space) (e6 .0) in
     let e4 = neither a3 (eqb n letterP) (e5 .0) in
     let e3 = neither a2 (eqb n modeD) (e4 .0) in
-    let e2 = neither (isFormat n) (isStream n) (e3 .0) in
+    let e2 = neither (known n) (isStream n) (e3 .0) in
     rw (e2 .0, e2 .1, e3 .1, e4 .1, e5 .1, e6 .1, e7 .1, e8 .1, e9 .1)
 
 -- a command leaves its reply to be sent, and where it has none what was going
@@ -51,18 +52,34 @@ abbrev pub goingOr : Going → List ℕ → Going
 goingOr g [] = g
 goingOr g (b ∷ bytes) = goingFrom (b ∷ bytes)
 
-pub obeyed-going : (c : Command) (b : BallBox) → obeyed c b .going ≡ goingOr (b .going) (replyTo b c)
+-- it empties the memory, or leaves it
+abbrev pub empties : Command → Bool
+empties (SetFormat f) = true
+empties (SetStream m) = false
+empties SetPrompt = true
+empties AskReport = true
+empties AskAck = false
+empties AskCode = false
+empties AskLetters = false
+empties AskButtons = false
+empties Sleep = true
+empties Ignored = false
+
+pub obeyed-leaves : (c : Command) (b : BallBox) → (obeyed c b .going ≡ goingOr (b .going) (replyTo b c)) × (obeyed c b .memory ≡ cond (empties c) none (b .memory))
 unfolding obeyed
-obeyed-going (SetFormat f) b = refl
-obeyed-going (SetStream m) b = refl
-obeyed-going SetPrompt b = refl
-obeyed-going AskReport b = refl
-obeyed-going AskAck b = refl
-obeyed-going AskCode b = refl
-obeyed-going AskLetters b = refl
-obeyed-going AskButtons b = refl
-obeyed-going Sleep b = refl
-obeyed-going Ignored b = refl
+obeyed-leaves (SetFormat f) b = (refl, refl)
+obeyed-leaves (SetStream m) b = (refl, refl)
+obeyed-leaves SetPrompt b = (refl, refl)
+obeyed-leaves AskReport b = (refl, refl)
+obeyed-leaves AskAck b = (refl, refl)
+obeyed-leaves AskCode b = (refl, refl)
+obeyed-leaves AskLetters b = (refl, refl)
+obeyed-leaves AskButtons b = (refl, refl)
+obeyed-leaves Sleep b = (refl, refl)
+obeyed-leaves Ignored b = (refl, refl)
+
+pub obeyed-going : (c : Command) (b : BallBox) → obeyed c b .going ≡ goingOr (b .going) (replyTo b c)
+obeyed-going c b = obeyed-leaves c b .0
 
 reply-or : (bytes : List ℕ) → goingOr nothing bytes ≡ goingFrom bytes
 unfolding goingFrom
@@ -82,8 +99,8 @@ module _ (b : BallBox) (n : ℕ) (r : Stepped) (s : StepPromise b (Host n) r) (g
   next-is : r .next ≡ obeyed (commandOf n) (dropped b)
   next-is = ap (λ (a : Step). a .next) heard
 
-  -- an ignored byte breaks off and changes nothing else
-  pub ignored-breaks : isCommand n ≡ false → bytesLeft b ≡ true → outcome r ≡ gives (break ∷ []) (withGoing nothing b)
+  -- an ignored byte breaks off and changes nothing else, but that what was broken off shows nothing
+  pub ignored-breaks : isCommand n ≡ false → bytesLeft b ≡ true → outcome r ≡ gives (break ∷ []) (withMemory (hidden (b .memory)) (withGoing nothing b))
   unfolding obeyed
   ignored-breaks h l = rw (l, rest-ignored n h, dropped-busy b l) at heard
 
@@ -108,39 +125,39 @@ prompt-letter b g s =
 module _ (b : BallBox) (r : Stepped) (g : good b ≡ true) (d : b .dormant ≡ false) where
   -- D and P set it
   pub prompt-by-D : StepPromise b (Host modeD) r → (r .next .settings .mode ≡ modeD) × (r .next .due ≡ false)
-  unfolding commandOf obeyed
+  unfolding commandOf obeyed known namedBy
   prompt-by-D s = let e = next-is b modeD r s g d in (ap (λ (x : BallBox). x .settings .mode) e, ap (λ (x : BallBox). x .due) e)
 
   pub prompt-by-P : StepPromise b (Host letterP) r → (r .next .settings .mode ≡ modeD) × (r .next .due ≡ true)
-  unfolding commandOf obeyed
+  unfolding commandOf obeyed known namedBy
   prompt-by-P s = let e = next-is b letterP r s g d in (ap (λ (x : BallBox). x .settings .mode) e, ap (λ (x : BallBox). x .due) e)
 
   -- "Space: ACK."
   pub reply-to-space : StepPromise b (Host space) r → r .next .going ≡ goingFrom ack
-  unfolding commandOf obeyed
+  unfolding commandOf obeyed known namedBy
   reply-to-space s = ap (λ (x : BallBox). x .going) (next-is b space r s g d)
 
   -- "`f`: one byte, 10H plus twice the code"
   pub reply-to-f : (f : Format) → b .settings .format ≡ letterOf f → StepPromise b (Host letterf) r → r .next .going ≡ goingFrom ((0x10 + 2 * codeOf f) ∷ [])
-  unfolding commandOf obeyed codeByte
+  unfolding commandOf obeyed codeByte known namedBy
   reply-to-f f e s =
       ap (λ (x : BallBox). x .going) (next-is b letterf r s g d) ∙
       ap (λ (c : ℕ). goingFrom (c ∷ [])) (ap (λ (x : Settings). codeByte (x .format)) (dropped-settings b) ∙ rw (ap namedBy e ∙ letter-named f))
 
   pub awake-after-f : StepPromise b (Host letterf) r → r .next .dormant ≡ false
-  unfolding commandOf obeyed
+  unfolding commandOf obeyed known namedBy
   awake-after-f s = ap (λ (x : BallBox). x .dormant) (next-is b letterf r s g d) ∙ (dropped-awake b ∙ d)
 
   -- "`t`: format letter, mode letter."
   pub reply-to-t : StepPromise b (Host lettert) r → r .next .going ≡ goingFrom (b .settings .format ∷ b .settings .mode ∷ [])
-  unfolding commandOf obeyed
+  unfolding commandOf obeyed known namedBy
   reply-to-t s =
       ap (λ (x : BallBox). x .going) (next-is b lettert r s g d) ∙
       ap (λ (x : Settings). goingFrom (x .format ∷ x .mode ∷ [])) (dropped-settings b)
 
   -- "05H: buttons, 0, 0."
   pub reply-to-05 : StepPromise b (Host byte05) r → r .next .going ≡ goingFrom (b .settings .buttons ∷ 0 ∷ 0 ∷ [])
-  unfolding commandOf obeyed
+  unfolding commandOf obeyed known namedBy
   reply-to-05 s =
       ap (λ (x : BallBox). x .going) (next-is b byte05 r s g d) ∙
       ap (λ (x : Settings). goingFrom (x .buttons ∷ 0 ∷ 0 ∷ [])) (dropped-settings b)

@@ -11,22 +11,20 @@ use borrow.Author.Tests.{leb-true, ltb-false, lt-ltb, le-leb, lt-leb, eqb-true, 
 use Rattle.numbers.proofs.Choices.{or-else, other, either, neither, cases}
 use Rattle.numbers.specs.Signed.{twos}
 use Rattle.numbers.proofs.Tested.{left, right, holds, each-at, each-of}
-use Rattle.wire.specs.Line.{letterOf, namedBy, sizeBy}
+use Rattle.wire.specs.Line.{letterOf, namedBy, sizeBy, known}
 use Rattle.wire.specs.Table.{five, bytesU, bytesBy}
 use Rattle.wire.specs.Reading.{at}
-use Rattle.wire.specs.declared.Format.{Format}
 use Rattle.wire.specs.declared.Format.the-variants.{FiveByte}
 use Rattle.wire.proofs.Letters.{letter-named}
 use Rattle.wire.proofs.Front.{size-between}
 use Rattle.ballbox.specs.Box.{goingFrom, nothing}
 use Rattle.ballbox.specs.Latching.{latchedReport, latched, withSecond}
-use Rattle.ballbox.specs.Commands.{isFormat}
 use Rattle.ballbox.specs.Events.{after}
 use Rattle.ballbox.specs.Good.{sentBelow, lengthKnown, fiveBegun, secondHeld, zeroFrom, restZero, goodGoing}
 use Rattle.ballbox.specs.declared.Pair.{Pair}
 use Rattle.ballbox.specs.declared.Going.{Going}
 use Rattle.ballbox.specs.declared.BallBox.{BallBox}
-use Rattle.ballbox.proofs.Letters.{Lettered, known, unknown}
+use Rattle.ballbox.proofs.Letters.{Lettered, named, unnamed, lettered}
 use Rattle.ballbox.proofs.Accepting.{bytes-by-length}
 
 -- the rules of what is going
@@ -168,20 +166,23 @@ second-sendable letter p g o l u s =
     record { below = l; known = o .known; second = rw (s, or-true); zero = rw all }
 
 -- a report is latched, and none of it is sent
-size-by : (f : Format) (letter : ℕ) → letter ≡ letterOf f → 3 ≤ sizeBy letter
+size-by : (letter : ℕ) → Lettered letter → known letter ≡ true → 3 ≤ sizeBy letter
 unfolding sizeBy
-size-by f letter e = rw (e, letter-named f) (size-between f .0)
+size-by letter (named f e) h = rw (e, letter-named f) (size-between f .0)
+size-by letter (unnamed e none) h = absurd (holds (sym none ∙ h))
 
-pub latched-sendable : (b : BallBox) → Lettered (b .settings .format) → isFormat (b .settings .format) ≡ true → Sendable (b .settings .format) (latched b .going)
+pub size-known : (letter : ℕ) → known letter ≡ true → 3 ≤ sizeBy letter
+size-known letter = size-by letter (lettered letter)
+
+pub latched-sendable : (b : BallBox) → known (b .settings .format) ≡ true → Sendable (b .settings .format) (latched b .going)
 unfolding latched latchedReport goingFrom bytesBy namedBy bytesU twos
-latched-sendable b (known f e) h =
+latched-sendable b h =
     let l = b .settings .format in
     let bytes = bytesBy l (latchedReport b) in
     let size = bytes-by-length l (latchedReport b) in
     record {
-      below = omega (arith, size, size-by f l e);
+      below = omega (arith, size, size-known l h);
       known = either (leb (length bytes) 3) (eqb (length bytes) (sizeBy l)) (λ n. eq-eqb _ _ size);
       second = either (not (eqb l (letterOf FiveByte)) || false) (eqb (at 3 (five bytes)) 0 && eqb (at 4 (five bytes)) 0) (λ n. rw (eqb-true l (letterOf FiveByte) (not-false _ (neither _ _ n .0))));
       zero = zeros-behind bytes;
     }
-latched-sendable b (unknown e none) h = absurd (holds (sym none ∙ h))

@@ -7,35 +7,37 @@ use lib.Dec.{leb, eqb}
 use borrow.Author.Tests.{leb-true, eqb-true}
 use Rattle.numbers.proofs.Choices.{or-else, cases}
 use Rattle.numbers.proofs.Tested.{left, right}
-use Rattle.wire.specs.Line.{sizeBy}
+use Rattle.wire.specs.Line.{sizeBy, known}
 use Rattle.wire.proofs.Letters.{at-most-five}
 use Rattle.ballbox.specs.Box.{modeD, goingFrom}
+use Rattle.ballbox.specs.Presses.{toShow}
 use Rattle.ballbox.specs.Latching.{latched, secondLatched, withSecond}
-use Rattle.ballbox.specs.Commands.{isFormat, isStream}
+use Rattle.ballbox.specs.Commands.{isStream}
 use Rattle.ballbox.specs.Events.{bytesLeft, wanted, latching, secondNow, withByteReady}
-use Rattle.ballbox.specs.Good.{good, goodSettings, goodTrack, goodGoing, dormantRightly}
+use Rattle.ballbox.specs.Good.{good, goodSettings, goodTrack, goodGoing, dormantRightly, goodMemory, remembersRightly, showsRightly}
 use Rattle.ballbox.specs.declared.Settings.{Settings}
 use Rattle.ballbox.specs.declared.BallBox.{BallBox}
 use Rattle.ballbox.proofs.Accepting.{bytes-by-length}
+use Rattle.ballbox.proofs.Remembering.{shown-small}
 use Rattle.ballbox.proofs.Outgoing.{GoodGoing, going-parts, going-again}
 
 -- what is set
 module _ (s : Settings) (h : goodSettings s ≡ true) where
-  pub letter-known : isFormat (s .format) ≡ true
+  pub letter-known : known (s .format) ≡ true
   unfolding goodSettings
   letter-known =
-      left (isFormat (s .format)) (isStream (s .mode) || eqb (s .mode) modeD)
-      (left (isFormat (s .format) && (isStream (s .mode) || eqb (s .mode) modeD)) (leb (s .buttons) 7) h)
+      left (known (s .format)) (isStream (s .mode) || eqb (s .mode) modeD)
+      (left (known (s .format) && (isStream (s .mode) || eqb (s .mode) modeD)) (leb (s .buttons) 7) h)
 
   pub mode-known : (isStream (s .mode) || eqb (s .mode) modeD) ≡ true
   unfolding goodSettings
   mode-known =
-      right (isFormat (s .format)) (isStream (s .mode) || eqb (s .mode) modeD)
-      (left (isFormat (s .format) && (isStream (s .mode) || eqb (s .mode) modeD)) (leb (s .buttons) 7) h)
+      right (known (s .format)) (isStream (s .mode) || eqb (s .mode) modeD)
+      (left (known (s .format) && (isStream (s .mode) || eqb (s .mode) modeD)) (leb (s .buttons) 7) h)
 
   pub few : leb (s .buttons) 7 ≡ true
   unfolding goodSettings
-  few = right (isFormat (s .format) && (isStream (s .mode) || eqb (s .mode) modeD)) (leb (s .buttons) 7) h
+  few = right (known (s .format) && (isStream (s .mode) || eqb (s .mode) modeD)) (leb (s .buttons) 7) h
 
 -- U's second pair leaves the count of bytes sent
 pub ready-sent : (b : BallBox) → withByteReady b .going .sent ≡ b .going .sent
@@ -48,6 +50,9 @@ pub record Good (b : BallBox) : Type 0 where
   pub track : goodTrack (b .track) ≡ true
   pub going : GoodGoing (b .settings .format) (b .going)
   pub sleep : dormantRightly b ≡ true
+  pub memory : goodMemory (b .memory) ≡ true
+  pub remembers : remembersRightly b ≡ true
+  pub shows : showsRightly (b .settings .format) (b .going) (b .memory) ≡ true
 
 pub parts : (b : BallBox) → good b ≡ true → Good b
 unfolding good
@@ -55,21 +60,35 @@ parts b g =
     let s = goodSettings (b .settings) in
     let t = goodTrack (b .track) in
     let o = goodGoing (b .settings .format) (b .going) in
-    let three = left (s && t && o) (dormantRightly b) g in
+    let d = dormantRightly b in
+    let m = goodMemory (b .memory) in
+    let r = remembersRightly b in
+    let w = showsRightly (b .settings .format) (b .going) (b .memory) in
+    let six = left (s && t && o && d && m && r) w g in
+    let five = left (s && t && o && d && m) r six in
+    let four = left (s && t && o && d) m five in
+    let three = left (s && t && o) d four in
     let two = left (s && t) o three in
     record {
       settings = left s t two;
       track = right s t two;
       going = going-parts (b .settings .format) (b .going) (right (s && t) o three);
-      sleep = right (s && t && o) (dormantRightly b) g;
+      sleep = right (s && t && o) d four;
+      memory = right (s && t && o && d) m five;
+      remembers = right (s && t && o && d && m) r six;
+      shows = right (s && t && o && d && m && r) w g;
     }
 
 pub good-again : (b : BallBox) → Good b → good b ≡ true
 unfolding good
-good-again b p = rw (p .settings, p .track, going-again (b .settings .format) (b .going) (p .going), p .sleep)
+good-again b p = rw (p .settings, p .track, going-again (b .settings .format) (b .going) (p .going), p .sleep, p .memory, p .remembers, p .shows)
 
 pub good-buttons : (b : BallBox) → good b ≡ true → b .settings .buttons ≤ 7
 good-buttons b g = leb-true (b .settings .buttons) 7 (few (b .settings) (parts b g .settings))
+
+-- so are the buttons that a report is to show
+pub good-shown : (b : BallBox) → good b ≡ true → toShow b ≤ 7
+good-shown b g = shown-small b (parts b g .memory) (good-buttons b g)
 
 -- at most five bytes are going, and as many after latching
 pub good-length : (b : BallBox) → good b ≡ true → b .going .length ≤ 5

@@ -4,7 +4,8 @@ use mathlib.Core.Path.{_≡_, ap, _∙_}
 use mathlib.Core.Bool.{Bool, true, false, not, cond, _&&_}
 use mathlib.Core.List.{[], _∷_}
 use Rattle.frames.specs.Words.{break, silence}
-use Rattle.ballbox.specs.Box.{nothing, withGoing}
+use Rattle.ballbox.specs.Box.{nothing, withGoing, withMemory}
+use Rattle.ballbox.specs.Presses.{hidden}
 use Rattle.ballbox.specs.Latching.{latched, secondLatched}
 use Rattle.ballbox.specs.Commands.{commandOf, obeyed}
 use Rattle.ballbox.specs.Events.{gives, quietly, bytesLeft, wanted, latching, secondNow, withByteReady, nextByte, sending, dropped, onHost}
@@ -43,13 +44,13 @@ module _ (b : BallBox) where
   ready-second e = ap (λ (t : Bool). cond t (secondLatched b) b) e
 
   -- bytes are broken off, or none are left
-  pub dropped-busy : bytesLeft b ≡ true → dropped b ≡ withGoing nothing b
+  pub dropped-busy : bytesLeft b ≡ true → dropped b ≡ withMemory (hidden (b .memory)) (withGoing nothing b)
   unfolding dropped
-  dropped-busy l = ap (λ (t : Bool). cond t (withGoing nothing b) b) l
+  dropped-busy l = ap (λ (t : Bool). cond t (withMemory (hidden (b .memory)) (withGoing nothing b)) b) l
 
   pub dropped-idle : bytesLeft b ≡ false → dropped b ≡ b
   unfolding dropped
-  dropped-idle l = ap (λ (t : Bool). cond t (withGoing nothing b) b) l
+  dropped-idle l = ap (λ (t : Bool). cond t (withMemory (hidden (b .memory)) (withGoing nothing b)) b) l
 
   pub host-busy : (n : ℕ) → bytesLeft b ≡ true → onHost n b ≡ gives (break ∷ []) (obeyed (commandOf n) (dropped b))
   unfolding onHost

@@ -6,14 +6,15 @@ use native.Mathlib.Omega.{arith}
 use Rattle.numbers.specs.Bits.{number, bit}
 use Rattle.numbers.specs.Signed.{held}
 use Rattle.frames.specs.Words.{silence}
-use Rattle.wire.specs.Line.{namedBy, sizeBy}
+use Rattle.wire.specs.Line.{namedBy, sizeBy, known}
 use Rattle.wire.specs.Table.{bytesU, bytesBy}
 use Rattle.ballbox.specs.Box.{Step, freshBox, goingFrom}
+use Rattle.ballbox.specs.Presses.{toShow, showingFirst}
 use Rattle.ballbox.specs.Motion.{apart, hasMoved}
 use Rattle.ballbox.specs.Latching.{limits, limited, movement, taken, cleared, latchedReport, latched}
 use Rattle.ballbox.specs.Commands.{letterP, commandOf, obeyed}
-use Rattle.ballbox.specs.Events.{latching, withByteReady, after, nextByte, sending, dropped, onHost, awake}
-use Rattle.ballbox.specs.Good.{good, goodSettings, goodTrack, goodGoing}
+use Rattle.ballbox.specs.Events.{latching, withByteReady, after, memoryAfter, nextByte, sending, dropped, onHost, awake}
+use Rattle.ballbox.specs.Good.{good, goodSettings, goodTrack, goodGoing, goodMemory}
 use Rattle.ballbox.specs.Promises.{sentWords, stepOf, FreshPromise, StepPromise}
 use Rattle.ballbox.specs.declared.BallBox.{BallBox}
 use Rattle.ballbox.specs.declared.Event.{Event}
@@ -23,7 +24,7 @@ use Rattle.ballbox.proofs.Goodness.{fresh-is-good, step-stays-good}
 
 -- a fresh box that is asked for a report sends its first byte at the next slot
 pub report-sent : (b : BallBox) (r s : Stepped) → FreshPromise b → StepPromise b (Host letterP) r → StepPromise (r .next) Slot s → sentWords (s .sent) ≡ 0x87 ∷ []
-unfolding stepOf good goodSettings goodTrack goodGoing freshBox awake onHost commandOf obeyed dropped cleared sending latching withByteReady nextByte after hasMoved apart goingFrom namedBy sizeBy held latched latchedReport bytesBy taken movement limited limits bytesU number bit
+unfolding stepOf good goodSettings goodTrack goodGoing goodMemory freshBox awake onHost commandOf obeyed dropped cleared sending latching withByteReady nextByte after memoryAfter showingFirst toShow hasMoved apart goingFrom namedBy sizeBy held latched latchedReport bytesBy taken movement limited limits bytesU number bit known
 report-sent b r s f p q =
     let e : r .next ≡ stepOf freshBox (Host letterP) .next = ap (λ (a : Step). a .next) p ∙ ap (λ (x : BallBox). stepOf x (Host letterP) .next) f in
     ap (λ (a : Step). a .words) q ∙ ap (λ (x : BallBox). stepOf x Slot .words) e

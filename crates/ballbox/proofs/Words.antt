@@ -11,7 +11,7 @@ use borrow.Author.Tests.{eqb-true, leb-true, le-leb, ltb-true, ltb-false, ne-eqb
 use Rattle.numbers.proofs.Choices.{both, cases}
 use Rattle.numbers.proofs.Tested.{left, holds}
 use Rattle.frames.specs.Words.{silence, lineWords}
-use Rattle.wire.specs.Line.{letterOf, namedBy}
+use Rattle.wire.specs.Line.{letterOf, namedBy, known}
 use Rattle.wire.specs.Table.{bytesOf, bytesBy}
 use Rattle.wire.specs.Holds.{accepted, acceptedBy}
 use Rattle.wire.specs.Reading.{at}
@@ -20,9 +20,10 @@ use Rattle.wire.specs.declared.Format.the-variants.{Mm, Microsoft, Absolute, Re
 use Rattle.wire.specs.declared.Report.{Report}
 use Rattle.wire.proofs.Letters.{letter-named}
 use Rattle.wire.proofs.Codec.{bytes-below}
-use Rattle.ballbox.specs.Box.{freshBox, modeO, modeD, Step, nothing, goingFrom, Bytes, FiveBytes, withGoing}
+use Rattle.ballbox.specs.Box.{freshBox, modeO, modeD, Step, nothing, goingFrom, Bytes, FiveBytes, withGoing, withMemory}
+use Rattle.ballbox.specs.Presses.{hidden}
 use Rattle.ballbox.specs.Latching.{taken, latchedReport, latched, secondOnly, withSecond, secondLatched}
-use Rattle.ballbox.specs.Commands.{isFormat, isStream, codeOf, codeByte, commandOf, replyTo, obeyed}
+use Rattle.ballbox.specs.Commands.{isStream, codeOf, codeByte, commandOf, replyTo, obeyed}
 use Rattle.ballbox.specs.Events.{Speaks, onButtons, onPeriod, bytesLeft, wanted, latching, secondNow, withByteReady, after, nextByte, sending, onSlot, dropped, onHost, woken, awake, asleep}
 use Rattle.ballbox.specs.Good.{good, goodSettings}
 use Rattle.ballbox.specs.Promises.{sentWords, aboveSeven, stepOf, FreshPromise, StepPromise}
@@ -33,10 +34,10 @@ use Rattle.ballbox.specs.declared.Command.the-variants.{SetFormat, SetSt
 use Rattle.ballbox.specs.declared.Event.{Event}
 use Rattle.ballbox.specs.declared.Event.the-variants.{Motion, Buttons, Host, Slot, Period}
 use Rattle.ballbox.specs.declared.Stepped.{Stepped}
-use Rattle.ballbox.proofs.Letters.{Lettered, known, unknown, lettered}
+use Rattle.ballbox.proofs.Letters.{Lettered, named, unnamed, lettered}
 use Rattle.ballbox.proofs.Accepting.{latched-accepted, second-accepted}
 use Rattle.ballbox.proofs.Obeying.{goingOr, obeyed-going}
-use Rattle.ballbox.proofs.Parts.{letter-known, mode-known, few, parts, good-buttons}
+use Rattle.ballbox.proofs.Parts.{letter-known, mode-known, few, parts, good-shown}
 
 no-word : {X : Type 0} {w : ℕ} {ws : List ℕ} → [] ≡ w ∷ ws → X
 no-word e = let z : _≡_ {A = ℕ} 0 1 = cc in absurd (omega arith)
@@ -120,14 +121,14 @@ after-five g h = cases FiveBytes (ltb (g .sent + 1) (g .length)) (λ e. record {
 -- an accepted report's bytes are bytes
 report-bytes : (letter : ℕ) (r : Report) → Lettered letter → acceptedBy letter r ≡ true → Bytes (bytesBy letter r)
 unfolding acceptedBy bytesBy
-report-bytes letter r (known f e) a = rw (e, letter-named f) (of-at (bytesOf f r) (bytes-below f r (rw (e, letter-named f) at a)))
-report-bytes letter r (unknown e none) a = rw e tt
+report-bytes letter r (named f e) a = rw (e, letter-named f) (of-at (bytesOf f r) (bytes-below f r (rw (e, letter-named f) at a)))
+report-bytes letter r (unnamed e none) a = rw e tt
 
 latched-five : (b : BallBox) → good b ≡ true → FiveBytes (latched b .going)
 unfolding latched
 latched-five b g =
     let f = b .settings .format in
-    going-five (bytesBy f (latchedReport b)) (report-bytes f (latchedReport b) (lettered f) (latched-accepted b (good-buttons b g)))
+    going-five (bytesBy f (latchedReport b)) (report-bytes f (latchedReport b) (lettered f) (latched-accepted b (good-shown b g)))
 
 second-five : (b : BallBox) → b .settings .format ≡ letterOf FiveByte → FiveBytes (b .going) → FiveBytes (secondLatched b .going)
 unfolding secondLatched withSecond acceptedBy namedBy
@@ -176,14 +177,14 @@ code-small FiveByte = omega arith
 code-small ThreeByte = omega arith
 code-small Hexadecimal = omega arith
 
-format-small : (l : ℕ) → Lettered l → isFormat l ≡ true → l < 256
-format-small l (known f e) h = rw e (letter-small f)
-format-small l (unknown e none) h = absurd (holds (sym none ∙ h))
+format-small : (l : ℕ) → Lettered l → known l ≡ true → l < 256
+format-small l (named f e) h = rw e (letter-small f)
+format-small l (unnamed e none) h = absurd (holds (sym none ∙ h))
 
 code-byte : (l : ℕ) → Lettered l → codeByte l < 256
 unfolding codeByte
-code-byte l (known f e) = rw (e, letter-named f) (code-small f)
-code-byte l (unknown e none) = rw e (omega arith)
+code-byte l (named f e) = rw (e, letter-named f) (code-small f)
+code-byte l (unnamed e none) = rw e (omega arith)
 
 -- so are those of a reply
 reply-bytes : (b : BallBox) (c : Command) → goodSettings (b .settings) ≡ true → Bytes (replyTo b c)
@@ -238,7 +239,7 @@ host-sound n b g h =
     let c = commandOf n in
     let s = parts b g .settings in
     record {
-      bytes = cases (λ (x : BallBox). FiveBytes (obeyed c x .going)) (bytesLeft b) (λ e. obeyed-five c (withGoing nothing b) s nothing-five) (λ e. obeyed-five c b s h);
+      bytes = cases (λ (x : BallBox). FiveBytes (obeyed c x .going)) (bytesLeft b) (λ e. obeyed-five c (withMemory (hidden (b .memory)) (withGoing nothing b)) s nothing-five) (λ e. obeyed-five c b s h);
       legal = cases (λ (words : List ℕ). lineWords words ≡ true) (bytesLeft b) (λ e. refl) (λ e. refl);
     }
 

@@ -8,26 +8,31 @@ use lib.ListN.{length}
 use Rattle.wire.specs.Line.{letterOf}
 use Rattle.wire.specs.Table.{five}
 use Rattle.wire.specs.declared.Format.the-variants.{FiveByte}
+use Rattle.ballbox.specs.Presses.{none}
 use Rattle.ballbox.specs.declared.Pair.{Pair}
 use Rattle.ballbox.specs.declared.Settings.{Settings}
 use Rattle.ballbox.specs.declared.Track.{Track}
 use Rattle.ballbox.specs.declared.Going.{Going}
+use Rattle.ballbox.specs.declared.Memory.{Memory}
 use Rattle.ballbox.specs.declared.BallBox.{BallBox}
 
 abbrev pub withSettings : Settings → BallBox → BallBox
-withSettings s b = record { settings = s; track = b .track; going = b .going; due = b .due; dormant = b .dormant }
+withSettings s b = record { settings = s; track = b .track; going = b .going; memory = b .memory; due = b .due; dormant = b .dormant }
 
 abbrev pub withTrack : Track → BallBox → BallBox
-withTrack t b = record { settings = b .settings; track = t; going = b .going; due = b .due; dormant = b .dormant }
+withTrack t b = record { settings = b .settings; track = t; going = b .going; memory = b .memory; due = b .due; dormant = b .dormant }
 
 abbrev pub withGoing : Going → BallBox → BallBox
-withGoing g b = record { settings = b .settings; track = b .track; going = g; due = b .due; dormant = b .dormant }
+withGoing g b = record { settings = b .settings; track = b .track; going = g; memory = b .memory; due = b .due; dormant = b .dormant }
+
+abbrev pub withMemory : Memory → BallBox → BallBox
+withMemory m b = record { settings = b .settings; track = b .track; going = b .going; memory = m; due = b .due; dormant = b .dormant }
 
 abbrev pub withDue : Bool → BallBox → BallBox
-withDue d b = record { settings = b .settings; track = b .track; going = b .going; due = d; dormant = b .dormant }
+withDue d b = record { settings = b .settings; track = b .track; going = b .going; memory = b .memory; due = d; dormant = b .dormant }
 
 abbrev pub withDormant : Bool → BallBox → BallBox
-withDormant d b = record { settings = b .settings; track = b .track; going = b .going; due = b .due; dormant = d }
+withDormant d b = record { settings = b .settings; track = b .track; going = b .going; memory = b .memory; due = b .due; dormant = d }
 
 abbrev pub withFormat : ℕ → BallBox → BallBox
 withFormat f b = withSettings (record { format = f; mode = b .settings .mode; buttons = b .settings .buttons }) b
@@ -70,12 +75,14 @@ abbrev pub modeD : ℕ
 modeD = 0x44
 
 -- "Fresh: format U, mode O, buttons 0, position, last position and counters 0, nothing going, nothing due, awake."
+-- None is remembered.
 unfoldable pub freshBox : BallBox
 freshBox =
     record {
       settings = record { format = letterOf FiveByte; mode = modeO; buttons = 0 };
       track = record { counter = zeros; position = zeros; last = zeros };
       going = nothing;
+      memory = none;
       due = false;
       dormant = false;
     }

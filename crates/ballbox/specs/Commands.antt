@@ -3,10 +3,11 @@ use Prim.Native.Nat.{ℕ, _+_, _*_}
 use mathlib.Core.Bool.{Bool, true, false, cond, _||_}
 use mathlib.Core.List.{List, [], _∷_}
 use lib.Dec.{eqb}
-use Rattle.wire.specs.Line.{letterOf, namedBy, ofNamed}
+use Rattle.wire.specs.Line.{letterOf, namedBy, ofNamed, known}
 use Rattle.wire.specs.declared.Format.{Format}
 use Rattle.wire.specs.declared.Format.the-variants.{Mm, Microsoft, Absolute, Relative, FiveByte, ThreeByte, Hexadecimal}
-use Rattle.ballbox.specs.Box.{goingFrom, modeO, modeD, withFormat, withMode, withTrack, withGoing, withDue, withDormant}
+use Rattle.ballbox.specs.Box.{goingFrom, modeO, modeD, withFormat, withMode, withTrack, withGoing, withMemory, withDue, withDormant}
+use Rattle.ballbox.specs.Presses.{none}
 use Rattle.ballbox.specs.Latching.{cleared}
 use Rattle.ballbox.specs.declared.BallBox.{BallBox}
 use Rattle.ballbox.specs.declared.Command.{Command}
@@ -31,12 +32,6 @@ byte05 = 0x05
 abbrev pub letterd : ℕ
 letterd = 0x64
 
--- "A B S T U V W"
-abbrev pub isFormat : ℕ → Bool
-isFormat b =
-    eqb b (letterOf Absolute) || eqb b (letterOf Relative) || eqb b (letterOf Mm) || eqb b (letterOf ThreeByte) ||
-    eqb b (letterOf FiveByte) || eqb b (letterOf Microsoft) || eqb b (letterOf Hexadecimal)
-
 -- "J K L R M Q N": the modes in which the report interval counts; "000 prints M as 40H; ASCII decides, 4DH"
 abbrev pub isTimed : ℕ → Bool
 isTimed b = eqb b 0x4A || eqb b 0x4B || eqb b 0x4C || eqb b 0x52 || eqb b 0x4D || eqb b 0x51 || eqb b 0x4E
@@ -49,7 +44,7 @@ isStream b = isTimed b || eqb b modeO
 -- due"; "Space: ACK"; "`f`: one byte"; "`t`: format letter, mode letter"; "05H: buttons, 0, 0"; "`d`: dormant"; "The rest are ignored"
 unfoldable pub commandOf : ℕ → Command
 commandOf b =
-    cond (isFormat b) (SetFormat b)
+    cond (known b) (SetFormat b)
     (cond (isStream b) (SetStream b)
     (cond (eqb b modeD) SetPrompt
     (cond (eqb b letterP) AskReport
@@ -66,7 +61,7 @@ asksForReports b = isStream b || eqb b modeD || eqb b letterP
 -- the bytes that are not "the rest"
 abbrev pub isCommand : ℕ → Bool
 isCommand b =
-    isFormat b || isStream b || eqb b modeD || eqb b letterP || eqb b space || eqb b letterf || eqb b lettert || eqb b byte05 || eqb b letterd
+    known b || isStream b || eqb b modeD || eqb b letterP || eqb b space || eqb b letterf || eqb b lettert || eqb b byte05 || eqb b letterd
 
 -- "ACK (06H)"
 abbrev pub ack : List ℕ
@@ -107,21 +102,21 @@ replyTo b Ignored = []
 abbrev pub replying : List ℕ → BallBox → BallBox
 replying bytes b = withGoing (goingFrom bytes) b
 
--- what a command does, where nothing is going
+-- what a command does, where nothing is going; "D, P, `d` and the format commands empty the memory"
 unfoldable pub obeyed : Command → BallBox → BallBox
 -- "A B S T U V W set the format, clear counters and due, set last position to position."
-obeyed (SetFormat f) b = withFormat f (withTrack (cleared (b .track)) (withDue false b))
+obeyed (SetFormat f) b = withFormat f (withTrack (cleared (b .track)) (withMemory none (withDue false b)))
 -- "J K L R M Q N O set that stream mode."
 obeyed (SetStream m) b = withMode m b
 -- "D sets prompt mode, whose letter is D however it was set, and clears due."
-obeyed SetPrompt b = withMode modeD (withDue false b)
+obeyed SetPrompt b = withMode modeD (withMemory none (withDue false b))
 -- "P sets prompt mode and makes a report due."
-obeyed AskReport b = withMode modeD (withDue true b)
+obeyed AskReport b = withMode modeD (withMemory none (withDue true b))
 obeyed AskAck b = replying (replyTo b AskAck) b
 obeyed AskCode b = replying (replyTo b AskCode) b
 obeyed AskLetters b = replying (replyTo b AskLetters) b
 obeyed AskButtons b = replying (replyTo b AskButtons) b
 -- "`d`: dormant, due cleared."
-obeyed Sleep b = withDormant true (withDue false b)
+obeyed Sleep b = withDormant true (withMemory none (withDue false b))
 -- "The rest are ignored (001), though they too break off."
 obeyed Ignored b = b

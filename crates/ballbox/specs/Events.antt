@@ -10,11 +10,13 @@ use Rattle.wire.specs.Line.{letterOf}
 use Rattle.wire.specs.Numbers.{success}
 use Rattle.wire.specs.Reading.{at}
 use Rattle.wire.specs.declared.Format.the-variants.{FiveByte}
-use Rattle.ballbox.specs.Box.{modeO, nothing, withButtons, withTrack, withGoing, withDue, withDormant, Step}
+use Rattle.ballbox.specs.Box.{modeO, nothing, withButtons, withTrack, withGoing, withMemory, withDue, withDormant, Step}
+use Rattle.ballbox.specs.Presses.{anyRemembered, remembering, shown, hidden}
 use Rattle.ballbox.specs.Motion.{movedBy, hasMoved}
 use Rattle.ballbox.specs.Latching.{latched, secondLatched}
 use Rattle.ballbox.specs.Commands.{isTimed, isStream, commandOf, obeyed, replying, ack}
 use Rattle.ballbox.specs.declared.Going.{Going}
+use Rattle.ballbox.specs.declared.Memory.{Memory}
 use Rattle.ballbox.specs.declared.BallBox.{BallBox}
 use Rattle.ballbox.specs.declared.Event.{Event}
 use Rattle.ballbox.specs.declared.Event.the-variants.{Motion, Buttons, Host, Slot, Period}
@@ -34,9 +36,12 @@ moved b = hasMoved (b .settings .format) (b .track)
 abbrev pub onMotion : ℤ → ℤ → BallBox → BallBox
 onMotion dx dy b = withTrack (movedBy dx dy (b .track)) b
 
--- Buttons: "A change is kept; in a stream mode it makes a report due."
+-- Buttons: "A change is kept"; "In stream modes the box shall remember button states", "prompt mode remembers nothing"; "Buttons no longer
+-- sets due itself"
 unfoldable pub onButtons : ℕ → BallBox → BallBox
-onButtons n b = cond (eqb n (b .settings .buttons)) b (withButtons n (withDue (b .due || isStream (b .settings .mode)) b))
+onButtons n b =
+    cond (eqb n (b .settings .buttons)) b
+    (withButtons n (withMemory (cond (isStream (b .settings .mode)) (remembering n (b .memory)) (b .memory)) b))
 
 -- Period: "In modes J K L R M Q N, if moved, a report is due."
 unfoldable pub onPeriod : BallBox → BallBox
@@ -46,9 +51,9 @@ onPeriod b = withDue (b .due || (isTimed (b .settings .mode) && moved b)) b
 abbrev pub bytesLeft : BallBox → Bool
 bytesLeft b = ltb (b .going .sent) (b .going .length)
 
--- "a report is due, or mode is O and the box has moved"
+-- "a report is due, or mode is O and the box has moved"; "While any state is remembered a report counts as due"
 abbrev pub wanted : BallBox → Bool
-wanted b = b .due || (eqb (b .settings .mode) modeO && moved b)
+wanted b = b .due || anyRemembered (b .memory) || (eqb (b .settings .mode) modeO && moved b)
 
 -- Slot, its first part: where no bytes are left and a report is wanted, one is latched
 unfoldable pub latching : BallBox → BallBox
@@ -62,12 +67,20 @@ unfoldable pub withByteReady : BallBox → BallBox
 withByteReady b = cond (secondNow b) (secondLatched b) b
 
 -- "the next goes out; after the last, nothing is going"
+abbrev pub moreBehind : Going → Bool
+moreBehind g = ltb (g .sent + 1) (g .length)
+
 unfoldable pub after : Going → Going
-after g =
-    cond (ltb (g .sent + 1) (g .length)) (record { length = g .length; sent = g .sent + 1; bytes = g .bytes }) nothing
+after g = cond (moreBehind g) (record { length = g .length; sent = g .sent + 1; bytes = g .bytes }) nothing
+
+-- "until the report's last byte has gone"
+unfoldable pub memoryAfter : Going → Memory → Memory
+memoryAfter g m = cond (moreBehind g) m (shown m)
 
 unfoldable pub nextByte : BallBox → Step
-nextByte b = gives (at (b .going .sent) (b .going .bytes) ∷ []) (withGoing (after (b .going)) b)
+nextByte b =
+    gives (at (b .going .sent) (b .going .bytes) ∷ [])
+    (withMemory (memoryAfter (b .going) (b .memory)) (withGoing (after (b .going)) b))
 
 -- Slot, its second part: "If bytes are left, the next goes out"; "Otherwise 257 goes out."
 unfoldable pub sending : BallBox → Step
@@ -77,9 +90,9 @@ sending b = cond (bytesLeft b) (nextByte (withByteReady b)) (gives (silence ∷ 
 abbrev pub onSlot : BallBox → Step
 onSlot b = sending (latching b)
 
--- Host: "if bytes are left, 256 goes out and they are dropped. Then the byte is obeyed."
+-- Host: "if bytes are left, 256 goes out and they are dropped. Then the byte is obeyed."; the state that they showed "keeps its place"
 unfoldable pub dropped : BallBox → BallBox
-dropped b = cond (bytesLeft b) (withGoing nothing b) b
+dropped b = cond (bytesLeft b) (withMemory (hidden (b .memory)) (withGoing nothing b)) b
 
 abbrev pub brokenOff : BallBox → List ℕ
 brokenOff b = cond (bytesLeft b) (break ∷ []) []

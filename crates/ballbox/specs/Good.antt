@@ -3,22 +3,25 @@ use Prim.Native.Nat.{ℕ}
 use mathlib.Core.Bool.{Bool, not, _&&_, _||_}
 use lib.Dec.{eqb, ltb, leb}
 use lib.IntN.{pos}
+use lib.ListN.{length}
 use Rattle.numbers.specs.Tests.{each}
-use Rattle.wire.specs.Line.{letterOf, sizeBy}
+use Rattle.wire.specs.Line.{letterOf, sizeBy, known}
 use Rattle.wire.specs.Holds.{_to_, within}
 use Rattle.wire.specs.Reading.{at}
 use Rattle.wire.specs.declared.Format.the-variants.{FiveByte}
 use Rattle.ballbox.specs.Box.{modeD}
-use Rattle.ballbox.specs.Commands.{isFormat, isStream}
+use Rattle.ballbox.specs.Presses.{anyRemembered}
+use Rattle.ballbox.specs.Commands.{isStream}
 use Rattle.ballbox.specs.declared.Pair.{Pair}
 use Rattle.ballbox.specs.declared.Settings.{Settings}
 use Rattle.ballbox.specs.declared.Track.{Track}
 use Rattle.ballbox.specs.declared.Going.{Going}
+use Rattle.ballbox.specs.declared.Memory.{Memory}
 use Rattle.ballbox.specs.declared.BallBox.{BallBox}
 
 -- "letters and modes as above; buttons 0-7"
 unfoldable pub goodSettings : Settings → Bool
-goodSettings s = isFormat (s .format) && (isStream (s .mode) || eqb (s .mode) modeD) && leb (s .buttons) 7
+goodSettings s = known (s .format) && (isStream (s .mode) || eqb (s .mode) modeD) && leb (s .buttons) 7
 
 -- "positions 0-4095"
 abbrev pub onPad : Pair → Bool
@@ -58,5 +61,25 @@ goodGoing letter g = sentBelow g && lengthKnown letter g && fiveBegun g && secon
 abbrev pub dormantRightly : BallBox → Bool
 dormantRightly b = not (b .dormant) || (eqb (b .going .length) 0 && not (b .due))
 
+-- at most eight states are remembered, in eight places, each 0 to 7, the unused places 0
+abbrev pub statesSmall : Memory → Bool
+statesSmall m = each (λ i. leb (at i (m .states)) 7) 8
+
+abbrev pub unusedZero : Memory → Bool
+unusedZero m = each (λ i. ltb i (m .count) || eqb (at i (m .states)) 0) 8
+
+unfoldable pub goodMemory : Memory → Bool
+goodMemory m = eqb (length (m .states)) 8 && leb (m .count) 8 && statesSmall m && unusedZero m
+
+-- "prompt mode remembers nothing", nor does a dormant box
+abbrev pub remembersRightly : BallBox → Bool
+remembersRightly b = not (anyRemembered (b .memory)) || (not (b .dormant) && isStream (b .settings .mode))
+
+-- what is going shows the first only with one remembered, and as long as a report
+abbrev pub showsRightly : ℕ → Going → Memory → Bool
+showsRightly letter g m = not (m .showing) || (anyRemembered m && eqb (g .length) (sizeBy letter))
+
 unfoldable pub good : BallBox → Bool
-good b = goodSettings (b .settings) && goodTrack (b .track) && goodGoing (b .settings .format) (b .going) && dormantRightly b
+good b =
+    goodSettings (b .settings) && goodTrack (b .track) && goodGoing (b .settings .format) (b .going) && dormantRightly b && goodMemory (b .memory) &&
+    remembersRightly b && showsRightly (b .settings .format) (b .going) (b .memory)

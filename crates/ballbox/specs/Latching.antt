@@ -12,7 +12,8 @@ use Rattle.wire.specs.Reading.{report, at}
 use Rattle.wire.specs.declared.Report.{Report}
 use Rattle.wire.specs.declared.Range.{Range}
 use Rattle.wire.specs.declared.Format.the-variants.{Relative, FiveByte}
-use Rattle.ballbox.specs.Box.{pair, zeros, goingFrom, withTrack, withGoing, withDue}
+use Rattle.ballbox.specs.Box.{pair, zeros, goingFrom, withTrack, withGoing, withMemory, withDue}
+use Rattle.ballbox.specs.Presses.{toShow, showingFirst}
 use Rattle.ballbox.specs.Motion.{isA}
 use Rattle.ballbox.specs.declared.Pair.{Pair}
 use Rattle.ballbox.specs.declared.Track.{Track}
@@ -41,17 +42,18 @@ taken letter t = pair (limited letter (movement letter t .x)) (limited letter (m
 unfoldable pub cleared : Track → Track
 cleared t = record { counter = zeros; position = t .position; last = t .position }
 
--- the report that is latched; in U its second pair is zero: "bytes 4 and 5 are held as 0 until then"
+-- the report that is latched, with the buttons that it is to show; in U its second pair is zero: "bytes 4 and 5 are held as 0 until then"
 unfoldable pub latchedReport : BallBox → Report
 latchedReport b =
-    report (b .settings .buttons) (taken (b .settings .format) (b .track) .x) (taken (b .settings .format) (b .track) .y)
+    report (toShow b) (taken (b .settings .format) (b .track) .x) (taken (b .settings .format) (b .track) .y)
 
 -- "a report is latched, due is cleared"
 unfoldable pub latched : BallBox → BallBox
 latched b =
     withDue false
     (withTrack (cleared (b .track))
-    (withGoing (goingFrom (bytesBy (b .settings .format) (latchedReport b))) b))
+    (withMemory (showingFirst (b .memory))
+    (withGoing (goingFrom (bytesBy (b .settings .format) (latchedReport b))) b)))
 
 -- a report of U that has nothing but its second pair
 abbrev pub secondOnly : Pair → Report

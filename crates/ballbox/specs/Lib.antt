@@ -1,5 +1,6 @@
--- The ball box, heading by heading of the paper: "The box, event by event" (Box, Motion, Latching, Commands, Events), "Good box" (Good),
--- and what the functions promise (Promises).
+-- The ball box, heading by heading of the papers: "The box, event by event" (Box, Motion, Latching, Commands, Events), "Presses that outlive a
+-- busy line" (Presses), "Good box" (Good), and what the functions promise (Promises).
+pub mod Presses
 pub mod Box
 pub mod Motion
 pub mod Latching

@@ -2,9 +2,10 @@
 ghost use mathlib.Core.Path.{_≡_};
 ghost use mathlib.Core.Bool.{true, false};
 ghost use mathlib.Core.List.{[], _∷_};
-ghost use Rattle.ballbox.specs.Box.{withFormat, withMode, withTrack, withGoing, withDue, withDormant};
+ghost use Rattle.ballbox.specs.Box.{modeD, withFormat, withMode, withTrack, withGoing, withMemory, withDue, withDormant};
+ghost use Rattle.ballbox.specs.Presses.{none};
 ghost use Rattle.ballbox.specs.Latching.{cleared};
-ghost use Rattle.ballbox.specs.Commands.{isFormat, isTimed, isStream, commandOf, codeByte, obeyed};
+ghost use Rattle.ballbox.specs.Commands.{isTimed, isStream, commandOf, codeByte, obeyed};
 use crate::BallBox;
 use crate::Command;
 use crate::FORMAT_A;
@@ -17,6 +18,7 @@ use crate::FORMAT_W;
 use crate::Going;
 use crate::MODE_D;
 use crate::MODE_O;
+use crate::presses::none;
 
 // The host's bytes that are no letter of a format or of a stream mode, beside D.
 const LETTER_P: u8 = b'P';
@@ -47,18 +49,6 @@ const MODE_Q: u8 = b'Q';
 const MODE_N: u8 = b'N';
 
 pub(crate) const ACK: u8 = 6;
-
-pub(crate) fn is_format(letter: u8) -> bool
-    ensures { λ r. ⌜ r ≡ isFormat letter ⌝ }
-{
-    (letter == FORMAT_A)
-        | (letter == FORMAT_B)
-        | (letter == FORMAT_S)
-        | (letter == FORMAT_T)
-        | (letter == FORMAT_U)
-        | (letter == FORMAT_V)
-        | (letter == FORMAT_W)
-}
 
 pub(crate) fn is_timed(mode: u8) -> bool
     ensures { λ r. ⌜ r ≡ isTimed mode ⌝ }
@@ -116,21 +106,31 @@ fn code_byte(letter: u8) -> u8
 }
 
 impl BallBox {
-    // A format is set: counters and due are cleared, and the last position is the position.
+    // A format is set: counters, memory and due are cleared, and the last position is the position.
     fn with_format(mut self, letter: u8) -> BallBox
-        ensures { λ r. ⌜ r ≡ withFormat letter (withTrack (cleared (self .track)) (withDue false self)) ⌝ }
+        ensures { λ r. ⌜ r ≡ withFormat letter (withTrack (cleared (self .track)) (withMemory none (withDue false self))) ⌝ }
     {
         let track = self.track;
         self.settings.format = letter;
         self.track = track.cleared();
+        self.memory = none();
         self.due = false;
         self
     }
 
-    fn with_mode(mut self, mode: u8, due: bool) -> BallBox
-        ensures { λ r. ⌜ r ≡ withMode mode (withDue due self) ⌝ }
+    fn with_mode(mut self, mode: u8) -> BallBox
+        ensures { λ r. ⌜ r ≡ withMode mode self ⌝ }
     {
         self.settings.mode = mode;
+        self
+    }
+
+    // Prompt mode is set, and the memory emptied.
+    fn prompted(mut self, due: bool) -> BallBox
+        ensures { λ r. ⌜ r ≡ withMode modeD (withMemory none (withDue due self)) ⌝ }
+    {
+        self.settings.mode = MODE_D;
+        self.memory = none();
         self.due = due;
         self
     }
@@ -148,10 +148,11 @@ impl BallBox {
         self
     }
 
-    // Dormant, and nothing is due.
+    // Dormant, and nothing is remembered or due.
     fn put_to_sleep(mut self) -> BallBox
-        ensures { λ r. ⌜ r ≡ withDormant true (withDue false self) ⌝ }
+        ensures { λ r. ⌜ r ≡ withDormant true (withMemory none (withDue false self)) ⌝ }
     {
+        self.memory = none();
         self.dormant = true;
         self.due = false;
         self
@@ -163,9 +164,9 @@ impl BallBox {
     {
         match command {
             Command::SetFormat(f) => self.with_format(f),
-            Command::SetStream(m) => self.with_mode(m, self.due),
-            Command::SetPrompt => self.with_mode(MODE_D, false),
-            Command::AskReport => self.with_mode(MODE_D, true),
+            Command::SetStream(m) => self.with_mode(m),
+            Command::SetPrompt => self.prompted(false),
+            Command::AskReport => self.prompted(true),
             Command::AskAck => self.replying(1, ACK, 0),
             Command::AskCode => self.replying(1, code_byte(self.settings.format), 0),
             Command::AskLetters => self.replying(2, self.settings.format, self.settings.mode),

@@ -3,8 +3,9 @@ ghost use mathlib.Core.Path.{_≡_};
 ghost use mathlib.Core.Bool.{true};
 ghost use mathlib.Core.List.{[], _∷_};
 ghost use Prim.Native.Nat.{_≤_, _<_};
-ghost use Rattle.ballbox.specs.Events.{gives, quietly, moved, onMotion, onButtons, onPeriod, bytesLeft, wanted, latching, withByteReady, after, nextByte, sending, onSlot, dropped, onHost, woken, awake, asleep};
+ghost use Rattle.ballbox.specs.Events.{gives, quietly, moved, onMotion, onButtons, onPeriod, bytesLeft, wanted, latching, withByteReady, moreBehind, after, memoryAfter, nextByte, sending, onSlot, dropped, onHost, woken, awake, asleep};
 ghost use Rattle.ballbox.specs.Good.{good};
+ghost use Rattle.ballbox.specs.Presses.{toShow};
 ghost use Rattle.ballbox.specs.Promises.{outcome};
 use crate::BREAK;
 use crate::BallBox;
@@ -12,6 +13,7 @@ use crate::Event;
 use crate::FORMAT_U;
 use crate::Going;
 use crate::MODE_O;
+use crate::Memory;
 use crate::SILENCE;
 use crate::SUCCESS;
 use crate::Sent;
@@ -23,16 +25,37 @@ use crate::commands::is_timed;
 use crate::nothing;
 
 impl Going {
+    fn more_behind(self) -> bool
+        requires { ⌜ self .sent < 5 ⌝ }
+        ensures { λ r. ⌜ r ≡ moreBehind self ⌝ }
+    {
+        self.sent + 1 < self.length
+    }
+
     // When the next byte has gone; after the last, nothing is going.
     fn after(mut self) -> Going
         requires { ⌜ self .sent < 5 ⌝ }
         ensures { λ r. ⌜ r ≡ after self ⌝ }
     {
-        if self.sent + 1 < self.length {
+        if self.more_behind() {
             self.sent = self.sent + 1;
             self
         } else {
             nothing()
+        }
+    }
+}
+
+impl Memory {
+    // When the next byte of what is going has gone.
+    fn after(self, going: Going) -> Memory
+        requires { ⌜ going .sent < 5 ⌝ }
+        ensures { λ r. ⌜ r ≡ memoryAfter going self ⌝ }
+    {
+        if going.more_behind() {
+            self
+        } else {
+            self.shown()
         }
     }
 }
@@ -75,15 +98,18 @@ impl BallBox {
         self
     }
 
-    // A change is kept; in a stream mode it makes a report due.
+    // A change is kept, and in a stream mode remembered.
     fn on_buttons(mut self, n: u8) -> BallBox
         ensures { λ r. ⌜ r ≡ onButtons n self ⌝ }
     {
         if n == self.settings.buttons {
             return self;
         }
+        let memory = self.memory;
         self.settings.buttons = n;
-        self.due = self.due | is_stream(self.settings.mode);
+        if is_stream(self.settings.mode) {
+            self.memory = memory.remembering(n);
+        }
         self
     }
 
@@ -102,17 +128,18 @@ impl BallBox {
         self.going.sent < self.going.length
     }
 
-    // A report is due, or the mode is O and the box has moved.
+    // A report is due, or a state is remembered, or the mode is O and the box has moved.
     fn wanted(self) -> bool
         ensures { λ r. ⌜ r ≡ wanted self ⌝ }
     {
+        let memory = self.memory;
         let moved = self.moved();
-        self.due | ((self.settings.mode == MODE_O) & moved)
+        self.due | memory.any() | ((self.settings.mode == MODE_O) & moved)
     }
 
     // Where no bytes are left and a report is wanted, one is latched.
     fn latching(self) -> BallBox
-        requires { ⌜ self .settings .buttons ≤ 7 ⌝ }
+        requires { ⌜ toShow self ≤ 7 ⌝ }
         ensures { λ r. ⌜ r ≡ latching self ⌝ }
     {
         if !self.bytes_left() & self.wanted() {
@@ -140,6 +167,8 @@ impl BallBox {
         let going = self.going;
         let at = going.sent as usize;
         let byte = going.bytes[at] as u16;
+        let memory = self.memory;
+        self.memory = memory.after(going);
         self.going = going.after();
         self.gives(byte)
     }
@@ -167,7 +196,9 @@ impl BallBox {
     fn dropped(mut self) -> BallBox
         ensures { λ r. ⌜ r ≡ dropped self ⌝ }
     {
+        let memory = self.memory;
         if self.bytes_left() {
+            self.memory = memory.hidden();
             self.going = nothing();
         }
         self

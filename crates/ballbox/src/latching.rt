@@ -4,6 +4,7 @@ ghost use mathlib.Core.Bool.{true};
 ghost use Prim.Native.Nat.{_≤_};
 ghost use Rattle.wire.specs.Holds.{acceptedBy};
 ghost use Rattle.wire.specs.Table.{five, bytesBy};
+ghost use Rattle.ballbox.specs.Presses.{toShow};
 ghost use Rattle.ballbox.specs.Latching.{limits, limited, movement, taken, cleared, latched, secondLatched};
 use crate::BallBox;
 use crate::FORMAT_A;
@@ -86,16 +87,16 @@ impl Track {
 }
 
 impl BallBox {
-    // A report is latched, due is cleared.
+    // A report is latched with the buttons to show, due is cleared.
     pub(crate) fn latched(mut self) -> BallBox
-        requires { ⌜ self .settings .buttons ≤ 7 ⌝ }
+        requires { ⌜ toShow self ≤ 7 ⌝ }
         ensures { λ r. ⌜ r ≡ latched self ⌝ }
     {
         let letter = self.settings.format;
         let track = self.track;
         let pair = track.taken(letter);
         let report = Report {
-            buttons: self.settings.buttons,
+            buttons: self.to_show(),
             x1: pair.x,
             y1: pair.y,
             x2: 0,
@@ -106,7 +107,9 @@ impl BallBox {
             sent: 0,
             bytes: encoded(letter, report),
         };
+        let memory = self.memory;
         self.going = going;
+        self.memory = memory.showing_first();
         self.track = track.cleared();
         self.due = false;
         self

@@ -8,6 +8,7 @@ mod events;
 mod good;
 mod latching;
 mod motion;
+mod presses;
 
 // The letters of the formats and of the modes.
 pub(crate) const FORMAT_A: u8 = b'A';
@@ -70,11 +71,20 @@ pub struct Going {
     pub bytes: [u8; 5],
 }
 
-// What is set, counted and going; whether a report is due; whether the box is dormant.
+// What is remembered: button states that reports have yet to show, oldest first, how many they are, and whether the report that is going
+// shows the first.
+pub struct Memory {
+    pub states: [u8; 8],
+    pub count: u8,
+    pub showing: bool,
+}
+
+// What is set, counted, going and remembered; whether a report is due; whether the box is dormant.
 pub struct BallBox {
     pub settings: Settings,
     pub track: Track,
     pub going: Going,
+    pub memory: Memory,
     pub due: bool,
     pub dormant: bool,
 }
@@ -143,7 +153,7 @@ pub(crate) fn nothing() -> Going
 }
 
 impl BallBox {
-    // Format U, mode O, nothing pressed, moved, going or due, awake.
+    // Format U, mode O, nothing pressed, moved, going, remembered or due, awake.
     pub fn fresh() -> BallBox
         ensures { λ r. ⌜ FreshPromise r ⌝ }
     {
@@ -160,6 +170,7 @@ impl BallBox {
                 last: zeros,
             },
             going: nothing(),
+            memory: presses::none(),
             due: false,
             dormant: false,
         }

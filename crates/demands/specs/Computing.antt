@@ -8,16 +8,18 @@ use Rattle.wire.specs.Table.{rowsV, bytesV, rowsA, bytesB, rowsW, bytesW, bytes
 use Rattle.wire.specs.Reading.{readW}
 use Rattle.reader.proofs.Computing as reader
 use Rattle.ballbox.specs.Box.{freshBox, goingFrom}
+use Rattle.ballbox.specs.Presses.{remembered, remembering, toShow, showingFirst, shown, hidden}
 use Rattle.ballbox.specs.Motion.{counted, placedAt, placed, movedBy, apart, hasMoved}
 use Rattle.ballbox.specs.Latching.{limits, limited, movement, taken, cleared, latchedReport, latched, withSecond, secondLatched}
-use Rattle.ballbox.specs.Commands.{commandOf, obeyed}
-use Rattle.ballbox.specs.Events.{onButtons, latching, withByteReady, after, nextByte, sending, dropped, onHost, awake}
-use Rattle.ballbox.specs.Good.{good, goodSettings, goodTrack, goodGoing}
+use Rattle.ballbox.specs.Commands.{commandOf, codeByte, obeyed}
+use Rattle.ballbox.specs.Events.{onButtons, latching, withByteReady, after, memoryAfter, nextByte, sending, dropped, onHost, awake}
+use Rattle.ballbox.specs.Good.{good, goodSettings, goodTrack, goodGoing, goodMemory}
 use Rattle.ballbox.specs.Promises.{stepOf}
 use Rattle.history.specs.Runs.{sentAs, answerTo, answersTo}
 use Rattle.history.specs.History.{toldBy}
-use Rattle.history.specs.Asked.{onlyAsks}
+use Rattle.history.specs.Asked.{allHosts}
+use Rattle.history.specs.Presses.{changesIn, statesOver, neverNinth, slotsIn, boxAfter, lastBox}
 
 unfoldable pub computing : Unit {0}
-unfolding reader.computing ones onesIn held heldSum withParity digit undigit rowsV bytesV rowsA bytesB rowsW bytesW bytesBy readW freshBox goingFrom counted placedAt placed movedBy apart hasMoved limits limited movement taken cleared latchedReport latched withSecond secondLatched commandOf obeyed onButtons latching withByteReady after nextByte sending dropped onHost awake good goodSettings goodTrack goodGoing stepOf passagesOver goingOver sentAs answerTo answersTo toldBy onlyAsks
+unfolding reader.computing ones onesIn held heldSum withParity digit undigit rowsV bytesV rowsA bytesB rowsW bytesW bytesBy readW freshBox goingFrom counted placedAt placed movedBy apart hasMoved limits limited movement taken cleared latchedReport latched withSecond secondLatched commandOf codeByte obeyed onButtons latching withByteReady after memoryAfter nextByte sending dropped onHost awake good goodSettings goodTrack goodGoing goodMemory remembered remembering toShow showingFirst shown hidden stepOf passagesOver goingOver sentAs answerTo answersTo toldBy allHosts changesIn statesOver neverNinth slotsIn boxAfter lastBox
 computing = tt

@@ -10,7 +10,7 @@ use Rattle.numbers.specs.Signed.{minus}
 use Rattle.frames.specs.Passages.{Passage, silent, finished, nothing, none, gone, in-finished}
 use Rattle.wire.specs.Line.{letterOf}
 use Rattle.wire.specs.Reading.{report}
-use Rattle.wire.specs.Messages.{Message, latchedIn}
+use Rattle.wire.specs.Messages.{Message, latchedIn, showingIn}
 use Rattle.wire.specs.declared.Report.{Report}
 use Rattle.wire.specs.declared.Format.{Format}
 use Rattle.wire.specs.declared.Format.the-variants.{Mm, FiveByte}
@@ -61,7 +61,7 @@ press = report 4 (pos 0) (pos 0)
 
 pub in-S : Sends Mm eventsS
     (0x90 ∷ 0x05 ∷ 0x03 ∷ 257 ∷ 0x9C ∷ 0x00 ∷ 0x00 ∷ [])
-    (finished (latchedIn Mm moved) ∷ silent ∷ finished (latchedIn Mm press) ∷ [])
+    (finished (latchedIn Mm moved) ∷ silent ∷ finished (showingIn Mm press) ∷ [])
 unfolding computing
 in-S = record { asked = refl; line = refl; is = refl; ends = refl }
 
@@ -78,7 +78,7 @@ fast = record { buttons = 0; x1 = minus 123; y1 = pos 0; x2 = minus 123; y2 = po
 
 pub in-U : Sends FiveByte eventsU
     (0x87 ∷ 0x85 ∷ 0x00 ∷ 0x85 ∷ 0x00 ∷ 257 ∷ 0x83 ∷ 0x00 ∷ 0x00 ∷ 0x00 ∷ 0x00 ∷ [])
-    (finished (latchedIn FiveByte fast) ∷ silent ∷ finished (latchedIn FiveByte press) ∷ [])
+    (finished (latchedIn FiveByte fast) ∷ silent ∷ finished (showingIn FiveByte press) ∷ [])
 unfolding computing
 in-U = record { asked = refl; line = refl; is = refl; ends = refl }
 
@@ -88,7 +88,7 @@ unfolding computing
 marked-S =
     marked (run-of in-S) from-then-on
     (0x90 ∷ []) (0x05 ∷ 0x03 ∷ 257 ∷ []) (0x9A ∷ 0x7F ∷ 0xFF ∷ []) (0x9C ∷ 0x00 ∷ 0x00 ∷ []) (in-S .line) refl
-    (finished (latchedIn Mm moved) ∷ silent ∷ []) (record { format = Mm; report = press }) [] (in-S .is) 6 refl
+    (finished (latchedIn Mm moved) ∷ silent ∷ []) (record { format = Mm; report = press; shows = true }) [] (in-S .is) 6 refl
     refl (omega arith)
 
 -- Exactly: 90 05 03 loses its second byte, and the other report is handed out.
@@ -96,7 +96,7 @@ pub exactly-S : HandsOut Mm (0x90 ∷ 0x03 ∷ 257 ∷ 0x9C ∷ 0x00 ∷ 0x00 �
 unfolding computing
 exactly-S =
     exactly (run-of in-S) {pre = 0x90 ∷ []} {old = 0x05 ∷ []} [] (0x03 ∷ 257 ∷ 0x9C ∷ 0x00 ∷ 0x00 ∷ []) from-then-on refl (in-S .line)
-    (in-finished [] (silent ∷ finished (latchedIn Mm press) ∷ []) nothing (latchedIn Mm moved) (omega arith) (omega arith))
+    (in-finished [] (silent ∷ finished (showingIn Mm press) ∷ []) nothing (latchedIn Mm moved) (omega arith) (omega arith))
     (gone none) (omega arith)
 
 -- Unmarked: the first word is lost, so that the reader joins the report halfway. The report behind the silence is the answer to word 9.
@@ -105,5 +105,5 @@ unfolding computing
 unmarked-U =
     unmarked (run-of in-U) from-then-on
     [] (0x87 ∷ []) [] (0x85 ∷ 0x00 ∷ 0x85 ∷ 0x00 ∷ 257 ∷ 0x83 ∷ 0x00 ∷ 0x00 ∷ 0x00 ∷ 0x00 ∷ []) (in-U .line) refl
-    (finished (latchedIn FiveByte fast) ∷ silent ∷ []) (record { format = FiveByte; report = press }) [] (in-U .is) 9 refl
+    (finished (latchedIn FiveByte fast) ∷ silent ∷ []) (record { format = FiveByte; report = press; shows = true }) [] (in-U .is) 9 refl
     [] (finished (latchedIn FiveByte fast) ∷ []) refl tt (omega arith)

@@ -33,7 +33,7 @@ fn second_mark() {
     answers(b'S', &words);
 }
 
-// "S, 94 sent, Host R: 256": what is left of the report is lost, and the box has nothing more to send.
+// "S, 94 sent, Host R: 256": the movement is lost, and "a broken-off report is followed by another with the same buttons".
 fn broken_off() {
     print::say(b"S");
     let b = after(BallBox::fresh(), Event::Host(b'S'));
@@ -41,7 +41,7 @@ fn broken_off() {
     let b = after(b, Event::Motion(5, -3));
     let b = after(b, Event::Slot);
     let b = after(b, Event::Host(b'R'));
-    slots(b, 1);
+    slots(b, 4);
     print::say(b"\n");
 }
 

@@ -60,25 +60,78 @@ fn refusal(number: u8) {
     }
 }
 
-// The box after an event.
-pub(crate) fn after(b: BallBox, e: Event) -> BallBox {
+// The words that a run has room for.
+const ROOM: usize = 32;
+
+// A run of the box: the box, and the words that it gave, as many as there is room for.
+pub(crate) struct Run {
+    pub(crate) ball: BallBox,
+    pub(crate) words: [u16; ROOM],
+    pub(crate) count: usize,
+}
+
+// A run from a box on.
+pub(crate) fn started(b: BallBox) -> Run {
+    Run {
+        ball: b,
+        words: [0; ROOM],
+        count: 0,
+    }
+}
+
+// A word behind the others.
+fn with_word(run: Run, word: u16) -> Run {
+    let mut r = run;
+    let at = r.count;
+    if at < ROOM {
+        r.words[at] = word;
+        r.count = at + 1;
+    }
+    r
+}
+
+fn noted(run: Run, s: Sent) -> Run {
+    match s {
+        Sent::Nothing => run,
+        Sent::Word(w) => with_word(run, w),
+    }
+}
+
+// The run after an event.
+pub(crate) fn on(run: Run, e: Event) -> Run {
+    let b = run.ball;
     let stepped = b.step(e);
     let word = stepped.sent;
+    let next = stepped.next;
     event(e);
     refusal(stepped.refusal);
     sent(word);
-    stepped.next
+    let mut r = noted(run, word);
+    r.ball = next;
+    r
+}
+
+// The run after so many slots.
+pub(crate) fn on_slots(run: Run, count: u8) -> Run {
+    let mut next = run;
+    let mut left = count;
+    while left > 0 {
+        next = on(next, Event::Slot);
+        left -= 1;
+    }
+    next
+}
+
+// The box after an event.
+pub(crate) fn after(b: BallBox, e: Event) -> BallBox {
+    let run = on(started(b), e);
+    run.ball
 }
 
 // The box after so many slots.
 pub(crate) fn slots(b: BallBox, count: u8) -> BallBox {
-    let mut next = b;
-    let mut left = count;
-    while left > 0 {
-        next = after(next, Event::Slot);
-        left -= 1;
-    }
-    next
+    let run = on_slots(started(b), count);
+    run.ball
 }
 
 fn answer(a: Answer) {
@@ -118,4 +171,17 @@ pub(crate) fn answers(letter: u8, words: &[u16]) {
     print::say(b", keeps ");
     print::small(next.count);
     print::say(b"\n");
+}
+
+// The same to the first words, where there are so many.
+fn answers_to_first(letter: u8, words: &[u16], count: usize) {
+    if count <= words.len() {
+        answers(letter, &words[..count]);
+    }
+}
+
+// The same to the words of a run.
+pub(crate) fn answers_to(letter: u8, run: Run) {
+    let words = run.words;
+    answers_to_first(letter, &words, run.count);
 }

@@ -22,6 +22,13 @@ Unbroken (silent ∷ passages) = Unbroken passages
 Unbroken (finished k ∷ passages) = Unbroken passages
 Unbroken (broken n k ∷ passages) = ⊥
 
+-- no silence is among the passages
+abbrev pub Unpaused : {K : Type 0} → List (Passage K) → Type 0
+Unpaused [] = Unit {0}
+Unpaused (silent ∷ passages) = ⊥
+Unpaused (finished k ∷ passages) = Unpaused passages
+Unpaused (broken n k ∷ passages) = Unpaused passages
+
 -- the finished reports of passages, in the order sent, each as `shows` has it
 abbrev pub finishedIn : {K R : Type 0} → (K → List R) → Passage K → List R
 finishedIn shows silent = []

@@ -10,9 +10,9 @@ use borrow.Author.Tests.{eqb-true, eqb-false}
 use Rattle.frames.specs.Passages.{UnderWay, nothing, first}
 use Rattle.frames.specs.Sender.{told, sentOne, brokenOff, passagesOver, goingOver}
 use Rattle.frames.proofs.Passages.{sound-append}
-use Rattle.numbers.proofs.Choices.{cases, or-else}
+use Rattle.numbers.proofs.Choices.{cases, or-else, both}
 use Rattle.numbers.proofs.Tested.{left, right}
-use Rattle.wire.specs.Line.{letterOf}
+use Rattle.wire.specs.Line.{letterOf, namedBy, known}
 use Rattle.wire.specs.Messages.{Latched, Message, report, reply, messageBytes, HeldBy, SoundIn, SoundEnd}
 use Rattle.wire.specs.declared.Format.{Format}
 use Rattle.wire.specs.declared.Format.the-variants.{FiveByte}
@@ -33,7 +33,7 @@ use Rattle.ballbox.proofs.Goodness.{stepped-good}
 use Rattle.ballbox.proofs.Refusals.{ruled}
 use Rattle.ballbox.proofs.Obeying.{dropped-settings, dropped-awake}
 use Rattle.history.specs.History.{formatOf, latchedNow, begun, pairedAt, paired, isFive, whenAwake, toldBy, nextBox, passagesOf, goingAfter}
-use Rattle.history.specs.Asked.{asks, onlyAsks}
+use Rattle.history.specs.Asked.{allHosts, asks, onlyAsks}
 use Rattle.history.proofs.Carries.{Alike, Carries}
 use Rattle.history.proofs.Slots.{latched-carries, not-yet, five-is, pair-accepted, pairs}
 use Rattle.history.proofs.Bridge.{step-sends, told-is, buttons-line}
@@ -129,7 +129,7 @@ byte-asks : (n : ℕ) → Asking (commandOf n) → (byte : ℕ) → eqb byte n �
 byte-asks n h byte e = rw (eqb-true byte n e) h
 
 asking-command : (byte : ℕ) → asksForReports byte ≡ true → Asking (commandOf byte)
-unfolding commandOf
+unfolding commandOf known namedBy
 asking-command byte =
     or-else _ _
     (or-else _ _
@@ -181,20 +181,26 @@ awake-told f b (Host byte) g a h = (sound-broken f g (h .sound), rw (asking-repl
 awake-told f b Slot g a h = sound-sent f (paired b (begun b g)) (sound-ready f b g h)
 awake-told f b Period g a h = (tt, h .sound)
 
-refused-next : (b : BallBox) (e : Event) → good b ≡ true → aboveSeven e ≡ true → stepOf b e .next ≡ b
+pub refused-next : (b : BallBox) (e : Event) → good b ≡ true → aboveSeven e ≡ true → stepOf b e .next ≡ b
 unfolding stepOf
 refused-next b e k p = rw (k, p)
 
-refused-told : (b : BallBox) (e : Event) (g : UnderWay Message) → aboveSeven e ≡ true → toldBy b e g ≡ told [] g
+pub refused-told : (b : BallBox) (e : Event) (g : UnderWay Message) → aboveSeven e ≡ true → toldBy b e g ≡ told [] g
 unfolding toldBy
 refused-told b e g p = rw p
 
+pub step-alike : (b : BallBox) (e : Event) → asks e ≡ true → good b ≡ true → b .dormant ≡ false → Alike b (stepOf b e .next)
+step-alike b e a k d = go (aboveSeven e) refl
+  where
+    go : (t : Bool) → aboveSeven e ≡ t → Alike b (stepOf b e .next)
+    go true p = rw (refused-next b e k p) (alike b)
+    go false p = rw (ruled b e false k p d) (awake-alike b e a)
+
 -- one step of such a box
 asked-step : (f : Format) (b : BallBox) (e : Event) (g : UnderWay Message) → asks e ≡ true → SetTo f b g → SoundIn f (toldBy b e g .passages) × SetTo f (nextBox b e) (toldBy b e g .going)
-asked-step f b e g a h = go (aboveSeven e) refl
-  where
-    next : Alike b (stepOf b e .next) → SoundIn f (toldBy b e g .passages) × SoundEnd f (toldBy b e g .going) → SoundIn f (toldBy b e g .passages) × SetTo f (nextBox b e) (toldBy b e g .going)
-    next l s = (
+asked-step f b e g a h =
+    let l = step-alike b e a (h .good) (h .awake) in
+    let s = told-sound in (
       s .0,
       record {
         good = stepped-good b e (h .good);
@@ -204,17 +210,29 @@ asked-step f b e g a h = go (aboveSeven e) refl
         sound = s .1;
       },
     )
-
-    go : (t : Bool) → aboveSeven e ≡ t → SoundIn f (toldBy b e g .passages) × SetTo f (nextBox b e) (toldBy b e g .going)
-    go true p = next (rw (refused-next b e (h .good) p) (alike b)) (rw (refused-told b e g p) (tt, h .sound))
-    go false p =
-        next (rw (ruled b e false (h .good) p (h .awake)) (awake-alike b e a)) (rw (told-is b e g false p (h .awake)) (awake-told f b e g a h))
+  where
+    told-sound : SoundIn f (toldBy b e g .passages) × SoundEnd f (toldBy b e g .going)
+    told-sound = go (aboveSeven e) refl
+      where
+        go : (t : Bool) → aboveSeven e ≡ t → SoundIn f (toldBy b e g .passages) × SoundEnd f (toldBy b e g .going)
+        go true p = rw (refused-told b e g p) (tt, h .sound)
+        go false p = rw (told-is b e g false p (h .awake)) (awake-told f b e g a h)
 
 -- over every list of such events
 pub asked-sound : (f : Format) (b : BallBox) (g : UnderWay Message) (events : List Event) → onlyAsks events ≡ true → SetTo f b g → SoundIn f (passagesOf b g events) × SoundEnd f (goingAfter b g events)
-unfolding onlyAsks passagesOver goingOver
+unfolding allHosts passagesOver goingOver
 asked-sound f b g [] a h = (tt, h .sound)
 asked-sound f b g (e ∷ events) a h =
     let s = asked-step f b e g (left (asks e) (onlyAsks events) a) h in
     let r = asked-sound f (nextBox b e) (toldBy b e g .going) events (right (asks e) (onlyAsks events) a) (s .1) in
     (sound-append messageBytes (HeldBy f) (toldBy b e g .passages) (passagesOf (nextBox b e) (toldBy b e g .going) events) (s .0) (r .0), r .1)
+
+-- events whose bytes of the host's pass one test pass another
+pub hosts-by : (P Q : ℕ → Bool) → ((byte : ℕ) → P byte ≡ true → Q byte ≡ true) → (events : List Event) → allHosts P events ≡ true → allHosts Q events ≡ true
+unfolding allHosts
+hosts-by P Q by [] h = refl
+hosts-by P Q by (Motion dx dy ∷ events) h = hosts-by P Q by events h
+hosts-by P Q by (Buttons n ∷ events) h = hosts-by P Q by events h
+hosts-by P Q by (Host byte ∷ events) h = both (Q byte) (allHosts Q events) (by byte (left (P byte) (allHosts P events) h)) (hosts-by P Q by events (right (P byte) (allHosts P events) h))
+hosts-by P Q by (Slot ∷ events) h = hosts-by P Q by events h
+hosts-by P Q by (Period ∷ events) h = hosts-by P Q by events h

@@ -8,3 +8,7 @@ pub mod Bridge
 pub mod Asking
 pub mod Setting
 pub mod Permitted
+pub mod Showing
+pub mod Presses
+pub mod Within
+pub mod Again

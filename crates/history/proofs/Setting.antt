@@ -3,7 +3,7 @@ use mathlib.Core.Path.{_≡_, refl, _∙_, ap}
 use mathlib.Core.Bool.{Bool, true, false, cond}
 use mathlib.Core.List.{[], _∷_}
 use Rattle.frames.specs.Words.{break}
-use Rattle.wire.specs.Line.{letterOf}
+use Rattle.wire.specs.Line.{letterOf, namedBy, known}
 use Rattle.frames.specs.Passages.{nothing}
 use Rattle.wire.specs.declared.Format.{Format}
 use Rattle.wire.specs.declared.Format.the-variants.{Mm, Microsoft, Absolute, Relative, FiveByte, ThreeByte, Hexadecimal}
@@ -18,11 +18,11 @@ use Rattle.ballbox.specs.declared.Command.the-variants.{SetFormat}
 use Rattle.ballbox.specs.declared.Event.the-variants.{Host}
 use Rattle.ballbox.proofs.Goodness.{stepped-good}
 use Rattle.ballbox.proofs.Refusals.{ruled}
-use Rattle.ballbox.proofs.Slots.{dropped-idle}
+use Rattle.history.proofs.Hosts.{none-left}
 use Rattle.history.proofs.Asking.{SetTo, dropped-alike}
 
 sets-format : (f : Format) → commandOf (letterOf f) ≡ SetFormat (letterOf f)
-unfolding commandOf
+unfolding commandOf known namedBy
 sets-format Mm = refl
 sets-format Microsoft = refl
 sets-format Absolute = refl
@@ -30,14 +30,6 @@ sets-format Relative = refl
 sets-format FiveByte = refl
 sets-format ThreeByte = refl
 sets-format Hexadecimal = refl
-
-none-left : (b : BallBox) → bytesLeft (dropped b) ≡ false
-unfolding dropped
-none-left b = go (bytesLeft b) refl
-  where
-    go : (t : Bool) → bytesLeft b ≡ t → bytesLeft (dropped b) ≡ false
-    go true e = rw e
-    go false e = ap bytesLeft (dropped-idle b e) ∙ e
 
 set-by : (f : Format) (b : BallBox) → good b ≡ true → b .dormant ≡ false → stepOf b (Host (letterOf f)) ≡ gives (cond (bytesLeft b) (break ∷ []) []) (obeyed (SetFormat (letterOf f)) (dropped b))
 unfolding awake onHost

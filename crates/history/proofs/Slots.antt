@@ -11,11 +11,11 @@ use Rattle.numbers.proofs.Tested.{holds, left, right}
 use Rattle.frames.specs.Passages.{UnderWay, nothing, first, partWords}
 use Rattle.frames.specs.Sender.{sentOne}
 use Rattle.frames.proofs.Sender.{nextWord, sends}
-use Rattle.wire.specs.Line.{letterOf, namedBy, ofNamed}
+use Rattle.wire.specs.Line.{letterOf, namedBy, ofNamed, known}
 use Rattle.wire.specs.Table.{bytesOf, five, bytesU}
 use Rattle.wire.specs.Reading.{at}
 use Rattle.wire.specs.Holds.{accepted, acceptedBy}
-use Rattle.wire.specs.Messages.{Latched, Message, report, reply, latchedIn, messageBytes}
+use Rattle.wire.specs.Messages.{Latched, Message, report, reply, messageBytes}
 use Rattle.wire.specs.declared.Report.{Report}
 use Rattle.wire.specs.declared.Format.{Format}
 use Rattle.wire.specs.declared.Format.the-variants.{Mm, Microsoft, Absolute, Relative, FiveByte, ThreeByte, Hexadecimal}
@@ -25,17 +25,16 @@ use Rattle.wire.proofs.Codec.{bytes-length}
 use Rattle.wire.proofs.Codec.Accepted.{parts, parts-accepted}
 use Rattle.ballbox.specs.Box.{goingFrom}
 use Rattle.ballbox.specs.Latching.{movement, taken, secondOnly, withSecond, secondLatched, latched, latchedReport}
-use Rattle.ballbox.specs.Commands.{isFormat}
 use Rattle.ballbox.specs.Events.{bytesLeft, wanted, secondNow, withByteReady, after, nextByte, onSlot}
 use Rattle.ballbox.specs.Good.{good}
 use Rattle.ballbox.specs.declared.BallBox.{BallBox}
 use Rattle.ballbox.specs.declared.Going.{Going}
 use Rattle.ballbox.specs.declared.Track.{Track}
 use Rattle.ballbox.specs.declared.Pair.{Pair}
-use Rattle.ballbox.proofs.Letters.{Lettered, known, unknown, lettered}
+use Rattle.ballbox.proofs.Letters.{Lettered, named, unnamed, lettered}
 use Rattle.ballbox.proofs.Accepting.{second-within, latched-accepted}
 use Rattle.ballbox.proofs.Slots.{latching-busy, latching-wanted, latching-idle, sending-byte, sending-silence}
-use Rattle.ballbox.proofs.Parts.{letter-known, parts as good-parts, good-buttons}
+use Rattle.ballbox.proofs.Parts.{letter-known, parts as good-parts, good-shown}
 use Rattle.ballbox.proofs.Latches.{latched-bytes}
 use Rattle.history.specs.History.{latchedNow, begun, formatOf, pairedAt, paired, withPair, isFive}
 use Rattle.history.proofs.Carries.{onLine, Alike, Carries, at-most-five, still-rightly, at-five, Sends}
@@ -102,10 +101,13 @@ pub record Paired (b c : BallBox) (n : ℕ) (m k : Message) : Type 0 where
   pub carries : Carries c (first n k)
   pub words : take n (messageBytes k) ≡ take n (messageBytes m)
 
-second-latched : (b : BallBox) (r : Report) → Carries b (first 3 (latchedIn FiveByte r))
-    → Paired b (secondLatched b) 3 (latchedIn FiveByte r) (latchedIn FiveByte (withPair (taken (b .settings .format) (b .track)) r))
+abbrev latchedAs : Format → Report → Bool → Message
+latchedAs f r s = report (record { format = f; report = r; shows = s })
+
+second-latched : (b : BallBox) (r : Report) (s : Bool) → Carries b (first 3 (latchedAs FiveByte r s))
+    → Paired b (secondLatched b) 3 (latchedAs FiveByte r s) (latchedAs FiveByte (withPair (taken (b .settings .format) (b .track)) r) s)
 unfolding secondLatched withSecond bytesU
-second-latched b r h =
+second-latched b r s h =
     let p = taken (b .settings .format) (b .track) in
     let k = h .1 in
     record {
@@ -116,9 +118,9 @@ second-latched b r h =
       words = refl;
     }
 
-at-byte-four : (b : BallBox) (n : ℕ) (f : Format) (r : Report) → f ≡ FiveByte → n ≡ 3 → Carries b (first n (latchedIn f r))
-    → Paired b (secondLatched b) n (latchedIn f r) (latchedIn f (withPair (taken (b .settings .format) (b .track)) r))
-at-byte-four b n f r e q h = rw (e, q) (second-latched b r (rw (e, q) at h))
+at-byte-four : (b : BallBox) (n : ℕ) (f : Format) (r : Report) (s : Bool) → f ≡ FiveByte → n ≡ 3 → Carries b (first n (latchedAs f r s))
+    → Paired b (secondLatched b) n (latchedAs f r s) (latchedAs f (withPair (taken (b .settings .format) (b .track)) r) s)
+at-byte-four b n f r s e q h = rw (e, q) (second-latched b r s (rw (e, q) at h))
 
 pub pairs : (b : BallBox) (n : ℕ) (m : Message) → Carries b (first n m) → Paired b (withByteReady b) n m (pairedAt b n m)
 unfolding withByteReady
@@ -130,7 +132,7 @@ pairs b n (report l) h = go (isFive (l .format) && eqb n 3) refl
     go : (t : Bool) → isFive (l .format) && eqb n 3 ≡ t → Paired b (withByteReady b) n (report l) (pairedAt b n (report l))
     go true e =
         let f = l .format in
-        rw (now, e) (at-byte-four b n f (l .report) (five-is f (left (isFive f) (eqb n 3) e)) (eqb-true n 3 (right (isFive f) (eqb n 3) e)) h)
+        rw (now, e) (at-byte-four b n f (l .report) (l .shows) (five-is f (left (isFive f) (eqb n 3) e)) (eqb-true n 3 (right (isFive f) (eqb n 3) e)) h)
     go false e = rw (now, e) (record { carries = h; words = refl })
 pairs b n (reply bytes) h =
     let e : secondNow b ≡ false = rw (h .0, ne-eqb n 3 (λ q. omega (arith, h .1 .left, h .1 .sendable))) (and-false (eqb (b .settings .format) (letterOf FiveByte))) in
@@ -149,11 +151,11 @@ slot-busy b n m h =
     rw (latching-busy b e, sending-byte b e) (next-sends b n m h)
 
 -- the format of a good box is one of the table
-format-in : (l : ℕ) → Lettered l → isFormat l ≡ true → l ≡ letterOf (ofNamed FiveByte (λ f. f) (namedBy l))
-format-in l (known f e) h = rw (e, letter-named f)
-format-in l (unknown e none) h = absurd (holds (sym none ∙ h))
+format-in : (l : ℕ) → Lettered l → known l ≡ true → l ≡ letterOf (ofNamed FiveByte (λ f. f) (namedBy l))
+format-in l (named f e) h = rw (e, letter-named f)
+format-in l (unnamed e none) h = absurd (holds (sym none ∙ h))
 
-known-format : (b : BallBox) → good b ≡ true → b .settings .format ≡ letterOf (formatOf b)
+pub known-format : (b : BallBox) → good b ≡ true → b .settings .format ≡ letterOf (formatOf b)
 known-format b g =
     let s = b .settings in format-in (s .format) (lettered (s .format)) (letter-known s (good-parts b g .settings))
 
@@ -171,7 +173,7 @@ latched-carries b g d =
       rw (latched-bytes f b e),
       record {
         left = omega (arith, bytes-length f r, size-between f .0);
-        sendable = (e, accepted-known (b .settings .format) f r e (latched-accepted b (good-buttons b g)));
+        sendable = (e, accepted-known (b .settings .format) f r e (latched-accepted b (good-shown b g)));
         awake = d;
       },
     )

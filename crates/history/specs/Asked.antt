@@ -1,18 +1,26 @@
 -- A box that is set to one format and then asked only for reports.
+use Prim.Native.Nat.{ℕ}
 use mathlib.Core.Bool.{Bool, true, _&&_}
 use mathlib.Core.List.{List, [], _∷_}
 use Rattle.ballbox.specs.Commands.{asksForReports}
 use Rattle.ballbox.specs.declared.Event.{Event}
 use Rattle.ballbox.specs.declared.Event.the-variants.{Motion, Buttons, Host, Slot, Period}
 
+-- an event that is no byte of the host's, or one that passes a test; and events that all are
+abbrev pub hostsPass : (ℕ → Bool) → Event → Bool
+hostsPass test (Motion dx dy) = true
+hostsPass test (Buttons n) = true
+hostsPass test (Host byte) = test byte
+hostsPass test Slot = true
+hostsPass test Period = true
+
+unfoldable pub allHosts : (ℕ → Bool) → List Event → Bool
+allHosts test [] = true
+allHosts test (e ∷ events) = hostsPass test e && allHosts test events
+
 -- "Asked only for reports" means no host byte but J K L R M Q N O D P.
 abbrev pub asks : Event → Bool
-asks (Motion dx dy) = true
-asks (Buttons n) = true
-asks (Host byte) = asksForReports byte
-asks Slot = true
-asks Period = true
+asks e = hostsPass asksForReports e
 
-unfoldable pub onlyAsks : List Event → Bool
-onlyAsks [] = true
-onlyAsks (e ∷ events) = asks e && onlyAsks events
+abbrev pub onlyAsks : List Event → Bool
+onlyAsks events = allHosts asksForReports events

@@ -10,6 +10,7 @@ use Rattle.wire.specs.Messages.{Latched, Message, report, reply, messageBytes}
 use Rattle.wire.specs.declared.Report.{Report}
 use Rattle.wire.specs.declared.Format.{Format}
 use Rattle.wire.specs.declared.Format.the-variants.{FiveByte}
+use Rattle.ballbox.specs.Presses.{anyRemembered}
 use Rattle.ballbox.specs.Latching.{taken, latchedReport}
 use Rattle.ballbox.specs.Commands.{commandOf, ack, replyTo}
 use Rattle.ballbox.specs.Events.{wanted}
@@ -25,7 +26,7 @@ formatOf b = ofNamed FiveByte (λ f. f) (namedBy (b .settings .format))
 
 -- the report that is latched
 abbrev pub latchedNow : BallBox → Latched
-latchedNow b = record { format = formatOf b; report = latchedReport b }
+latchedNow b = record { format = formatOf b; report = latchedReport b; shows = anyRemembered (b .memory) }
 
 -- where nothing is going and a report is wanted, one is latched, and none of its bytes has gone
 abbrev pub begun : BallBox → UnderWay Message → UnderWay Message
@@ -43,7 +44,7 @@ isFive f = eqb (letterOf f) (letterOf FiveByte)
 abbrev pub pairedAt : BallBox → ℕ → Message → Message
 pairedAt b n (report l) =
     cond (isFive (l .format) && eqb n 3)
-    (report (record { format = l .format; report = withPair (taken (b .settings .format) (b .track)) (l .report) }))
+    (report (record { format = l .format; report = withPair (taken (b .settings .format) (b .track)) (l .report); shows = l .shows }))
     (report l)
 pairedAt b n (reply bytes) = reply bytes
 

@@ -1,7 +1,8 @@
 -- Worked runs of damaged lines: for each theorem a line that meets its conditions, with the answers computed; and for each condition a line that
 -- lacks only this one, where the report is not handed out as sent.
 use Prim.Native.Nat.{ℕ}
-use mathlib.Core.Path.{_≡_, refl, sym, _∙_, ap}
+use mathlib.Core.Path.{_≡_, refl}
+use mathlib.Core.Bool.{false}
 use mathlib.Core.List.{List, [], _∷_}
 use native.Mathlib.Omega.{arith}
 use lib.ListN.{getD}
@@ -11,7 +12,7 @@ use Rattle.wire.specs.Line.{letterOf}
 use Rattle.wire.specs.Table.{bytesOf}
 use Rattle.wire.specs.Reading as reading
 use Rattle.wire.specs.Numbers.{success}
-use Rattle.wire.specs.Messages.{latchedIn, messageBytes, SoundIn}
+use Rattle.wire.specs.Messages.{latchedIn, SoundIn}
 use Rattle.wire.specs.declared.Report.{Report}
 use Rattle.wire.specs.declared.Format.{Format}
 use Rattle.wire.specs.declared.Format.the-variants.{Mm, FiveByte, ThreeByte}
@@ -20,6 +21,7 @@ use Rattle.reader.specs.State.{fresh}
 use Rattle.reader.specs.Counts.{handedOut}
 use Rattle.reader.specs.Promises.{FreshPromise, ReadPromise, freshOf}
 use Rattle.reader.specs.Runs.{stepsOf, StepsPromise, answers}
+use Rattle.reader.specs.declared.Reader.{Reader}
 use Rattle.reader.specs.declared.NewReader.{NewReader}
 use Rattle.reader.specs.declared.Read.{Read}
 use Rattle.reader.specs.declared.Reading.{Reading}
@@ -28,23 +30,35 @@ use Rattle.reader.specs.declared.Answer.the-variants.{Nothing, Dropped}
 use Rattle.reader.specs.declared.Answer.the-variants as answer
 use Rattle.reader.proofs.Permitted.{steps-are}
 use Rattle.reader.proofs.Framed.{fresh-named}
-use Rattle.reader.specs.DamagedLines.{no-word, a-break, HandsOut, HandsOutAt, Replaced, Within, EndsAt}
+use Rattle.reader.specs.DamagedLines.{no-word, a-break, HandsOutBy, HandsOut, HandsOutAt, Replaced, Within, EndsAt}
 use Rattle.reader.proofs.Handed.{permitted}
 use Rattle.reader.proofs.Damaged.{marked, unmarked, exactly}
 use Rattle.reader.proofs.Computing.{computing}
 
--- any fresh reader of f, by any steps that are permitted, gives the words these answers
-abbrev Answered : Format → List ℕ → List Answer → Type 0
-Answered f words l = (a : NewReader) (steps : List Read) → FreshPromise (letterOf f) a → StepsPromise (a .reader) words steps → answers steps ≡ l
+-- the reader r, or any fresh reader of f, by any steps that are permitted, gives the words these answers
+abbrev pub AnsweredBy : Reader → List ℕ → List Answer → Type 0
+AnsweredBy r words l = (steps : List Read) → StepsPromise r words steps → answers steps ≡ l
 
-computed : (f : Format) (words : List ℕ) (l : List Answer) → answers (stepsOf (fresh (letterOf f)) words) ≡ l → Answered f words l
-computed f words l e a steps p q = rw (steps-are (a .reader) words steps q, fresh-named f a p) e
+abbrev pub Answered : Format → List ℕ → List Answer → Type 0
+Answered f words l = (a : NewReader) → FreshPromise (letterOf f) a → AnsweredBy (a .reader) words l
+
+pub computed-by : (r : Reader) (words : List ℕ) (l : List Answer) → answers (stepsOf r words) ≡ l → AnsweredBy r words l
+computed-by r words l e steps q = rw (steps-are r words steps q) e
+
+pub computed : (f : Format) (words : List ℕ) (l : List Answer) → answers (stepsOf (fresh (letterOf f)) words) ≡ l → Answered f words l
+computed f words l e a p = computed-by (a .reader) words l (rw (fresh-named f a p) e)
+
+-- so that a line that is answered so hands out the reports among these answers, and no others
+pub only-these : {r : Reader} {words : List ℕ} {l : List Answer} {found : List Report} → AnsweredBy r words l → HandsOutBy r words found → handedOut l ≡ found
+only-these {r} {words} h out =
+    let w = permitted r words in
+    rw (h (stepsOf r words) w) at (out .by-steps (stepsOf r words) w)
 
 -- reports of S: 90 05 03 and 8C 02 07
-abbrev moved : Report
+abbrev pub moved : Report
 moved = reading.report 0 (pos 5) (minus 3)
 
-abbrev pressed : Report
+abbrev pub pressed : Report
 pressed = reading.report 4 (minus 2) (pos 7)
 
 -- Marked. Behind the setting's own 256 stand 90 05 03, a silence, 8C 02 broken off, 8C 02 07, and 90 of a report that is going; the stretch 05 03
@@ -66,7 +80,7 @@ unfolding computing
 marked-run =
     marked Mm (finished (latchedIn Mm moved) ∷ silent ∷ broken 2 (latchedIn Mm pressed) ∷ finished (latchedIn Mm pressed) ∷ []) (first 1 (latchedIn Mm moved))
     (256 ∷ []) (0x90 ∷ []) (0x05 ∷ 0x03 ∷ 257 ∷ 0x8C ∷ []) (0x9A ∷ 0x7F ∷ 0xFF ∷ []) (0x02 ∷ 256 ∷ 0x8C ∷ 0x02 ∷ 0x07 ∷ 0x90 ∷ []) replaced-S
-    (finished (latchedIn Mm moved) ∷ silent ∷ broken 2 (latchedIn Mm pressed) ∷ []) (record { format = Mm; report = pressed }) [] refl 9 refl refl (omega arith)
+    (finished (latchedIn Mm moved) ∷ silent ∷ broken 2 (latchedIn Mm pressed) ∷ []) (record { format = Mm; report = pressed; shows = false }) [] refl 9 refl refl (omega arith)
 
 pub marked-answers : Answered Mm (256 ∷ 0x90 ∷ 0x9A ∷ 0x7F ∷ 0xFF ∷ 0x02 ∷ 256 ∷ 0x8C ∷ 0x02 ∷ 0x07 ∷ 0x90 ∷ [])
     (Nothing ∷ Nothing ∷ Dropped 1 ∷ Nothing ∷ Dropped 3 ∷ Dropped 1 ∷ Nothing ∷ Nothing ∷ Nothing ∷ answer.Report pressed ∷ Nothing ∷ [])
@@ -74,10 +88,10 @@ unfolding computing
 marked-answers = computed Mm _ _ refl
 
 -- reports of U: a fast move to the left, 87 85 00 85 00, and a slow one, 87 01 02 03 04
-abbrev fast : Report
+abbrev pub fast : Report
 fast = record { buttons = 0; x1 = minus 123; y1 = pos 0; x2 = minus 123; y2 = pos 0 }
 
-abbrev slow : Report
+abbrev pub slow : Report
 slow = record { buttons = 0; x1 = pos 1; y1 = pos 2; x2 = pos 3; y2 = pos 4 }
 
 -- Unmarked, "readers that join a report halfway": the line is 87 85 00 85 00, a silence, and 87 01 02 03 04, and the 87 in front is lost. 85 would be a
@@ -92,7 +106,7 @@ unfolding computing
 unmarked-run =
     unmarked FiveByte (finished (latchedIn FiveByte fast) ∷ silent ∷ finished (latchedIn FiveByte slow) ∷ []) nothing
     [] [] (0x87 ∷ []) [] (0x85 ∷ 0x00 ∷ 0x85 ∷ 0x00 ∷ 257 ∷ 0x87 ∷ 0x01 ∷ 0x02 ∷ 0x03 ∷ 0x04 ∷ []) joined-U
-    (finished (latchedIn FiveByte fast) ∷ silent ∷ []) (record { format = FiveByte; report = slow }) [] refl 9 refl (finished (latchedIn FiveByte fast) ∷ []) [] refl tt (omega arith)
+    (finished (latchedIn FiveByte fast) ∷ silent ∷ []) (record { format = FiveByte; report = slow; shows = false }) [] refl 9 refl (finished (latchedIn FiveByte fast) ∷ []) [] refl tt (omega arith)
 
 pub unmarked-answers : Answered FiveByte (0x85 ∷ 0x00 ∷ 0x85 ∷ 0x00 ∷ 257 ∷ 0x87 ∷ 0x01 ∷ 0x02 ∷ 0x03 ∷ 0x04 ∷ [])
     (Dropped 1 ∷ Dropped 1 ∷ Dropped 1 ∷ Dropped 1 ∷ Nothing ∷ Nothing ∷ Nothing ∷ Nothing ∷ Nothing ∷ answer.Report slow ∷ [])
@@ -127,7 +141,7 @@ pub room-run : (a : NewReader) (b : Reading) (after : List ℤ) → FreshPromise
     → ReadPromise (a .reader) (0x90 ∷ 0x03 ∷ 0x8C ∷ 0x02 ∷ 0x07 ∷ []) (pos 9 ∷ pos 9 ∷ pos 9 ∷ pos 9 ∷ pos 9 ∷ pos 9 ∷ []) b after
     → (b .refusal ≡ success) × (b .taken ≡ 5) × (b .reports ≡ 1) × (after ≡ pos 4 ∷ minus 2 ∷ pos 7 ∷ pos 0 ∷ pos 0 ∷ pos 9 ∷ [])
 room-run a b after e q =
-    let t = exactly-run .by-read a (pos 9 ∷ pos 9 ∷ pos 9 ∷ pos 9 ∷ pos 9 ∷ pos 9 ∷ []) after b e q (omega arith) in
+    let t = exactly-run a e .by-read (pos 9 ∷ pos 9 ∷ pos 9 ∷ pos 9 ∷ pos 9 ∷ pos 9 ∷ []) after b q (omega arith) in
     (t .refusal, t .taken, t .reports, t .written)
 
 -- so that a line whose word i is answered otherwise does not hand out the report there
@@ -135,13 +149,13 @@ only : {f : Format} {words : List ℕ} {l : List Answer} {i : ℕ} {p : Report} 
 only {f} {words} {l} h at =
     let a = freshOf (letterOf f) in
     let w = permitted (a .reader) words in
-    rw (h a (stepsOf (a .reader) words) refl w) at (at .by-steps a (stepsOf (a .reader) words) refl w)
+    rw (h a refl (stepsOf (a .reader) words) w) at (at .by-steps a (stepsOf (a .reader) words) refl w)
 
 -- reports of T: 00 01 02 and 04 03 05
-abbrev one-two : Report
+abbrev pub one-two : Report
 one-two = reading.report 0 (pos 1) (pos 2)
 
-abbrev three-five : Report
+abbrev pub three-five : Report
 three-five = reading.report 4 (pos 3) (pos 5)
 
 -- The mark is needed: in T, after a silence, 00 01 02 loses its first byte. The report 04 03 05 begins after the stretch and ends at word 5; the
@@ -218,14 +232,5 @@ unfolding computing
 removal-needed = (
   ((refl, refl), tt),
   stays (stays (stays none)),
-  λ h. let e = ap handedOut (sym (none-removed-answers a steps refl w)) ∙ h .by-steps a steps refl w in let z : _≡_ {A = ℕ} 0 1 = cc in omega arith,
+  λ h. let a = freshOf (letterOf Mm) in let e = only-these (none-removed-answers a refl) (h a refl) in let z : _≡_ {A = ℕ} 0 1 = cc in omega arith,
 )
-  where
-    a : NewReader
-    a = freshOf (letterOf Mm)
-
-    steps : List Read
-    steps = stepsOf (a .reader) (0x90 ∷ 0x05 ∷ 0x03 ∷ [])
-
-    w : StepsPromise (a .reader) (0x90 ∷ 0x05 ∷ 0x03 ∷ []) steps
-    w = permitted (a .reader) (0x90 ∷ 0x05 ∷ 0x03 ∷ [])

@@ -39,7 +39,7 @@ use Rattle.reader.specs.declared.Answer.the-variants as answer
 use Rattle.reader.proofs.Entered.{byte-enters, enteredWord, enteredAll}
 use Rattle.reader.proofs.Parts.{Parts, parts, one-more}
 use Rattle.reader.proofs.Word.{by-rules, word-format}
-use Rattle.reader.proofs.Keeps.{word-good}
+use Rattle.reader.proofs.Keeps.{ready-good, word-good}
 use Rattle.reader.proofs.Goodness.{step-word, fresh-is-good}
 use Rattle.reader.proofs.Permitted.{steps-are}
 
@@ -172,6 +172,11 @@ module _ (f : Format) (r : Reader) (g : good r ≡ true) (named : namedBy (r .fo
   pub step-like : (w : ℕ) → w ≤ 257 → Like (stepOf r w) (step (frameOf f) (stateOf r) (enteredWord (r .format) w))
   step-like w l = rw (step-word r w g) (word-like w l)
 
+-- a good reader of the format f
+pub record ReaderOf (f : Format) (r : Reader) : Type 0 where
+  pub is-good : good r ≡ true
+  pub letter : r .format ≡ letterOf f
+
 -- over legal words, as they enter
 module _ (f : Format) where
   steps-like : (words : List ℕ) (r : Reader) → good r ≡ true → namedBy (r .format) ≡ Known f → lineWords words ≡ true
@@ -184,19 +189,25 @@ module _ (f : Format) where
       let rest = steps-like words (stepOf r w .next) (rw (step-word r w g) (word-good r g w)) (rw same named) (right (leb w 257) (lineWords words) l) in
       rw (like .answered, rest, like .next, ap (λ (letter : ℕ). enteredAll letter words) same)
 
+  pub framed : (words : List ℕ) (r : Reader) (steps : List Read) → lineWords words ≡ true → ReaderOf f r → StepsPromise r words steps
+      → answers steps ≡ map told (frame.answers (frameOf f) (stateOf r) (enteredAll (letterOf f) words))
+  framed words r steps l o p =
+      rw (steps-are r words steps p, ← o .letter) (steps-like words r (o .is-good) (rw (o .letter) (letter-named f)) l)
+
   -- a fresh reader
   pub fresh-named : (a : NewReader) → FreshPromise (letterOf f) a → a .reader ≡ reader.fresh (letterOf f)
   unfolding freshOf known
   fresh-named a e = rw (e, letter-named f)
 
-  pub framed : (words : List ℕ) (a : NewReader) (steps : List Read) → lineWords words ≡ true → FreshPromise (letterOf f) a → StepsPromise (a .reader) words steps
-      → answers steps ≡ map told (frame.answers (frameOf f) (fresh (frameOf f)) (enteredAll (letterOf f) words))
-  framed words a steps l e p =
+  pub fresh-of : (a : NewReader) → FreshPromise (letterOf f) a → ReaderOf f (a .reader)
+  fresh-of a e = record { is-good = fresh-is-good (letterOf f) a e; letter = ap (λ (r : Reader). r .format) (fresh-named a e) }
+
+  pub fresh-state : (a : NewReader) → FreshPromise (letterOf f) a → stateOf (a .reader) ≡ fresh (frameOf f)
+  fresh-state a e =
       let i = fresh-named a e in
-      let g = fresh-is-good (letterOf f) a e in
-      let named : namedBy (a .reader .format) ≡ Known f = rw i (letter-named f) in
-      let like = rw i at (fresh-like f (a .reader) g named) in
-      rw (steps-are (a .reader) words steps p)
-      (steps-like words (a .reader) g named l
-      ∙ ap (λ (s : State). map told (frame.answers (frameOf f) s (enteredAll (a .reader .format) words))) (ap stateOf i ∙ like)
-      ∙ ap (λ (r : Reader). map told (frame.answers (frameOf f) (fresh (frameOf f)) (enteredAll (r .format) words))) i)
+      ap stateOf i ∙ rw i at (fresh-like f (a .reader) (fresh-is-good (letterOf f) a e) (rw i (letter-named f)))
+
+  -- a ready one
+  pub ready-of : ReaderOf f (reader.ready (letterOf f))
+  unfolding known
+  ready-of = record { is-good = ready-good (letterOf f) (rw (letter-named f)); letter = refl }

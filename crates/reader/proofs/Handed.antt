@@ -28,9 +28,9 @@ use Rattle.reader.specs.declared.NewReader.{NewReader}
 use Rattle.reader.specs.declared.Read.{Read}
 use Rattle.reader.specs.declared.Answer.{Answer}
 use Rattle.reader.specs.declared.Answer.the-variants as answer
-use Rattle.reader.specs.DamagedLines.{Given, no-word, a-break, HandsOut, HandsOutAt}
+use Rattle.reader.specs.DamagedLines.{Given, no-word, a-break, HandsOutBy, HandsOut, HandsOutAt}
 use Rattle.reader.proofs.Entered.{enteredAll}
-use Rattle.reader.proofs.Framed.{frameOf, told, framed}
+use Rattle.reader.proofs.Framed.{frameOf, stateOf, told, ReaderOf, framed, fresh-of, fresh-state}
 use Rattle.reader.proofs.AsSent.{plain, asSent, break-plain}
 use Rattle.reader.proofs.Took.{took}
 
@@ -70,26 +70,30 @@ numbers-at l p m rest =
 
 -- `seen` is what enters of the words
 module _ (f : Format) (words seen : List ℕ) (legal : lineWords words ≡ true) (enters : enteredAll (letterOf f) words ≡ seen) where
-  pub hands-out : (found : List Report) → frame.read (frameOf f) (fresh (frameOf f)) seen ≡ found → HandsOut f words found
-  hands-out found e =
+  -- a good reader of f, and so a fresh one
+  pub hands-out-by : (r : Reader) → ReaderOf f r → (found : List Report) → frame.read (frameOf f) (stateOf r) seen ≡ found → HandsOutBy r words found
+  hands-out-by r o found e =
       record {
         by-steps = all;
-        by-read = λ a before after b p q room.
-            let steps = stepsOf (a .reader) words in
-            let w = permitted (a .reader) words in
-            let is = all a steps p w in
-            rw is at (took f words a steps before after b legal p w (rw is room) q);
+        by-read = λ before after b q room.
+            let steps = stepsOf r words in
+            let w = permitted r words in
+            let is = all steps w in
+            rw is at (took r words steps before after b (o .is-good) legal w (rw is room) q);
       }
     where
-      all : (a : NewReader) (steps : List Read) → FreshPromise (letterOf f) a → StepsPromise (a .reader) words steps → handedOut (answers steps) ≡ found
-      all a steps p q = ap handedOut (rw enters at (framed f words a steps legal p q)) ∙ (same-reports (frame.answers (frameOf f) (fresh (frameOf f)) seen) ∙ e)
+      all : (steps : List Read) → StepsPromise r words steps → handedOut (answers steps) ≡ found
+      all steps q = ap handedOut (rw enters at (framed f words r steps legal o q)) ∙ (same-reports (frame.answers (frameOf f) (stateOf r) seen) ∙ e)
+
+  pub hands-out : (found : List Report) → frame.read (frameOf f) (fresh (frameOf f)) seen ≡ found → HandsOut f words found
+  hands-out found e a p = hands-out-by (a .reader) (fresh-of f a p) found (rw (fresh-state f a p) e)
 
   pub hands-out-at : (i : ℕ) (p : Report) → replaced.Handed (frameOf f) seen i p → HandsOutAt f words i p
   hands-out-at i p h =
       record {
         by-steps = all;
         by-read = λ a steps before after b x y z room.
-            let t = took f words a steps before after b legal x y room z in
+            let t = took (a .reader) words steps before after b (fresh-of f a x .is-good) legal y room z in
             let l = answers steps in
             let at = found-at l i p (all a steps x y) in (
               t,
@@ -99,7 +103,9 @@ module _ (f : Format) (words seen : List ℕ) (legal : lineWords words ≡ true)
       }
     where
       all : (a : NewReader) (steps : List Read) → FreshPromise (letterOf f) a → StepsPromise (a .reader) words steps → getD (answers steps) i answer.Nothing ≡ answer.Report p
-      all a steps x y = rw (framed f words a steps legal x y, enters) (List·getD-map told (frame.answers (frameOf f) (fresh (frameOf f)) seen) i frame.nothing ∙ ap told h)
+      all a steps x y =
+          rw (framed f words (a .reader) steps legal (fresh-of f a x) y, fresh-state f a x, enters)
+          (List·getD-map told (frame.answers (frameOf f) (fresh (frameOf f)) seen) i frame.nothing ∙ ap told h)
 
 -- a fresh reader answers a break by nothing and is fresh again
 module _ (f : Format) where

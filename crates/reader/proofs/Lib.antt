@@ -1,7 +1,7 @@
 -- The laws of the reader: one answer (Permitted), what a refusal leaves (Refusals), Room, how far a long read goes (Bounds), word by word (Steps), good readers
 -- stay good (Goodness), Counting, Joining, There and Back, nothing before a silence (Awaiting), Useless, sentences of the paper (Sentences, Nowhere), demand 3's
--- half of the reader (Damaged) with its worked lines (DamagedRuns), Examples, wrong answers (Wrong); what enters (Entered); and what their proofs and those of the
--- functions share.
+-- half of the reader (Damaged) with its worked lines (DamagedRuns), lines as they were sent (Followed) with theirs (FollowedRuns), Examples, wrong answers (Wrong);
+-- what enters (Entered); and what their proofs and those of the functions share.
 pub mod Computing
 pub mod Parts
 pub mod Entered
@@ -31,5 +31,7 @@ pub mod Lines
 pub mod Handed
 pub mod Damaged
 pub mod DamagedRuns
+pub mod Followed
+pub mod FollowedRuns
 pub mod Examples
 pub mod Wrong

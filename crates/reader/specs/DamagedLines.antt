@@ -1,4 +1,4 @@
--- What the theorems on damaged lines speak of: lines of one format, what is sent on them, what is lost, and what is handed out.
+-- What the theorems on lines speak of, as sent and damaged: lines of one format, what is sent on them, what is lost, and what is handed out.
 use Prim.Native.Nat.{ℕ, suc, _+_, _*_, _≤_}
 use mathlib.Core.Path.{_≡_}
 use mathlib.Core.Bool.{true}
@@ -16,6 +16,7 @@ use Rattle.reader.specs.State.{fiveOf}
 use Rattle.reader.specs.Counts.{handedOut, numbers}
 use Rattle.reader.specs.Promises.{FreshPromise, ReadPromise}
 use Rattle.reader.specs.Runs.{StepsPromise, answers}
+use Rattle.reader.specs.declared.Reader.{Reader}
 use Rattle.reader.specs.declared.NewReader.{NewReader}
 use Rattle.reader.specs.declared.Read.{Read}
 use Rattle.reader.specs.declared.Reading.{Reading}
@@ -34,12 +35,14 @@ pub record Took (words : List ℕ) (found : List Report) (before : List ℤ) (b 
   pub reports : b .reports ≡ length found
   pub written : after ≡ numbers found ++ drop (5 * length found) before
 
--- A fresh reader of f, given the words, hands out these reports, in this order, and no others: by steps, and by a long read with room for them.
-pub record HandsOut (f : Format) (words : List ℕ) (found : List Report) : Type 0 where
-  pub by-steps : (a : NewReader) (steps : List Read) → FreshPromise (letterOf f) a → StepsPromise (a .reader) words steps → handedOut (answers steps) ≡ found
-  pub by-read : (a : NewReader) (before after : List ℤ) (b : Reading) → FreshPromise (letterOf f) a → ReadPromise (a .reader) words before b after
-      → 5 * length found ≤ length before
-      → Took words found before b after
+-- The reader r, given the words, hands out these reports, in this order, and no others: by steps, and by a long read with room for them.
+pub record HandsOutBy (r : Reader) (words : List ℕ) (found : List Report) : Type 0 where
+  pub by-steps : (steps : List Read) → StepsPromise r words steps → handedOut (answers steps) ≡ found
+  pub by-read : (before after : List ℤ) (b : Reading) → ReadPromise r words before b after → 5 * length found ≤ length before → Took words found before b after
+
+-- a fresh reader of f does
+abbrev pub HandsOut : Format → List ℕ → List Report → Type 0
+HandsOut f words found = (a : NewReader) → FreshPromise (letterOf f) a → HandsOutBy (a .reader) words found
 
 -- A fresh reader of f, given the words, answers word i (the first being 0) by the report p; and a long read with room for all that is found takes
 -- every word and writes what is found, p's five numbers behind those of the reports found before word i.

@@ -68,7 +68,7 @@ impl Reader {
     pub fn fresh(letter: u8) -> NewReader
         ensures { λ r. ⌜ FreshPromise letter r ⌝ }
     {
-        if wire::size(letter) == 0 {
+        if !wire::known(letter) {
             return NewReader {
                 refusal: BAD_LETTER,
                 reader: no_bytes(FORMAT_U, true),

@@ -1,7 +1,7 @@
 -- What a box sends: reports, as they were latched, and replies.
 use Prim.Native.Nat.{ℕ}
 use mathlib.Core.Path.{_≡_}
-use mathlib.Core.Bool.{true}
+use mathlib.Core.Bool.{Bool, true, false}
 use mathlib.Core.List.{List, [], _∷_}
 use Rattle.frames.specs.Passages.{Passage, UnderWay, finishedBy, Sound, SoundPart}
 use Rattle.wire.specs.Table.{bytesOf}
@@ -9,17 +9,22 @@ use Rattle.wire.specs.Holds.{accepted, carried}
 use Rattle.wire.specs.declared.Report.{Report}
 use Rattle.wire.specs.declared.Format.{Format}
 
--- a report as it was latched, in the format that was set
+-- a report as it was latched, in the format that was set, and whether it was latched to show a remembered state of the buttons
 pub record Latched : Type 0 where
   pub format : Format
   pub report : Report
+  pub shows : Bool
 
 pub data Message : Type 0 where
   report : Latched → Message
   reply : List ℕ → Message
 
+-- a report that shows the present buttons, and one that shows a remembered state
 abbrev pub latchedIn : Format → Report → Message
-latchedIn f r = report (record { format = f; report = r })
+latchedIn f r = report (record { format = f; report = r; shows = false })
+
+abbrev pub showingIn : Format → Report → Message
+showingIn f r = report (record { format = f; report = r; shows = true })
 
 -- "each report has the manual's bytes"
 abbrev pub messageBytes : Message → List ℕ

@@ -6,7 +6,7 @@ use Rattle.ballbox.proofs.BallBox.fresh.Tie as tie
 
 returns : tie.Need-returns
 unfolding freshBox
-returns c = simp (c .nothing .ensures)
+returns c = simp (c .none .ensures, c .before .nothing .ensures)
 
 pub fresh-spec : {M : Type 1} → statement M
-fresh-spec = tie.close (tie.spec (λ c κs. search needs) returns)
+fresh-spec = tie.close (tie.spec (λ c κs. search needs) (λ c κs. search needs) returns)

@@ -1,4 +1,4 @@
--- `latched`: the encoder accepts what is limited.
+-- `latched`: the encoder accepts what is limited, with the buttons to show.
 use borrow.Author.Needs.{needs}
 use lib.IntN.{pos}
 use mathlib.Core.Path.{_≡_, refl, ap, _∙_}
@@ -9,8 +9,8 @@ use Rattle.ballbox.proofs.Accepting.{latched-accepted, bytes-by-length}
 use Rattle.ballbox.specs.Box.{goingFrom}
 use Rattle.ballbox.specs.Latching.{latched, latchedReport}
 use Rattle.ballbox.specs.declared.Pair.{Pair}
-use Rattle.wire.proofs.Letters.{at-most-five}
 use Rattle.wire.proofs.Codec.Accepted.{same-report}
+use Rattle.wire.proofs.Letters.{at-most-five}
 use Rattle.wire.specs.Holds.{acceptedBy}
 use Rattle.wire.specs.Table.{five, bytesBy}
 use Rattle.wire.specs.declared.Report.{Report}
@@ -20,31 +20,30 @@ use Rattle.ballbox.proofs.BallBox.latched.Tie as tie
 -- the report that the program makes
 reported : (c : tie.After-struct-told) →
     _≡_ {A = Report}
-    (record { buttons = c .before .before .before .args .self .settings .buttons; x1 = toZ w16 (ofZ w16 (c .before .taken .result .x)); y1 = toZ w16 (ofZ w16 (c .before .taken .result .y)); x2 = pos 0; y2 = pos 0 })
-    (latchedReport (c .before .before .before .args .self))
+    (record { buttons = c .before .to-show .result; x1 = toZ w16 (ofZ w16 (c .before .before .taken .result .x)); y1 = toZ w16 (ofZ w16 (c .before .before .taken .result .y)); x2 = pos 0; y2 = pos 0 })
+    (latchedReport (c .before .before .before .before .args .self))
 unfolding latchedReport
 reported c =
-    let t = c .before .taken in
+    let t = c .before .before .taken in
     let x : toZ w16 (ofZ w16 (t .result .x)) ≡ t .result .x = search needs in
     let y : toZ w16 (ofZ w16 (t .result .y)) ≡ t .result .y = search needs in
-    same-report refl (x ∙ ap (λ (p : Pair). p .x) (t .ensures)) (y ∙ ap (λ (p : Pair). p .y) (t .ensures)) refl refl
+    same-report (c .before .to-show .ensures) (x ∙ ap (λ (p : Pair). p .x) (t .ensures)) (y ∙ ap (λ (p : Pair). p .y) (t .ensures)) refl refl
 
 cast-t8 : tie.Need-cast-t8
-cast-t8 c = record { fits = rw (c .size .ensures) (omega (arith, at-most-five (c .before .before .before .before .args .self .settings .format))) }
+cast-t8 c = record { fits = rw (c .size .ensures) (omega (arith, at-most-five (c .before .before .before .before .before .args .self .settings .format))) }
 
 encoded-requires : tie.Need-encoded-requires
 encoded-requires c κs =
-    let s = c .before .before .before .before in
+    let s = c .before .before .before .before .before in
     ap (acceptedBy (s .args .self .settings .format)) (reported (c .before)) ∙ latched-accepted (s .args .self) (s .pre)
 
 returns : tie.Need-returns
 unfolding latched goingFrom
 returns c =
-    let f = c .before .before .before .before .before .before .args .self .settings .format in
-    let bytes = c .before .encoded .ensures ∙ ap (λ (r : Report). five (bytesBy f r)) (reported (c .before .before .before)) in
-    simp (c .cleared .ensures, bytes, c .before .before .size .ensures, bytes-by-length)
+    let e = c .before .before .before in
+    let f = e .before .before .before .before .before .before .args .self .settings .format in
+    let bytes = e .encoded .ensures ∙ ap (λ (r : Report). five (bytesBy f r)) (reported (e .before .before)) in
+    simp (c .cleared .ensures, c .before .showing-first .ensures, bytes, e .before .size .ensures, bytes-by-length)
 
 pub latched-spec : {M : Type 1} → statement M
-latched-spec =
-    tie.close
-    (tie.spec (λ c κs. search needs) (λ c κs. search needs) cast-t8 encoded-requires (λ c κs. search needs) returns)
+latched-spec = tie.close (tie.spec (λ c κs. search needs) (λ c κs. search needs) (λ c κs. search needs) cast-t8 encoded-requires (λ c κs. search needs) (λ c κs. search needs) returns)

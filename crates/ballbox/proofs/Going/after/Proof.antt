@@ -1,17 +1,17 @@
 -- `after`: bytes are left behind the next, or none.
 use borrow.Author.Needs.{needs}
-use borrow.Author.Tests.{lt-ltb, le-ltb}
+use mathlib.Core.Path.{sym, _∙_}
 use Rattle.ballbox.specs.Events.{after}
 use Rattle.ballbox.proofs.Going.after.Statement.{statement}
 use Rattle.ballbox.proofs.Going.after.Tie as tie
 
 returns : tie.Need-returns
 unfolding after
-returns c = simp (lt-ltb _ _ (c .before .if1 .taken))
+returns c = simp (sym (c .before .before .more-behind .ensures) ∙ c .before .if1 .taken)
 
 returns-2 : tie.Need-returns-2
 unfolding after
-returns-2 c = simp (le-ltb _ _ (c .before .if1 .left), c .nothing .ensures)
+returns-2 c = simp (sym (c .before .before .more-behind .ensures) ∙ c .before .if1 .left, c .nothing .ensures)
 
 pub after-spec : {M : Type 1} → statement M
-after-spec = tie.close (tie.spec (λ c. search needs) (λ c. search needs) (λ c κs. search needs) returns returns-2)
+after-spec = tie.close (tie.spec (λ c κs. search needs) (λ c. search needs) (λ c κs. search needs) returns returns-2)

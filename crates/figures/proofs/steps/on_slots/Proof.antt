@@ -1,7 +1,7 @@
--- `slots`: the slots left fall.
+-- `on_slots`: the slots left fall.
 use borrow.Author.Needs.{needs}
-use Rattle.figures.proofs.steps.slots.Statement.{statement}
-use Rattle.figures.proofs.steps.slots.Tie as tie
+use Rattle.figures.proofs.steps.on_slots.Statement.{statement}
+use Rattle.figures.proofs.steps.on_slots.Tie as tie
 
 abbrev Inv-loop : tie.InvT-loop
 Inv-loop count next₀ left₀ next left = Unit {0}
@@ -12,8 +12,8 @@ abbrev μ-loop : tie.MeasureT-loop
 loop-holds : tie.Need-loop-holds Inv-loop μ-loop
 loop-holds c = search needs
 
-after-requires : tie.Need-after-requires Inv-loop μ-loop
-after-requires c κs = search needs
+on-requires : tie.Need-on-requires Inv-loop μ-loop
+on-requires c κs = search needs
 
 sub-left : tie.Need-sub-left Inv-loop μ-loop
 sub-left c = search needs
@@ -27,7 +27,7 @@ loop-again c = search needs
 returns : tie.Need-returns Inv-loop μ-loop
 returns c = search needs
 
-pub slots-spec : {M : Type 1} → statement M
-slots-spec =
+pub on-slots-spec : {M : Type 1} → statement M
+on-slots-spec =
     tie.close
-    (tie.spec Inv-loop μ-loop loop-holds after-requires sub-left loop-less loop-again returns)
+    (tie.spec Inv-loop μ-loop loop-holds on-requires sub-left loop-less loop-again returns)
