@@ -1,6 +1,6 @@
 -- Demand 2: "Box and reader agree with the manuals: each event moves the box as the rules say, each report has the manual's bytes, and reading them
 -- with a ready reader gives back the report, less the button Microsoft's format doesn't carry; what was read, encoded again, gives the same bytes,
--- except a minus zero."
+-- except a minus zero." In V "the bytes with bit 7 cleared".
 use Prim.Native.Nat.{ℕ, _+_, _-_, _*_, _≤_}
 use mathlib.Core.Path.{_≡_}
 use mathlib.Core.Bool.{true, false}
@@ -22,6 +22,7 @@ use Rattle.wire.specs.declared.Encoded.the-variants.{Written}
 use Rattle.wire.proofs.Answers.{accepted-written}
 use Rattle.reader.specs.State.{ready, keptIn, fiveOf}
 use Rattle.reader.specs.Good as readers
+use Rattle.reader.specs.Rules.{entered}
 use Rattle.reader.specs.Line.{whole}
 use Rattle.reader.specs.Counts.{byteIn, bytesIn, reportsIn, droppedIn}
 use Rattle.reader.specs.Promises as reader
@@ -66,8 +67,9 @@ read-back = there.there
 pub read-back-at-once : (letter : ℕ) (p : Report) (before after : List ℕ) (e : Encoded) (out written : List ℤ) (a : Reading) → EncodePromise letter p before e after → refusalOf e ≡ success → 5 ≤ length out → ReadPromise (ready letter) (take (lengthOf e) after) out a written → whole a written ≡ whole (record { refusal = success; next = ready letter; taken = lengthOf e; reports = 1; dropped = 0 }) (fiveOf (carriedBy letter p) ++ drop 5 out)
 read-back-at-once = there.there-read
 
--- "what was read, encoded again, gives the same bytes, except a minus zero": `settledBy` sets a minus zero's sign bit and changes nothing else
-pub encoded-again : (r : Reader) (w : ℕ) (s : Read) (p : Report) (before after : List ℕ) (e : Encoded) → readers.good r ≡ true → reader.StepPromise r w s → s .answer ≡ answer.Report p → sizeBy (r .format) ≤ length before → EncodePromise (r .format) p before e after → (refusalOf e ≡ success) × (lengthOf e ≡ sizeBy (r .format)) × (after ≡ settledBy (r .format) (keptIn r ++ w ∷ []) ++ drop (sizeBy (r .format)) before)
+-- "what was read, encoded again, gives the same bytes, except a minus zero": `settledBy` sets a minus zero's sign bit and changes nothing else.
+-- "Encoding what was read now returns the bytes with bit 7 cleared": those that are kept entered so, and this word is taken as it enters
+pub encoded-again : (r : Reader) (w : ℕ) (s : Read) (p : Report) (before after : List ℕ) (e : Encoded) → readers.good r ≡ true → reader.StepPromise r w s → s .answer ≡ answer.Report p → sizeBy (r .format) ≤ length before → EncodePromise (r .format) p before e after → (refusalOf e ≡ success) × (lengthOf e ≡ sizeBy (r .format)) × (after ≡ settledBy (r .format) (keptIn r ++ entered (r .format) w ∷ []) ++ drop (sizeBy (r .format)) before)
 encoded-again = back.back
 
 -- "from which follows: bytes in plus kept before equal bytes in reports plus dropped plus kept after"

@@ -1,5 +1,5 @@
 -- The reader, heading by heading of the paper: "The reader" (State, Rules, Line), "Numbers given back" (Good, Promises), and what the laws count and
--- run (Counts, Runs), and lines of which a stretch was replaced (DamagedLines).
+-- run (Counts, Runs), lines with bit 7 of bytes turned over (EighthBit), and lines of which a stretch was replaced (DamagedLines).
 pub mod State
 pub mod Good
 pub mod Rules
@@ -7,4 +7,5 @@ pub mod Line
 pub mod Counts
 pub mod Promises
 pub mod Runs
+pub mod EighthBit
 pub mod DamagedLines
