@@ -1,6 +1,6 @@
 -- Demand 2: "Box and reader agree with the manuals: each event moves the box as the rules say, each report has the manual's bytes, and reading them
 -- with a ready reader gives back the report, less the button Microsoft's format doesn't carry; what was read, encoded again, gives the same bytes,
--- except a minus zero."
+-- except a minus zero." In V "the bytes with bit 7 cleared".
 use Prim.Native.Nat.{ℕ, _+_, _-_, _*_, _≤_}
 use mathlib.Core.Path.{_≡_, ap}
 use mathlib.Core.Bool.{true, false}
@@ -23,6 +23,7 @@ use Rattle.wire.specs.declared.Encoded.the-variants.{Written}
 use Rattle.wire.proofs.Answers.{accepted-written}
 use Rattle.reader.specs.State.{ready, keptIn, fiveOf}
 use Rattle.reader.specs.Good as readers
+use Rattle.reader.specs.Rules.{entered}
 use Rattle.reader.specs.Line.{Long}
 use Rattle.reader.specs.Counts.{byteIn, bytesIn, reportsIn, droppedIn}
 use Rattle.reader.specs.Promises as reader
@@ -99,7 +100,8 @@ read-back-at-once letter p before after e out written a encoded ok room read =
     let h = there.there-read letter p before after e out written a encoded ok room read in
     (ap (λ (l : Long). l .reading) h, ap (λ (l : Long). l .out) h)
 
--- "what was read, encoded again, gives the same bytes, except a minus zero": `settledBy` sets a minus zero's sign bit and changes nothing else
+-- "what was read, encoded again, gives the same bytes, except a minus zero": `settledBy` sets a minus zero's sign bit and changes nothing else.
+-- "Encoding what was read now returns the bytes with bit 7 cleared": those that are kept entered so, and this word is taken as it enters
 pub encoded-again : (r : Reader) (w : ℕ) (s : Read) (p : Report) (before after : List ℕ) (e : Encoded)
     → readers.good r ≡ true
     → reader.StepPromise r w s
@@ -108,7 +110,7 @@ pub encoded-again : (r : Reader) (w : ℕ) (s : Read) (p : Report) (before after
     → EncodePromise (r .format) p before e after
     → (refusalOf e ≡ success)
     × (lengthOf e ≡ sizeBy (r .format))
-    × (after ≡ settledBy (r .format) (keptIn r ++ w ∷ []) ++ drop (sizeBy (r .format)) before)
+    × (after ≡ settledBy (r .format) (keptIn r ++ entered (r .format) w ∷ []) ++ drop (sizeBy (r .format)) before)
 encoded-again = back.back
 
 -- "from which follows: bytes in plus kept before equal bytes in reports plus dropped plus kept after"

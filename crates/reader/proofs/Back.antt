@@ -1,5 +1,5 @@
 -- Back: for every good reader and every word that it answers by a report, the encoder accepts that report into any buffer that is long enough
--- and writes the kept bytes and this word, a minus zero's sign bit set to 1 and nothing else changed.
+-- and writes the kept bytes and this word as it entered, in V with bit 7 cleared, a minus zero's sign bit set to 1 and nothing else changed.
 use Prim.Native.Nat.{ℕ, suc, _+_, _<_, _≤_}
 use mathlib.Core.Path.{_≡_, refl, sym, _∙_, ap}
 use mathlib.Core.Bool.{Bool, true, false}
@@ -34,7 +34,6 @@ use Rattle.reader.specs.declared.Reader.{Reader}
 use Rattle.reader.specs.declared.Read.{Read}
 use Rattle.reader.specs.declared.Answer.{Answer}
 use Rattle.reader.specs.declared.Answer.the-variants as answer
-use Rattle.reader.proofs.Entered.{as-it-is}
 use Rattle.reader.proofs.Framed.{report-like}
 use Rattle.reader.proofs.Parts.{Parts, parts, one-more}
 use Rattle.reader.proofs.Word.{dropping-reports, by-word}
@@ -117,9 +116,9 @@ pub back : (r : Reader) (w : ℕ) (s : Read) (p : Report) (before after : List �
     → EncodePromise (r .format) p before e after
     → (refusalOf e ≡ success)
     × (lengthOf e ≡ sizeBy (r .format))
-    × (after ≡ settledBy (r .format) (keptIn r ++ w ∷ []) ++ drop (sizeBy (r .format)) before)
+    × (after ≡ settledBy (r .format) (keptIn r ++ entered (r .format) w ∷ []) ++ drop (sizeBy (r .format)) before)
 unfolding known
-back r w s p before after e g h a room n = rw (as-it-is (r .format) w) at (go (namedBy (r .format)) refl)
+back r w s p before after e g h a room n = go (namedBy (r .format)) refl
   where
     go : (m : Named) → namedBy (r .format) ≡ m → (refusalOf e ≡ success) × (lengthOf e ≡ sizeBy (r .format)) × (after ≡ settledBy (r .format) (keptIn r ++ entered (r .format) w ∷ []) ++ drop (sizeBy (r .format)) before)
     go Unknown q = absurd (holds (rw q at (parts r g .of-known)))

@@ -10,7 +10,7 @@ use Rattle.frames.specs.Words.{break, silence}
 use Rattle.wire.specs.Reading.{settledBy}
 use Rattle.reader.specs.State.{reader, fresh, ready}
 use Rattle.reader.specs.Line.{Long, whole}
-use Rattle.reader.specs.Promises.{readOf}
+use Rattle.reader.specs.Promises.{stepOf, readOf}
 use Rattle.reader.specs.declared.Reader.{Reader}
 use Rattle.reader.proofs.Computing.{computing}
 
@@ -64,6 +64,15 @@ a-silence = refl
 pub header-is-data : readOf (ready 0x55) (0x85 ∷ 0x85 ∷ 0xFD ∷ 0x85 ∷ 0 ∷ []) (old 5) ≡ gives 0 (ready 0x55) 5 1 0 (pos 2 ∷ minus 123 ∷ minus 3 ∷ minus 123 ∷ pos 0 ∷ [])
 unfolding computing
 header-is-data = refl
+
+-- V: 108 and 236 are the same first byte; 6C 05 3D is L, 5, 3, and so it is with bit 7 set in each byte, EC 85 BD
+pub same-first-byte : stepOf (ready 0x56) 236 ≡ stepOf (ready 0x56) 108
+unfolding computing
+same-first-byte = refl
+
+pub eighth-bit : readOf (fresh 0x56) (0xEC ∷ 0x85 ∷ 0xBD ∷ []) (old 5) ≡ gives 0 (ready 0x56) 3 1 0 (pos 4 ∷ pos 5 ∷ pos 3 ∷ pos 0 ∷ pos 0 ∷ [])
+unfolding computing
+eighth-bit = refl
 
 -- a minus zero comes back with its sign bit set to 1, on one axis or on both; any other bytes come back as they are
 pub minus-zero : settledBy 0x53 (0x80 ∷ 0 ∷ 0 ∷ []) ≡ 0x98 ∷ 0 ∷ 0 ∷ []

@@ -1,5 +1,5 @@
--- "(wrong fixed bits, odd count of ones in A or B, 128 and over in V, in W no hex digit, or a first digit above 7)": such a byte "is dropped
--- with the k kept, k+1; U, T, W then await silence".
+-- "(wrong fixed bits, odd count of ones in A or B, [..] in W no hex digit, or a first digit above 7)": such a byte "is dropped with the k kept, k+1;
+-- U, T, W then await silence".
 use Prim.Native.Nat.{ℕ, _+_, _<_, _≤_}
 use mathlib.Core.Path.{_≡_, refl, _∙_}
 use mathlib.Core.Bool.{Bool, true, false, not, _&&_, _||_, and-false}
@@ -16,7 +16,7 @@ use Rattle.wire.specs.Line.{letterOf, namedBy, markedOf}
 use Rattle.wire.specs.Digits.{between, isDigit}
 use Rattle.wire.specs.Places.{like, fitsAt, fitsFirst, fitsLater}
 use Rattle.wire.specs.declared.Format.{Format}
-use Rattle.wire.specs.declared.Format.the-variants.{Mm, Microsoft, Absolute, Relative, FiveByte, ThreeByte, Hexadecimal}
+use Rattle.wire.specs.declared.Format.the-variants.{Mm, Absolute, Relative, FiveByte, ThreeByte, Hexadecimal}
 use Rattle.wire.specs.declared.Named.the-variants.{Known}
 use Rattle.wire.proofs.Letters.{letter-named, marked-named, fits-named}
 use Rattle.reader.specs.State.{fresh}
@@ -26,7 +26,7 @@ use Rattle.reader.specs.Promises.{StepPromise}
 use Rattle.reader.specs.declared.Reader.{Reader}
 use Rattle.reader.specs.declared.Read.{Read}
 use Rattle.reader.specs.declared.Answer.the-variants.{Dropped}
-use Rattle.reader.proofs.Entered.{as-it-is, enters-outside-V}
+use Rattle.reader.proofs.Entered.{enters-outside-V}
 use Rattle.reader.proofs.Sentences.{never-awaits, lost}
 
 -- bytes that pass a test are valid neither first nor later: computed at every byte
@@ -66,11 +66,6 @@ module _ (r : Reader) (w : ℕ) (s : Read) (g : good r ≡ true) (byte : w ≤ 2
   pub wrong-bits-S : r .format ≡ 0x53 → 0xA0 ≤ w → Lost
   unfolding fitsFirst fitsLater like bit
   wrong-bits-S f h = marked-lost Mm f (enters-outside-V 0x53 w refl) refl (leb 0xA0) tt (le-leb 0xA0 w h)
-
-  -- V: 128 and over
-  pub over-127-in-V : r .format ≡ 0x56 → 128 ≤ w → Lost
-  unfolding fitsFirst fitsLater like bit
-  over-127-in-V f h = marked-lost Microsoft f (as-it-is 0x56 w) refl (leb 128) tt (le-leb 128 w h)
 
   -- A, B: P 1 0 L M R 0 0, and later bytes P 0 and six bits; an odd count of ones
   pub wrong-bits-A : r .format ≡ 0x41 → bit 6 w && (bit 5 w || (bit 1 w || bit 0 w)) ≡ true → Lost

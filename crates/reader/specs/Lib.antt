@@ -1,5 +1,6 @@
 -- The reader, heading by heading of the paper: "The reader" (State, Rules, Line), "Numbers given back" (Good, Promises), and what the laws count and
--- run (Counts, Runs), and what is handed out of lines, as sent or with a stretch replaced (DamagedLines).
+-- run (Counts, Runs), lines with bit 7 of bytes turned over (EighthBit), and what is handed out of lines, as sent or with a stretch replaced
+-- (DamagedLines).
 pub mod State
 pub mod Good
 pub mod Rules
@@ -7,4 +8,5 @@ pub mod Line
 pub mod Counts
 pub mod Promises
 pub mod Runs
+pub mod EighthBit
 pub mod DamagedLines

@@ -4,20 +4,23 @@ use mathlib.Core.Bool.{Bool, false, cond, _&&_}
 use mathlib.Core.List.{List, [], _∷_}
 use lib.ListN.{set}
 use lib.Dec.{eqb}
+use Rattle.numbers.specs.Bits.{number, bits}
 use Rattle.frames.specs.Words.{isByte, break, silence}
-use Rattle.wire.specs.Line.{sizeBy, markedBy}
+use Rattle.wire.specs.Line.{letterOf, sizeBy, markedBy}
 use Rattle.wire.specs.Places.{fitsBy}
 use Rattle.wire.specs.Reading.{reportBy}
 use Rattle.wire.specs.Numbers.{success, badWord}
+use Rattle.wire.specs.declared.Format.the-variants.{Microsoft}
 use Rattle.reader.specs.State.{reader, unmarked, noBytes, ready}
 use Rattle.reader.specs.declared.Reader.{Reader}
 use Rattle.reader.specs.declared.Read.{Read}
 use Rattle.reader.specs.declared.Answer.{Answer}
 use Rattle.reader.specs.declared.Answer.the-variants.{Nothing, Report, Dropped}
 
--- every byte enters the reader through this, by the letter of the format
+-- every byte enters the reader through this, by the letter of the format: "In V the reader shall clear bit 7 first: 108 and 236 are the same first
+-- byte", so that of a byte of V its bits 6 to 0 come in
 unfoldable pub entered : ℕ → ℕ → ℕ
-entered letter byte = byte
+entered letter byte = cond (eqb letter (letterOf Microsoft)) (number (bits 7 0 byte)) byte
 
 abbrev pub answered : Reader → Answer → Read
 answered next answer = record { refusal = success; next = next; answer = answer }
@@ -60,8 +63,8 @@ straying r b = markedBy (r .format) && eqb (r .count) 0 && fitsBy (r .format) 1 
 unfoldable pub stray : Reader → Read
 stray r = answered (ready (r .format)) (Dropped 1)
 
--- "A byte that none of these rules takes (wrong fixed bits, odd count of ones in A or B, 128 and over in V, in W no hex digit, or a first digit
--- above 7) is dropped with the k kept, k+1; U, T, W then await silence"
+-- "A byte that none of these rules takes (wrong fixed bits, odd count of ones in A or B, [..] in W no hex digit, or a first digit above 7) is dropped
+-- with the k kept, k+1; U, T, W then await silence"
 unfoldable pub lose : Reader → Read
 lose r = answered (noBytes (r .format) (unmarked (r .format))) (Dropped (r .count + 1))
 

@@ -23,8 +23,10 @@ pub(crate) const BAD_WORD: u8 = 4;
 
 pub(crate) const BAD_STATE: u8 = 6;
 
-// The letter of the five byte format.
+// The letters of the five byte format and of Microsoft's.
 pub(crate) const FORMAT_U: u8 = b'U';
+
+pub(crate) const FORMAT_V: u8 = b'V';
 
 // A format by its letter, the bytes kept and how many, and whether it awaits a silence.
 pub struct Reader {

@@ -8,16 +8,21 @@ ghost use Rattle.reader.specs.Rules.{entered, answered, refusing, droppi
 use crate::Answer;
 use crate::BAD_WORD;
 use crate::BREAK;
+use crate::FORMAT_V;
 use crate::Read;
 use crate::Reader;
 use crate::SILENCE;
 use crate::SUCCESS;
 use crate::state::no_bytes;
 
-// Every byte enters the reader through this, by the letter of the format.
+// Every byte enters the reader through this, by the letter of the format: in V without bit 7.
 fn entered(letter: u8, byte: u8) -> u8
     ensures { λ r. ⌜ r ≡ entered letter byte ⌝ }
 {
+    let clears = letter == FORMAT_V;
+    if clears {
+        return byte % 128;
+    }
     byte
 }
 

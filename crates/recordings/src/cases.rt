@@ -49,6 +49,10 @@ pub(crate) fn words() {
         b"the paper's example",
         b"F\tV\nB\t5\nB\t108\nB\t5\nB\t61\nQ\n",
     );
+    case(
+        b"the same with bit 7 set in each byte",
+        b"F\tV\nB\t133\nB\t236\nB\t133\nB\t189\nQ\n",
+    );
     case(b"X and Q", b"F\tS\nB\t148\nX\nB\t148\nB\t5\nQ\n");
     case(
         b"a second mark inside a report",
