@@ -13,8 +13,8 @@ use Rattle.numbers.proofs.Choices.{or-else}
 use Rattle.frames.specs.Words.{silence}
 use Rattle.wire.specs.Line.{known, letterOf, namedBy, sizeOf}
 use Rattle.wire.specs.Holds as holding
-use Rattle.wire.specs.Holds.{holds}
-use Rattle.wire.specs.Numbers.{success, badState, badLetter, badButtons, badMovement, shortBuffer, badWord}
+use Rattle.wire.specs.Holds.{unheld, holds}
+use Rattle.wire.specs.Numbers.{success, badState, badLetter, badButtons, badFirstX, badFirstY, badSecondX, badSecondY, shortBuffer, badWord}
 use Rattle.wire.specs.Encoder.{Encoding, refusalOf, lengthOf}
 use Rattle.wire.specs.Encoder as encoding
 use Rattle.wire.specs.Promises as encoder
@@ -24,7 +24,7 @@ use Rattle.wire.specs.declared.Format.the-variants.{FiveByte}
 use Rattle.wire.specs.declared.Named.the-variants.{Unknown}
 use Rattle.wire.specs.declared.Report.{Report}
 use Rattle.wire.specs.declared.Encoded.{Encoded}
-use Rattle.wire.specs.declared.Encoded.the-variants.{NoSuchLetter, ButtonsAboveSeven, MovementNotHeld, BufferTooShort}
+use Rattle.wire.specs.declared.Encoded.the-variants.{NoSuchLetter, ButtonsAboveSeven, BufferTooShort}
 use Rattle.wire.proofs.Answers as wire
 use Rattle.wire.proofs.Refusals as wire-refusals
 use Rattle.reader.specs.State.{fresh}
@@ -160,9 +160,12 @@ by-goodness true h k = accepted (h refl)
 by-goodness false h k = refusal (here (k refl))
 
 -- "A refusal has a number from the list, hands back the old state and writes nothing": all that a call leaves is no refusal, or it is one of those
--- named here. Of the encoder: 1, 3, 2 and 5, which tell no length and leave the buffer.
+-- named here. Of the encoder: 1, 3, then 8, 9, 10 or 11, and 5, which tell no length and leave the buffer.
 abbrev pub unwritten : List ℕ → List Encoding
-unwritten before = encoding.refused badLetter before ∷ encoding.refused badButtons before ∷ encoding.refused badMovement before ∷ encoding.refused shortBuffer before ∷ []
+unwritten before =
+    encoding.refused badLetter before ∷ encoding.refused badButtons before
+    ∷ encoding.refused badFirstX before ∷ encoding.refused badFirstY before ∷ encoding.refused badSecondX before ∷ encoding.refused badSecondY before
+    ∷ encoding.refused shortBuffer before ∷ []
 
 pub encode-refusals : (letter : ℕ) (r : Report) (before after : List ℕ) (a : Encoded)
     → EncodePromise letter r before a after
@@ -176,9 +179,15 @@ encode-refusals letter r before after a p = go (wire-refusals.refusals letter r 
         refusal
         (or-else _ _
         (or-else _ _
+        (or-else _ _
+        (or-else _ _
+        (or-else _ _
         (or-else _ _ (λ h. here (is badLetter e h)) (λ h. there (here (is badButtons e h))))
-        (λ h. there (there (here (is badMovement e h)))))
-        (λ h. there (there (there (here (is shortBuffer e h)))))
+        (λ h. there (there (here (is badFirstX e h)))))
+        (λ h. there (there (there (here (is badFirstY e h))))))
+        (λ h. there (there (there (there (here (is badSecondX e h)))))))
+        (λ h. there (there (there (there (there (here (is badSecondY e h))))))))
+        (λ h. there (there (there (there (there (there (here (is shortBuffer e h))))))))
         l)
 
 pub encode-refused : (letter : ℕ) (r : Report) (before after : List ℕ) (a : Encoded)
@@ -251,7 +260,7 @@ pub encode-bad-movement : (f : Format) (r : Report) (before after : List ℕ) (a
     → r .buttons ≤ 7
     → holds f r ≡ false
     → EncodePromise (letterOf f) r before a after
-    → (a ≡ MovementNotHeld) × (after ≡ before)
+    → encoding.outcome a after ≡ encoding.refused (encoding.unheldNumber (unheld f r)) before
 encode-bad-movement = wire.movement-refused
 
 pub encode-short-buffer : (f : Format) (r : Report) (before after : List ℕ) (a : Encoded)

@@ -55,9 +55,9 @@ pub record Figures : Type 0 where
   pub p3-encoded : Encodes Hexadecimal (report 6 (minus 29) (pos 37)) (0x36 ∷ 0x33 ∷ 0x45 ∷ 0x35 ∷ 0x32 ∷ [])
   -- p4 V L, 5, 3: 6C 05 3D
   pub p4 : Encodes Microsoft (report 4 (pos 5) (pos 3)) (0x6C ∷ 0x05 ∷ 0x3D ∷ [])
-  -- p5 V 0, y 128: 48 00 00; y -128 is refusal 2
+  -- p5 V 0, y 128: 48 00 00; y -128 is refusal 2; "p5's refusal becomes 9"
   pub p5 : Encodes Microsoft (report 0 (pos 0) (pos 128)) (0x48 ∷ 0x00 ∷ 0x00 ∷ [])
-  pub p5-refused : Refuses Microsoft (report 0 (pos 0) (minus 128)) 2
+  pub p5-refused : Refuses Microsoft (report 0 (pos 0) (minus 128)) 9
   -- p6 S L, 5, -3: 94 05 03
   pub p6 : Encodes Mm (report 4 (pos 5) (minus 3)) (0x94 ∷ 0x05 ∷ 0x03 ∷ [])
   -- p7 S zero: 98 00 00; 80 00 00 reads the same

@@ -6,9 +6,8 @@ use mathlib.Core.List.{List, [], _∷_, _++_}
 use lib.ListN.{length, drop, replicate}
 use Rattle.wire.specs.Line.{letterOf}
 use Rattle.wire.specs.Table.{bytesOf}
-use Rattle.wire.specs.Holds.{holds, accepted}
-use Rattle.wire.specs.Numbers.{badMovement}
-use Rattle.wire.specs.Encoder.{refusalOf}
+use Rattle.wire.specs.Holds.{unheld, holds, accepted}
+use Rattle.wire.specs.Encoder.{Encoding, refusalOf, unheldNumber}
 use Rattle.wire.specs.Promises.{EncodePromise}
 use Rattle.wire.specs.declared.Report.{Report}
 use Rattle.wire.specs.declared.Format.{Format}
@@ -57,9 +56,11 @@ encodes {f} {r} e same =
 pub refuses : {f : Format} {r : Report}
     → r .buttons ≤ 7
     → holds f r ≡ false
-    → Refuses f r badMovement
+    → Refuses f r (unheldNumber (unheld f r))
 refuses {f} {r} h e =
-    record { refused = λ before after a p. let s = movement-refused f r before after a h e p in (ap refusalOf (s .0), s .1) }
+    record {
+      refused = λ before after a p. let s = movement-refused f r before after a h e p in (ap (λ (x : Encoding). x .refusal) s, ap (λ (x : Encoding). x .buffer) s);
+    }
 
 pub reads : {f : Format} {bytes : List ℕ} {r : Report}
     → answers (stepsOf (ready (letterOf f)) bytes) ≡ readAs bytes r

@@ -8,21 +8,22 @@ use lib.ListN.{length}
 use lib.Dec.{ltb}
 use borrow.Author.Tests.{le-ltb, ltb-false}
 use Rattle.numbers.proofs.Tested.{left, right}
+use Rattle.wire.proofs.Faults.{eight-or-more, unheld-some}
 use Rattle.wire.specs.Line.{sizeOf}
-use Rattle.wire.specs.Holds.{pressable, holds, accepted}
-use Rattle.wire.specs.Numbers.{success, badButtons, badMovement, shortBuffer}
-use Rattle.wire.specs.Encoder.{Encoding, refused, written, encodeIn}
+use Rattle.wire.specs.Holds.{pressable, unheld, holds, accepted}
+use Rattle.wire.specs.Numbers.{success, badButtons, shortBuffer}
+use Rattle.wire.specs.Encoder.{Encoding, refused, written, unheldNumber, encodeIn}
 use Rattle.wire.specs.declared.Report.{Report}
 use Rattle.wire.specs.declared.Format.{Format}
 use Rattle.wire.specs.declared.Named.the-variants.{Known}
 
 module _ (f : Format) (r : Report) (buffer : List ℕ) where
-  -- 3, whatever the movements and the room; then 2, whatever the room; then 5; and else the bytes
+  -- 3, whatever the movements and the room; then the movement's number, whatever the room; then 5; and else the bytes
   pub buttons-first : pressable r ≡ false → encodeIn (Known f) r buffer ≡ refused badButtons buffer
   unfolding encodeIn
   buttons-first p = rw p
 
-  pub movement-next : pressable r ≡ true → holds f r ≡ false → encodeIn (Known f) r buffer ≡ refused badMovement buffer
+  pub movement-next : pressable r ≡ true → holds f r ≡ false → encodeIn (Known f) r buffer ≡ refused (unheldNumber (unheld f r)) buffer
   unfolding encodeIn
   movement-next p h = rw (p, h)
 
@@ -48,6 +49,6 @@ module _ (f : Format) (r : Report) (buffer : List ℕ) where
 
       go : (p : Bool) → pressable r ≡ p → (h : Bool) → holds f r ≡ h → (t : Bool) → ltb (length buffer) (sizeOf f) ≡ t → Done l
       go false ep h eh t et = absurd (omega (arith, number (buttons-first ep)))
-      go true ep false eh t et = absurd (omega (arith, number (movement-next ep eh)))
+      go true ep false eh t et = absurd (omega (arith, number (movement-next ep eh), eight-or-more (unheld f r) (unheld-some f r eh)))
       go true ep true eh true et = absurd (omega (arith, number (room-last (rw (ep, eh)) et)))
       go true ep true eh false et = record { taken = rw (ep, eh); is = e ∙ accepts (rw (ep, eh)) (ltb-false (length buffer) (sizeOf f) et) }

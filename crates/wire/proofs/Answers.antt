@@ -15,8 +15,8 @@ use Rattle.wire.proofs.Refusals.{refusals}
 use Rattle.wire.proofs.Letters.{letter-named}
 use Rattle.wire.specs.Line.{letterOf, namedBy, sizeOf}
 use Rattle.wire.specs.Table.{bytesOf}
-use Rattle.wire.specs.Holds.{pressable, holds, accepted}
-use Rattle.wire.specs.Encoder.{Encoding, refusalOf, lengthOf, outcome, encodeIn}
+use Rattle.wire.specs.Holds.{pressable, unheld, holds, accepted}
+use Rattle.wire.specs.Encoder.{Encoding, refusalOf, lengthOf, outcome, refused, unheldNumber, encodeIn}
 use Rattle.wire.specs.Numbers.{success}
 use Rattle.wire.specs.Promises.{KnownPromise, SizePromise, MarkedPromise, FitsPromise, ReportPromise, EncodePromise, RefusesRightly, accepted as taken, refusal, RefusalPromise, LengthPromise}
 use Rattle.wire.specs.declared.Report.{Report}
@@ -25,7 +25,7 @@ use Rattle.wire.specs.declared.Format.the-variants.{FiveByte}
 use Rattle.wire.specs.declared.Named.{Named}
 use Rattle.wire.specs.declared.Named.the-variants.{Known, Unknown}
 use Rattle.wire.specs.declared.Encoded.{Encoded}
-use Rattle.wire.specs.declared.Encoded.the-variants.{Written, NoSuchLetter, ButtonsAboveSeven, MovementNotHeld, BufferTooShort}
+use Rattle.wire.specs.declared.Encoded.the-variants.{Written, NoSuchLetter, ButtonsAboveSeven, FirstXNotHeld, FirstYNotHeld, SecondXNotHeld, SecondYNotHeld, BufferTooShort}
 use Rattle.wire.proofs.Codec.{second-unheld, second-unheld-y}
 
 -- two answers that meet a promise are equal
@@ -56,15 +56,21 @@ answerOf number told =
     cond (eqb number 0) (Written told)
     (cond (eqb number 1) NoSuchLetter
     (cond (eqb number 3) ButtonsAboveSeven
-    (cond (eqb number 2) MovementNotHeld
-    BufferTooShort)))
+    (cond (eqb number 8) FirstXNotHeld
+    (cond (eqb number 9) FirstYNotHeld
+    (cond (eqb number 10) SecondXNotHeld
+    (cond (eqb number 11) SecondYNotHeld
+    BufferTooShort))))))
 
 same-answer : (a : Encoded) → answerOf (refusalOf a) (lengthOf a) ≡ a
 unfolding answerOf
 same-answer (Written n) = refl
 same-answer NoSuchLetter = refl
 same-answer ButtonsAboveSeven = refl
-same-answer MovementNotHeld = refl
+same-answer FirstXNotHeld = refl
+same-answer FirstYNotHeld = refl
+same-answer SecondXNotHeld = refl
+same-answer SecondYNotHeld = refl
 same-answer BufferTooShort = refl
 
 pub one-encoding : (letter : ℕ) (r : Report) (before : List ℕ) {a b : Encoded} {after behind : List ℕ} → EncodePromise letter r before a after → EncodePromise letter r before b behind → (a ≡ b) × (after ≡ behind)
@@ -96,17 +102,17 @@ letter-refused letter r before after a e p = one-encoding letter r before p (rw 
 pub buttons-refused : (f : Format) (r : Report) (before after : List ℕ) (a : Encoded) → 7 < r .buttons → EncodePromise (letterOf f) r before a after → (a ≡ ButtonsAboveSeven) × (after ≡ before)
 buttons-refused f r before after a h p = told f r before p (sym (buttons-first f r before (lt-leb (r .buttons) 7 h)))
 
-pub movement-refused : (f : Format) (r : Report) (before after : List ℕ) (a : Encoded) → r .buttons ≤ 7 → holds f r ≡ false → EncodePromise (letterOf f) r before a after → (a ≡ MovementNotHeld) × (after ≡ before)
-movement-refused f r before after a h e p = told f r before p (sym (movement-next f r before (le-leb (r .buttons) 7 h) e))
+pub movement-refused : (f : Format) (r : Report) (before after : List ℕ) (a : Encoded) → r .buttons ≤ 7 → holds f r ≡ false → EncodePromise (letterOf f) r before a after → outcome a after ≡ refused (unheldNumber (unheld f r)) before
+movement-refused f r before after a h e p = p ∙ rw (letter-named f) (movement-next f r before (le-leb (r .buttons) 7 h) e)
 
 pub room-refused : (f : Format) (r : Report) (before after : List ℕ) (a : Encoded) → accepted f r ≡ true → length before < sizeOf f → EncodePromise (letterOf f) r before a after → (a ≡ BufferTooShort) × (after ≡ before)
 room-refused f r before after a e h p = told f r before p (sym (room-last f r before e (lt-ltb (length before) (sizeOf f) h)))
 
 -- a second pair outside U is refused
-pub second-refused : (f : Format) (r : Report) (before after : List ℕ) (a : Encoded) → (f ≡ FiveByte → ⊥) → r .buttons ≤ 7 → (r .x2 ≡ pos 0 → ⊥) → EncodePromise (letterOf f) r before a after → (a ≡ MovementNotHeld) × (after ≡ before)
+pub second-refused : (f : Format) (r : Report) (before after : List ℕ) (a : Encoded) → (f ≡ FiveByte → ⊥) → r .buttons ≤ 7 → (r .x2 ≡ pos 0 → ⊥) → EncodePromise (letterOf f) r before a after → outcome a after ≡ refused (unheldNumber (unheld f r)) before
 second-refused f r before after a u h n = movement-refused f r before after a h (second-unheld f r u n)
 
-pub second-refused-y : (f : Format) (r : Report) (before after : List ℕ) (a : Encoded) → (f ≡ FiveByte → ⊥) → r .buttons ≤ 7 → (r .y2 ≡ pos 0 → ⊥) → EncodePromise (letterOf f) r before a after → (a ≡ MovementNotHeld) × (after ≡ before)
+pub second-refused-y : (f : Format) (r : Report) (before after : List ℕ) (a : Encoded) → (f ≡ FiveByte → ⊥) → r .buttons ≤ 7 → (r .y2 ≡ pos 0 → ⊥) → EncodePromise (letterOf f) r before a after → outcome a after ≡ refused (unheldNumber (unheld f r)) before
 second-refused-y f r before after a u h n = movement-refused f r before after a h (second-unheld-y f r u n)
 
 -- no report has more than five bytes

@@ -18,14 +18,14 @@ use native.Mathlib.Omega.{arith}
 use lib.ListN.{length, getD, List·getD-eq-default}
 use lib.Dec.{T, ltb, eqb}
 use lib.Count.{ones, onesIn}
-use lib.IntN.{pos}
+use lib.IntN.{ℤ, pos}
 use borrow.Author.Tests.{ltb-true, ltb-false}
 use Rattle.numbers.specs.Tests.{each}
 use Rattle.numbers.specs.Bits.{bit}
 use Rattle.numbers.proofs.Tested.{same, agree-if, refused, holds as so}
 use Rattle.wire.specs.Line.{sizeOf, markedOf}
 use Rattle.wire.specs.Table.{bytesOf, bytesS, bytesV, bytesA, bytesB, bytesU, bytesT, bytesW, rowsV, rowsA, rowsW}
-use Rattle.wire.specs.Holds.{holds, accepted, carried}
+use Rattle.wire.specs.Holds.{within, secondRange, holds, accepted, carried}
 use Rattle.wire.specs.Places.{like, fitsAt, fitsFirst, fitsLater, valid}
 use Rattle.wire.specs.Reading.{at, reportOf, settled}
 use Rattle.wire.specs.declared.Report.{Report}
@@ -151,7 +151,7 @@ mark ThreeByte b m = absurd (so m)
 mark Hexadecimal b m = absurd (so m)
 
 -- outside U there is one pair, and a second is not held
-outside-U : (f : Format) → (f ≡ FiveByte → ⊥) → OnePair f
+pub outside-U : (f : Format) → (f ≡ FiveByte → ⊥) → OnePair f
 outside-U Mm u = refl
 outside-U Microsoft u = refl
 outside-U Absolute u = refl
@@ -159,6 +159,9 @@ outside-U Relative u = refl
 outside-U FiveByte u = absurd (u refl)
 outside-U ThreeByte u = refl
 outside-U Hexadecimal u = refl
+
+pub outside-zero : (f : Format) → (f ≡ FiveByte → ⊥) → (z : ℤ) → (z ≡ pos 0 → ⊥) → within (secondRange f) z ≡ false
+outside-zero f u z n = refused (within (secondRange f) z) (λ h. n (sym (second-zero f (outside-U f u) z h)))
 
 unheld : (f : Format) (r : Report) → (Held f r → ⊥) → holds f r ≡ false
 unheld f r n = refused (holds f r) (λ h. n (held f r h))

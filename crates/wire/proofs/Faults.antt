@@ -1,9 +1,14 @@
--- The first movement that a format does not hold, and what it says of the report.
-use mathlib.Core.Path.{_≡_}
-use mathlib.Core.Bool.{not}
+-- The first movement that a format does not hold: what it says of the report, and its number.
+use Prim.Native.Nat.{ℕ, _≤_}
+use mathlib.Core.Path.{_≡_, refl, sym, _∙_, ap}
+use mathlib.Core.Bool.{false, not, cond}
+use native.Mathlib.Omega.{arith}
+use lib.Dec.{eqb}
 use borrow.Author.Tests.{not-true, not-false}
 use Rattle.numbers.proofs.Choices.{cases}
-use Rattle.wire.specs.Holds.{within, xRange, yRange, secondRange, unheld, Fault}
+use Rattle.numbers.proofs.Tested.{holds as so}
+use Rattle.wire.specs.Holds.{within, xRange, yRange, secondRange, unheld, isNone, holds, Fault}
+use Rattle.wire.specs.Encoder.{unheldNumber}
 use Rattle.wire.specs.declared.Report.{Report}
 use Rattle.wire.specs.declared.Format.{Format}
 use Rattle.wire.specs.declared.Unheld.{Unheld}
@@ -30,3 +35,38 @@ module _ (f : Format) (r : Report) where
   one-fault FirstY h = rw (h .0, h .1)
   one-fault SecondX h = rw (h .0, h .1, h .2)
   one-fault SecondY h = rw (h .0, h .1, h .2, h .3)
+
+  -- where the movements are not held there is one
+  pub unheld-some : holds f r ≡ false → isNone (unheld f r) ≡ false
+  unfolding holds
+  unheld-some e = e
+
+-- one of the four
+pub some : (u : Unheld) → (u ≡ None → ⊥) → isNone u ≡ false
+some None n = absurd (n refl)
+some FirstX n = refl
+some FirstY n = refl
+some SecondX n = refl
+some SecondY n = refl
+
+-- their numbers are 8 or more, and tell them apart
+pub eight-or-more : (u : Unheld) → isNone u ≡ false → 8 ≤ unheldNumber u
+eight-or-more None e = absurd (so (sym e))
+eight-or-more FirstX e = omega arith
+eight-or-more FirstY e = omega arith
+eight-or-more SecondX e = omega arith
+eight-or-more SecondY e = omega arith
+
+numbered : ℕ → Unheld
+numbered n = cond (eqb n 8) FirstX (cond (eqb n 9) FirstY (cond (eqb n 10) SecondX (cond (eqb n 11) SecondY None)))
+
+same : (u : Unheld) → numbered (unheldNumber u) ≡ u
+unfolding numbered
+same None = refl
+same FirstX = refl
+same FirstY = refl
+same SecondX = refl
+same SecondY = refl
+
+pub told-apart : (u v : Unheld) → unheldNumber u ≡ unheldNumber v → u ≡ v
+told-apart u v e = sym (same u) ∙ ap numbered e ∙ same v

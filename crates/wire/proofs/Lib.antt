@@ -1,7 +1,9 @@
--- The laws of the seven formats (Codec), their letters (Letters), the movement that is not held (Faults), the encoder (Accepts), what follows from the
--- promises (Answers, Refusals, Wrong), and what the functions' proofs share.
+-- The laws of the seven formats (Codec), their letters (Letters), the movement that is not held (Faults), the encoder (Accepts), what
+-- follows from the promises (Answers, Refusals, Movements, Wrong), and what the
+-- functions' proofs share.
 pub mod Answers
 pub mod Refusals
+pub mod Movements
 pub mod Wrong
 pub mod Codec
 pub mod Accepts

@@ -1,4 +1,4 @@
--- Wrong answers, two for each promise, that it does not permit.
+-- Wrong answers, two or more for each promise, that it does not permit.
 use mathlib.Core.Path.{ap, sym, subst}
 use mathlib.Core.Bool.{true, false}
 use mathlib.Core.List.{[], _∷_}
@@ -16,16 +16,24 @@ use Rattle.wire.specs.Encoder.{Encoding, encodeIn}
 use Rattle.wire.specs.Promises.{KnownPromise, SizePromise, MarkedPromise, FitsPromise, ReportPromise, EncodePromise, RefusalPromise, LengthPromise}
 use Rattle.wire.specs.declared.Report.{Report}
 use Rattle.wire.specs.declared.Format.the-variants.{Mm, Microsoft, FiveByte, ThreeByte, Hexadecimal}
-use Rattle.wire.specs.declared.Encoded.the-variants.{Written, NoSuchLetter, ButtonsAboveSeven, MovementNotHeld, BufferTooShort}
+use Rattle.wire.specs.declared.Encoded.the-variants.{Written, NoSuchLetter, ButtonsAboveSeven, FirstXNotHeld, FirstYNotHeld, BufferTooShort}
 
--- V's y refused at 128; and refusal 2 told of a report whose buttons are above 7
-pub encode-refuses-128 : EncodePromise (letterOf Microsoft) (report 0 (pos 0) (pos 128)) (replicate 5 0) MovementNotHeld (replicate 5 0) → ⊥
+-- V's y refused at 128; refusal 8 told of a report whose buttons are above 7; 9 where x does not fit either; and 8 for a second x outside U
+pub encode-refuses-128 : EncodePromise (letterOf Microsoft) (report 0 (pos 0) (pos 128)) (replicate 5 0) FirstYNotHeld (replicate 5 0) → ⊥
 unfolding encodeIn namedBy holds
 encode-refuses-128 e = omega (arith, ap (λ (l : Encoding). l .refusal) e)
 
-pub encode-movement-first : EncodePromise (letterOf ThreeByte) (report 9 (pos 200) (pos 0)) (replicate 5 0) MovementNotHeld (replicate 5 0) → ⊥
+pub encode-movement-first : EncodePromise (letterOf ThreeByte) (report 9 (pos 200) (pos 0)) (replicate 5 0) FirstXNotHeld (replicate 5 0) → ⊥
 unfolding encodeIn namedBy holds
 encode-movement-first e = omega (arith, ap (λ (l : Encoding). l .refusal) e)
+
+pub encode-y-before-x : EncodePromise (letterOf ThreeByte) (report 0 (pos 200) (pos 200)) (replicate 5 0) FirstYNotHeld (replicate 5 0) → ⊥
+unfolding encodeIn namedBy holds
+encode-y-before-x e = omega (arith, ap (λ (l : Encoding). l .refusal) e)
+
+pub encode-second-as-first : EncodePromise (letterOf ThreeByte) (record { buttons = 0; x1 = pos 0; y1 = pos 0; x2 = pos 1; y2 = pos 0 }) (replicate 5 0) FirstXNotHeld (replicate 5 0) → ⊥
+unfolding encodeIn namedBy holds
+encode-second-as-first e = omega (arith, ap (λ (l : Encoding). l .refusal) e)
 
 -- U's second pair read as zero; and its first pair read from the second
 pub report-second-zero : ReportPromise (letterOf FiveByte) (0x85 ∷ 0x05 ∷ 0xFD ∷ 0x85 ∷ 0x00 ∷ []) (record { buttons = 2; x1 = pos 5; y1 = minus 3; x2 = pos 0; y2 = pos 0 }) → ⊥
@@ -72,9 +80,12 @@ pub unmarked-S : MarkedPromise (letterOf Mm) false → ⊥
 unfolding markedBy namedBy
 unmarked-S e = subst T (sym e) tt
 
--- 2 for buttons above 7; and 4 for a short buffer
+-- 2 for buttons above 7; 2 for a movement; and 4 for a short buffer
 pub refusal-two-for-buttons : RefusalPromise ButtonsAboveSeven 2 → ⊥
 refusal-two-for-buttons e = omega arith
+
+pub refusal-two-for-movement : RefusalPromise FirstXNotHeld 2 → ⊥
+refusal-two-for-movement e = omega arith
 
 pub refusal-four-for-room : RefusalPromise BufferTooShort 4 → ⊥
 refusal-four-for-room e = omega arith

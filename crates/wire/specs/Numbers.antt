@@ -16,9 +16,18 @@ badLetter = 1
 abbrev pub badButtons : ℕ
 badButtons = 3
 
--- "movement the format cannot hold, either pair"
-abbrev pub badMovement : ℕ
-badMovement = 2
+-- "movement the format cannot hold, either pair": "8 first x, 9 first y, 10 second x, 11 second y, in 2's old place"; 2 is given no more
+abbrev pub badFirstX : ℕ
+badFirstX = 8
+
+abbrev pub badFirstY : ℕ
+badFirstY = 9
+
+abbrev pub badSecondX : ℕ
+badSecondX = 10
+
+abbrev pub badSecondY : ℕ
+badSecondY = 11
 
 -- "encoder's buffer shorter than the report"
 abbrev pub shortBuffer : ℕ

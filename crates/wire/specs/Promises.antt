@@ -7,7 +7,7 @@ use lib.Dec.{eqb}
 use Rattle.wire.specs.Line.{known, sizeBy, markedBy}
 use Rattle.wire.specs.Places.{fitsBy}
 use Rattle.wire.specs.Reading.{reportBy}
-use Rattle.wire.specs.Numbers.{success, badLetter, badButtons, badMovement, shortBuffer}
+use Rattle.wire.specs.Numbers.{success, badLetter, badButtons, badFirstX, badFirstY, badSecondX, badSecondY, shortBuffer}
 use Rattle.wire.specs.Encoder.{Encoding, refusalOf, lengthOf, outcome, refused, encodeOf}
 use Rattle.wire.specs.declared.Report.{Report}
 use Rattle.wire.specs.declared.Encoded.{Encoded}
@@ -36,10 +36,10 @@ ReportPromise letter bytes answer = answer ≡ reportBy letter bytes
 abbrev pub EncodePromise : ℕ → Report → List ℕ → Encoded → List ℕ → Type 0
 EncodePromise letter report before answer after = outcome answer after ≡ encodeOf letter report before
 
--- an encoding that is no refusal, or has a number of the four and "returns [..] counts of 0": it tells no length and leaves the buffer
+-- an encoding that is no refusal, or has a number of the seven and "returns [..] counts of 0": it tells no length and leaves the buffer
 pub data RefusesRightly (before : List ℕ) (e : Encoding) : Type 0 where
   accepted : e .refusal ≡ success → RefusesRightly before e
-  refusal : (n : ℕ) → (eqb n badLetter || eqb n badButtons || eqb n badMovement || eqb n shortBuffer) ≡ true → e ≡ refused n before → RefusesRightly before e
+  refusal : (n : ℕ) → (eqb n badLetter || eqb n badButtons || eqb n badFirstX || eqb n badFirstY || eqb n badSecondX || eqb n badSecondY || eqb n shortBuffer) ≡ true → e ≡ refused n before → RefusesRightly before e
 
 -- `Encoded::refusal(self)` and `Encoded::length(self)`
 abbrev pub RefusalPromise : Encoded → ℕ → Type 0

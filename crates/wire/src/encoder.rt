@@ -47,7 +47,10 @@ impl Encoded {
             Encoded::Written(_) => 0,
             Encoded::NoSuchLetter => 1,
             Encoded::ButtonsAboveSeven => 3,
-            Encoded::MovementNotHeld => 2,
+            Encoded::FirstXNotHeld => 8,
+            Encoded::FirstYNotHeld => 9,
+            Encoded::SecondXNotHeld => 10,
+            Encoded::SecondYNotHeld => 11,
             Encoded::BufferTooShort => 5,
         }
     }
@@ -60,7 +63,10 @@ impl Encoded {
             Encoded::Written(n) => n,
             Encoded::NoSuchLetter => 0,
             Encoded::ButtonsAboveSeven => 0,
-            Encoded::MovementNotHeld => 0,
+            Encoded::FirstXNotHeld => 0,
+            Encoded::FirstYNotHeld => 0,
+            Encoded::SecondXNotHeld => 0,
+            Encoded::SecondYNotHeld => 0,
             Encoded::BufferTooShort => 0,
         }
     }

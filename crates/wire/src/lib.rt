@@ -42,7 +42,10 @@ pub enum Encoded {
     Written(usize),
     NoSuchLetter,
     ButtonsAboveSeven,
-    MovementNotHeld,
+    FirstXNotHeld,
+    FirstYNotHeld,
+    SecondXNotHeld,
+    SecondYNotHeld,
     BufferTooShort,
 }
 
@@ -123,9 +126,9 @@ pub fn encode(letter: u8, report: Report, buffer: &mut [u8]) -> Encoded
     }
     match holds::unheld(f, report) {
         Unheld::None => encoder::write(f, report, buffer),
-        Unheld::FirstX => Encoded::MovementNotHeld,
-        Unheld::FirstY => Encoded::MovementNotHeld,
-        Unheld::SecondX => Encoded::MovementNotHeld,
-        Unheld::SecondY => Encoded::MovementNotHeld,
+        Unheld::FirstX => Encoded::FirstXNotHeld,
+        Unheld::FirstY => Encoded::FirstYNotHeld,
+        Unheld::SecondX => Encoded::SecondXNotHeld,
+        Unheld::SecondY => Encoded::SecondYNotHeld,
     }
 }

@@ -3,8 +3,7 @@ use borrow.Author.Needs.{needs}
 use borrow.Author.Tests.{lt-leb, le-leb}
 use mathlib.Core.Path.{_≡_, sym, _∙_}
 use mathlib.Core.Bool.{not, cond}
-use Rattle.wire.specs.Encoder.{refused, writing, encodeIn, encodeOf}
-use Rattle.wire.specs.Numbers.{badMovement}
+use Rattle.wire.specs.Encoder.{refused, writing, unheldNumber, encodeIn, encodeOf}
 use Rattle.wire.specs.Holds.{isNone, holds, accepted}
 use Rattle.wire.specs.declared.Unheld.{Unheld}
 use Rattle.wire.specs.declared.Unheld.the-variants.{None, FirstX, FirstY, SecondX, SecondY}
@@ -36,7 +35,7 @@ enum-told-2 c = search needs
 
 -- what is answered for a movement, or for none, that is not held
 movement : (c : tie.After-unheld) (u : Unheld) → c .unheld .result ≡ u → let a = c .before .before .before .before .before .before .before .before .args in
-    encodeOf (a .letter) (a .report) (a .buffer .now) ≡ cond (not (isNone u)) (refused badMovement (a .buffer .now)) (writing (c .before .before .before .before .f .given .0 .0) (a .report) (a .buffer .now))
+    encodeOf (a .letter) (a .report) (a .buffer .now) ≡ cond (not (isNone u)) (refused (unheldNumber u) (a .buffer .now)) (writing (c .before .before .before .before .f .given .0 .0) (a .report) (a .buffer .now))
 unfolding encodeIn holds
 movement c u e = rw (sym (c .before .before .before .before .before .before .format-of .ensures) ∙ c .before .before .before .before .f .given .1) (simp (le-leb _ 7 (c .before .if1 .left), sym (c .unheld .ensures) ∙ e))
 
