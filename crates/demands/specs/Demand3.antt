@@ -54,7 +54,7 @@ given-by true = a-break
 given-by false = no-word
 
 module _ {f : Format} {b : BallBox} {a : Stepped} {events : List Event} {answers : List Stepped} (run : Run f b a events answers) where
-  set-box : SetTo f (a .next) nothing
+  pub set-box : SetTo f (a .next) nothing
   set-box = set-to f b a (run .good) (run .awake) (run .set)
 
   front-given : {front : List ℕ} → Front a front → Given front

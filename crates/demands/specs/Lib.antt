@@ -1,8 +1,10 @@
--- The user's demands (Demand1, Demand2, Demand3, and runs of the box worked out in Worked), the paper's figures (Figures, in the words of Said) and
--- the useless programs that are shut out (Strength), as theorems over what the other crates promise; and what examples compute with (Computing).
+-- The user's demands (Demand1, Demand2, Demand3, and runs of the box worked out in Worked), the eighth bit of a Microsoft byte (EighthBit),
+-- presses that outlive a busy line (Presses, worked out in Taps),
+-- the paper's figures (Figures, in the words of Said) and the useless programs that are shut out (Strength), as theorems over what the other crates promise; and what examples compute with (Computing).
 pub mod Demand1
 pub mod Demand2
 pub mod Demand3
+pub mod EighthBit
 pub mod Presses
 pub mod Computing
 pub mod Worked

@@ -4,27 +4,34 @@ use Prim.Native.Nat.{ℕ, _≤_}
 use mathlib.Core.Path.{_≡_, refl, sym, _∙_, ap}
 use mathlib.Core.Bool.{true, not}
 use mathlib.Core.Logic.{⊎-elim}
-use mathlib.Core.List.{List, _∷_}
+use mathlib.Core.List.{List, _∷_, _++_}
 use native.Mathlib.Omega.{arith}
+use lib.ListN.{length}
 use lib.IntN.{ℤ}
-use borrow.Author.Tests.{leb-true}
+use borrow.Author.Tests.{leb-true, lt-ltb}
 use Rattle.numbers.specs.Bits.{number, bit, bits}
 use Rattle.numbers.proofs.Choices.{cases}
+use Rattle.numbers.proofs.Rows.{bits-below}
 use Rattle.numbers.proofs.Tested.{agree, equal}
 use Rattle.frames.specs.Words.{isByte}
+use Rattle.frames.specs.Passages.{Passage, UnderWay, passageWords, partWords}
+use Rattle.frames.proofs.Words.{passing, line-passes}
 use Rattle.wire.specs.Line.{letterOf, namedBy}
 use Rattle.wire.specs.Places.{like, fitsFirst, fitsLater, fitsAt, fitsBy}
+use Rattle.wire.specs.Messages.{Message, messageBytes, SoundIn, SoundEnd}
 use Rattle.wire.specs.declared.Format.the-variants.{Microsoft}
 use Rattle.reader.specs.Rules.{entered, wordOf}
 use Rattle.reader.specs.Line.{Long, joined, lineOf}
 use Rattle.reader.specs.Good.{good}
 use Rattle.reader.specs.Promises.{ReadPromise, stepOf, readOf}
 use Rattle.reader.specs.Runs.{stepsOf, StepsPromise}
-use Rattle.reader.specs.EighthBit.{turned, TurnedOver, none, stays, turns}
+use Rattle.reader.specs.EighthBit.{turned, sevenBits, TurnedOver, none, stays, turns}
 use Rattle.reader.specs.declared.Reader.{Reader}
 use Rattle.reader.specs.declared.Read.{Read}
 use Rattle.reader.specs.declared.Reading.{Reading}
-use Rattle.reader.proofs.Entered.{enters-in-V}
+use Rattle.reader.proofs.Entered.{enters-in-V, seven-bits}
+use Rattle.reader.proofs.Framed.{frameOf}
+use Rattle.reader.proofs.Lines.{framed-line, framed-going}
 use Rattle.reader.proofs.Word.{word-format}
 use Rattle.reader.proofs.View.{view}
 use Rattle.reader.proofs.Permitted.{steps-are}
@@ -94,3 +101,12 @@ first-by-bit-6 b h = agree (λ n. fitsBy 0x56 0 (entered 0x56 n)) (bit 6) 256 tt
 pub later-by-bit-6 : (b : ℕ) → b ≤ 255 → fitsBy (letterOf Microsoft) 1 (entered (letterOf Microsoft) b) ≡ not (bit 6 b)
 unfolding entered fitsBy namedBy fitsAt fitsLater like bit bits number
 later-by-bit-6 b h = agree (λ n. fitsBy 0x56 1 (entered 0x56 n)) (λ n. not (bit 6 n)) 256 tt b (omega arith)
+
+-- "The box still sends it as 0": every byte of a line of V, as a box sends it, is below 128
+fit-small : (place b : ℕ) → fitsAt Microsoft place b ≡ true → sevenBits b ≡ true
+fit-small place b h = rw (lt-ltb b 128 (omega (arith, seven-bits place b h, bits-below 7 0 b)))
+
+pub line-seven-bits : (l : List (Passage Message)) (g : UnderWay Message) → SoundIn Microsoft l → SoundEnd Microsoft g
+    → passing sevenBits (passageWords messageBytes l ++ partWords messageBytes g) ≡ true
+line-seven-bits l g s e =
+    line-passes sevenBits (frameOf Microsoft) messageBytes refl refl (λ k b h. fit-small (length k) b h) l g (framed-line Microsoft l s) (framed-going Microsoft g e)

@@ -34,7 +34,7 @@ byte-enters letter b h =
     cases (λ (n : ℕ). n ≤ 255) (eqb letter (letterOf Microsoft)) (λ _. omega (arith, bits-below 7 0 b)) (λ _. h)
 
 -- and one that fits its place as itself, as all that a box sends
-seven-bits : (place b : ℕ) → fitsAt Microsoft place b ≡ true → number (bits 7 0 b) ≡ b
+pub seven-bits : (place b : ℕ) → fitsAt Microsoft place b ≡ true → number (bits 7 0 b) ≡ b
 unfolding fitsAt fitsFirst fitsLater like bit bits number
 seven-bits place b h = go (eqb place 0) h
   where

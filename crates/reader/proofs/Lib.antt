@@ -24,11 +24,11 @@ pub mod Back
 pub mod Useless
 pub mod Sentences
 pub mod Nowhere
-pub mod EighthBit
 pub mod Framed
 pub mod AsSent
 pub mod Took
 pub mod Lines
+pub mod EighthBit
 pub mod Handed
 pub mod Damaged
 pub mod DamagedRuns
