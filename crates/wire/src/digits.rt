@@ -1,4 +1,4 @@
-// Hexadecimal digits, by ranges.
+// Hexadecimal digits, by the two ranges: '0' to '9' are 0 to 9, 'A' to 'F' are 10 to 15.
 ghost use mathlib.Core.Path.{_≡_};
 ghost use Prim.Native.Nat.{_<_};
 ghost use Rattle.wire.specs.Digits.{isDigit, digit, undigit};
@@ -15,7 +15,10 @@ pub(crate) fn digit_of(n: u8) -> u8
     requires { ⌜ n < 16 ⌝ }
     ensures { λ r. ⌜ r ≡ digit n ⌝ }
 {
-    if n < 10 { b'0' + n } else { b'A' - 10 + n }
+    match n {
+        0..=9 => b'0' + n,
+        _ => b'A' + (n - 10),
+    }
 }
 
 // The number of a digit; a byte that is no digit counts as 0.
@@ -24,7 +27,7 @@ pub(crate) fn number_of(b: u8) -> u8
 {
     match b {
         b'0'..=b'9' => b - b'0',
-        b'A'..=b'F' => b - b'A' + 10,
+        b'A'..=b'F' => 10 + (b - b'A'),
         _ => 0,
     }
 }

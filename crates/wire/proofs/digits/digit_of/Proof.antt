@@ -1,6 +1,7 @@
 -- `digit_of`: the two ranges of digits.
 use borrow.Author.Needs.{needs}
 use borrow.Author.Tests.{lt-ltb, le-ltb}
+use native.Mathlib.Omega.{arith}
 use Rattle.wire.specs.Digits.{digit}
 use Rattle.wire.proofs.digits.digit_of.Statement.{statement}
 use Rattle.wire.proofs.digits.digit_of.Tie as tie
@@ -8,19 +9,16 @@ use Rattle.wire.proofs.digits.digit_of.Tie as tie
 add-result : tie.Need-add-result
 add-result c = search needs
 
-sub-result : tie.Need-sub-result
-sub-result c = search needs
-
 add-result-2 : tie.Need-add-result-2
 add-result-2 c = search needs
 
 returns : tie.Need-returns
 unfolding digit
-returns c = simp (lt-ltb _ _ (c .if1 .taken))
+returns c = simp (lt-ltb (c .before .args .n) 10 (omega arith))
 
 returns-2 : tie.Need-returns-2
 unfolding digit
-returns-2 c = simp (le-ltb _ _ (c .if1 .left))
+returns-2 c = simp (le-ltb (c .before .args .n) 10 (omega arith))
 
 pub digit-of-spec : {M : Type 1} → statement M
-digit-of-spec = tie.close (tie.spec add-result sub-result add-result-2 returns returns-2)
+digit-of-spec = tie.close (tie.spec add-result add-result-2 returns returns-2)

@@ -12,13 +12,12 @@ decimal : (b : ℕ) → 48 ≤ b → b ≤ 57 → b - 48 ≡ undigit b
 unfolding undigit
 decimal b h k = simp (le-leb 48 b h, le-leb b 57 k)
 
-letter : (b : ℕ) → 65 ≤ b → b ≤ 70 → b - 65 + 10 ≡ undigit b
+letter : (b : ℕ) → 65 ≤ b → b ≤ 70 → 10 + (b - 65) ≡ undigit b
 unfolding undigit
 letter b h k =
     let l : 57 < b = omega arith in
     let m : 48 ≤ b = omega arith in
-    let e : b - 65 + 10 ≡ b - 55 = omega arith in
-    simp (le-leb 48 b m, lt-leb b 57 l, le-leb 65 b h, le-leb b 70 k, e)
+    simp (le-leb 48 b m, lt-leb b 57 l, le-leb 65 b h, le-leb b 70 k)
 
 below : (b : ℕ) → b < 48 → 0 ≡ undigit b
 unfolding undigit
