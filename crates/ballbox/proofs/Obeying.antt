@@ -52,20 +52,20 @@ abbrev pub goingOr : Going → List ℕ → Going
 goingOr g [] = g
 goingOr g (b ∷ bytes) = goingFrom (b ∷ bytes)
 
--- it empties the memory, or leaves it
-abbrev pub empties : Command → Bool
-empties (SetFormat f) = true
-empties (SetStream m) = false
-empties SetPrompt = true
-empties AskReport = true
-empties AskAck = false
-empties AskCode = false
-empties AskLetters = false
-empties AskButtons = false
-empties Sleep = true
-empties Ignored = false
+-- it commandEmpties the memory, or leaves it
+abbrev pub commandEmpties : Command → Bool
+commandEmpties (SetFormat f) = true
+commandEmpties (SetStream m) = false
+commandEmpties SetPrompt = true
+commandEmpties AskReport = true
+commandEmpties AskAck = false
+commandEmpties AskCode = false
+commandEmpties AskLetters = false
+commandEmpties AskButtons = false
+commandEmpties Sleep = true
+commandEmpties Ignored = false
 
-pub obeyed-leaves : (c : Command) (b : BallBox) → (obeyed c b .going ≡ goingOr (b .going) (replyTo b c)) × (obeyed c b .memory ≡ cond (empties c) none (b .memory))
+pub obeyed-leaves : (c : Command) (b : BallBox) → (obeyed c b .going ≡ goingOr (b .going) (replyTo b c)) × (obeyed c b .memory ≡ cond (commandEmpties c) none (b .memory))
 unfolding obeyed
 obeyed-leaves (SetFormat f) b = (refl, refl)
 obeyed-leaves (SetStream m) b = (refl, refl)
@@ -80,15 +80,6 @@ obeyed-leaves Ignored b = (refl, refl)
 
 pub obeyed-going : (c : Command) (b : BallBox) → obeyed c b .going ≡ goingOr (b .going) (replyTo b c)
 obeyed-going c b = obeyed-leaves c b .0
-
-reply-or : (bytes : List ℕ) → goingOr nothing bytes ≡ goingFrom bytes
-unfolding goingFrom
-reply-or [] = refl
-reply-or (b ∷ bytes) = refl
-
--- so that where nothing was going its reply is
-pub obeyed-reply : (c : Command) (b : BallBox) → b .going ≡ nothing → obeyed c b .going ≡ goingFrom (replyTo b c)
-obeyed-reply c b e = obeyed-going c b ∙ (ap (λ (g : Going). goingOr g (replyTo b c)) e ∙ reply-or (replyTo b c))
 
 -- a byte heard awake
 module _ (b : BallBox) (n : ℕ) (r : Stepped) (s : StepPromise b (Host n) r) (g : good b ≡ true) (d : b .dormant ≡ false) where

@@ -24,7 +24,7 @@ use Rattle.ballbox.specs.declared.Stepped.{Stepped}
 use Rattle.ballbox.proofs.Outgoing.{left-idle, size-known}
 use Rattle.ballbox.proofs.Parts.{letter-known, parts}
 use Rattle.ballbox.proofs.Remembering.{remembered-none, remembered-hidden, remembered-length}
-use Rattle.ballbox.proofs.Obeying.{empties, obeyed-leaves}
+use Rattle.ballbox.proofs.Obeying.{commandEmpties, obeyed-leaves}
 use Rattle.ballbox.proofs.Refusals.{awake-step}
 use Rattle.ballbox.proofs.Accepting.{bytes-by-length}
 use Rattle.ballbox.proofs.Goodness.{latched-left}
@@ -58,7 +58,7 @@ remembered-wanted b n ns g e =
     rw (lt-ltb 0 c (omega (arith, remembered-length (b .memory) (parts b g .memory), ap length e)), or-true (b .due))
 
 -- "D, P, `d` and the format commands empty the memory"; the others leave it
-pub obeyed-memory : (c : Command) (b : BallBox) → obeyed c b .memory ≡ cond (empties c) none (b .memory)
+pub obeyed-memory : (c : Command) (b : BallBox) → obeyed c b .memory ≡ cond (commandEmpties c) none (b .memory)
 obeyed-memory c b = obeyed-leaves c b .1
 
 -- breaking off leaves what is remembered
@@ -67,12 +67,12 @@ unfolding dropped
 dropped-remembered b =
     cases (λ (x : BallBox). remembered (x .memory) ≡ remembered (b .memory)) (bytesLeft b) (λ e. remembered-hidden (b .memory)) (λ e. refl)
 
-pub host-remembered : (b : BallBox) (n : ℕ) (r : Stepped) → StepPromise b (Host n) r → good b ≡ true → b .dormant ≡ false → remembered (r .next .memory) ≡ cond (empties (commandOf n)) [] (remembered (b .memory))
+pub host-remembered : (b : BallBox) (n : ℕ) (r : Stepped) → StepPromise b (Host n) r → good b ≡ true → b .dormant ≡ false → remembered (r .next .memory) ≡ cond (commandEmpties (commandOf n)) [] (remembered (b .memory))
 unfolding awake onHost
 host-remembered b n r s g d =
     ap (λ (x : Step). remembered (x .next .memory)) (awake-step b (Host n) r s g refl d) ∙
     (ap remembered (obeyed-memory (commandOf n) (dropped b)) ∙
-    go (empties (commandOf n)))
+    go (commandEmpties (commandOf n)))
   where
     go : (t : Bool) → remembered (cond t none (dropped b .memory)) ≡ cond t [] (remembered (b .memory))
     go true = remembered-none

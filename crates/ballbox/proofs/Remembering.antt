@@ -145,16 +145,6 @@ module _ (m : Memory) (g : goodMemory m ≡ true) where
   unfolding remembered
   remembered-length = let p = memory-parts m g in length-take-le (m .count) (m .states) (omega (arith, p .places, p .most))
 
-  pub remembered-small : (i : ℕ) → at i (remembered m) ≤ 7
-  unfolding remembered
-  remembered-small i = go (ltb i (m .count)) refl
-    where
-      go : (t : Bool) → ltb i (m .count) ≡ t → at i (remembered m) ≤ 7
-      go true e = rw (getD-take (m .count) (m .states) i 0 (ltb-true i (m .count) e)) (memory-parts m g .small i)
-      go false e =
-          let z : at i (remembered m) ≡ 0 = List·getD-eq-default (remembered m) 0 (omega (arith, remembered-length, ltb-false i (m .count) e)) in
-          omega arith
-
   -- "the box shall remember button states in order"
   pub remembered-behind : (n : ℕ) → full m ≡ false → remembered (remembering n m) ≡ remembered m ++ (n ∷ [])
   unfolding remembered remembering

@@ -3,11 +3,11 @@
 -- motion, periods, buttons, slots, and any byte of the host's but D, P, `d` and the formats.
 use Prim.Native.Nat.{ℕ, suc, _*_, _≤_}
 use mathlib.Core.Path.{_≡_, refl, sym, _∙_, ap}
-use mathlib.Core.Bool.{Bool, true, false}
+use mathlib.Core.Bool.{true, false}
 use mathlib.Core.List.{List, [], _∷_, _++_, map, append-nil}
 use native.Mathlib.Omega.{arith}
 use lib.ListN.{length, take, length-append}
-use lib.Seq.{take-append-le, take-at, take-all}
+use lib.Seq.{take-append-le, take-at}
 use Rattle.frames.specs.Passages.{Passage, silent, UnderWay, nothing, Unbroken, Unpaused, Sub, passageWords, partWords}
 use Rattle.wire.specs.Line.{letterOf, sizeBy, markedOf}
 use Rattle.wire.specs.Messages.{Message, messageBytes, finishedReports, SoundIn, SoundEnd}

@@ -2,7 +2,7 @@
 -- and what is remembered computed.
 use Prim.Native.Nat.{ℕ}
 use mathlib.Core.Path.{_≡_, refl}
-use mathlib.Core.Bool.{true, cond, _||_}
+use mathlib.Core.Bool.{cond, _||_}
 use mathlib.Core.List.{List, [], _∷_, _++_}
 use lib.Dec.{eqb}
 use lib.IntN.{pos}
@@ -27,7 +27,7 @@ use Rattle.ballbox.specs.declared.Event.{Event}
 use Rattle.ballbox.specs.declared.Event.the-variants.{Motion, Buttons, Host, Slot, Period}
 use Rattle.history.specs.Runs.{wordsGiven, answersTo}
 use Rattle.history.specs.History.{nextBox, passagesOf}
-use Rattle.history.specs.Presses.{boxAfter, changesIn, neverNinth, shownBy, nothing-going}
+use Rattle.history.specs.Presses.{boxAfter, shownBy, nothing-going}
 use Rattle.history.proofs.Permitted.{answers-permitted}
 use Rattle.demands.specs.Computing.{computing}
 use Rattle.demands.specs.Presses.{Streaming, seen-marked, seen-without-host}

@@ -4,7 +4,7 @@ use mathlib.Core.List.{List, [], _∷_, _++_, append-assoc, append-nil}
 use mathlib.Core.Bool.{Bool, true, false}
 use Prim.Native.Nat.{ℕ, suc, _+_, _<_}
 use native.Mathlib.Omega.{arith}
-use lib.ListN.{length, take, length-append, length-take, replicate}
+use lib.ListN.{length, take, length-append, replicate}
 use borrow.Author.Tests.{ne-eqb}
 use Rattle.frames.specs.Words as words
 use Rattle.frames.specs.Passages.{Passage, silent, finished, broken, UnderWay, nothing, first, Sub, none, gone, stays, finishedIn, finishedBy, wordsOf, passageWords, partWords, SoundOf, Sound, SoundPart}

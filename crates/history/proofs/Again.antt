@@ -1,18 +1,18 @@
 -- A broken-off report that showed a state is followed by another with the same buttons.
-use Prim.Native.Nat.{ℕ, _+_, _≤_, _<_}
+use Prim.Native.Nat.{ℕ, _+_, _≤_}
 use mathlib.Core.Path.{_≡_, refl, sym, _∙_, ap}
-use mathlib.Core.Bool.{Bool, true, false, not, cond, _&&_}
+use mathlib.Core.Bool.{Bool, true, false, not, _&&_}
 use mathlib.Core.List.{List, [], _∷_, _++_}
 use native.Mathlib.Omega.{arith}
-use lib.ListN.{length, take, length-append}
-use lib.Dec.{eqb, leb, ltb}
-use borrow.Author.Tests.{leb-true, lt-ltb, not-true}
+use lib.ListN.{length, take}
+use lib.Dec.{eqb}
+use borrow.Author.Tests.{leb-true, lt-ltb}
 use Rattle.numbers.proofs.Choices.{cases}
 use Rattle.numbers.proofs.Tested.{holds, left, right}
 use Rattle.frames.specs.Passages.{Passage, silent, finished, broken, UnderWay, nothing, first, Unbroken}
-use Rattle.frames.specs.Sender.{Told, told, sentOne, brokenOff, passagesOver, goingOver}
-use Rattle.wire.specs.Messages.{Latched, Message, report, reply, messageBytes}
-use Rattle.ballbox.specs.Presses.{remembered, anyRemembered, full, toShow}
+use Rattle.frames.specs.Sender.{Told, told, sentOne, passagesOver, goingOver}
+use Rattle.wire.specs.Messages.{Message, report, reply, messageBytes}
+use Rattle.ballbox.specs.Presses.{remembered, anyRemembered, full}
 use Rattle.ballbox.specs.Latching.{latchedReport}
 use Rattle.ballbox.specs.Commands.{commandOf, replyTo}
 use Rattle.ballbox.specs.Events.{wanted}
@@ -24,11 +24,11 @@ use Rattle.ballbox.proofs.Remembering.{remembered-length}
 use Rattle.ballbox.proofs.Parts.{parts}
 use Rattle.history.specs.History.{latchedNow, begun, pairedAt, paired, isFive, replying, toldBy, nextBox, passagesOf, goingAfter}
 use Rattle.history.specs.Asked.{hostsPass, allHosts}
-use Rattle.history.specs.Presses.{empties, noneEmpties, noHost, changeTo, noting, shownIn, shownBy, Shows, ShowsIn, NextShows, ShownAgain}
+use Rattle.history.specs.Presses.{empties, noneEmpties, noHost, changeTo, noting, shownBy, Shows, ShowsIn, NextShows, ShownAgain}
 use Rattle.history.proofs.Slots.{not-yet}
 use Rattle.history.proofs.Bridge.{told-is}
 use Rattle.history.proofs.Showing.{first-shown}
-use Rattle.history.proofs.Presses.{Streams, Step, streams-step, full-some, first-noted, Quiet, motion, buttons, period, quiet-passes, quiet-told}
+use Rattle.history.proofs.Presses.{Streams, Step, streams-step, first-noted, Quiet, motion, buttons, period, quiet-told}
 
 -- the box remembers this state first, and the report that is going, if one is, shows it
 pub record First (state : ℕ) (b : BallBox) (g : UnderWay Message) : Type 0 where

@@ -1,21 +1,21 @@
 -- Presses that outlive a busy line: over every run of a box in a stream mode, what is remembered is shown, in order, each state by a report of its own.
-use Prim.Native.Nat.{ℕ, zero, suc, _+_, _-_, _*_, _≤_, _<_}
+use Prim.Native.Nat.{ℕ, zero, suc, _+_, _-_, _≤_, _<_}
 use mathlib.Core.Path.{_≡_, refl, sym, _∙_, ap}
-use mathlib.Core.Bool.{Bool, true, false, not, cond, _&&_}
+use mathlib.Core.Bool.{Bool, true, false, not, _&&_}
 use mathlib.Core.List.{List, [], _∷_, _++_, map, append-assoc, append-nil}
 use native.Mathlib.Omega.{arith}
-use lib.ListN.{length, take, drop, length-append}
+use lib.ListN.{length, take, length-append}
 use lib.IntN.{ℤ}
 use lib.Seq.{take-append-le}
 use lib.Dec.{eqb, leb}
-use borrow.Author.Tests.{leb-true, leb-false, ltb-true, ltb-false, lt-leb, not-true}
+use borrow.Author.Tests.{leb-true, ltb-true, ltb-false, lt-leb, not-true}
 use Rattle.numbers.proofs.Choices.{cases}
 use Rattle.numbers.proofs.Tested.{left, right}
-use Rattle.frames.specs.Passages.{Passage, silent, finished, broken, UnderWay, nothing, first, Sub, none, gone, stays}
-use Rattle.frames.specs.Sender.{told, sentOne, passagesOver, goingOver}
+use Rattle.frames.specs.Passages.{Passage, silent, finished, broken, UnderWay, Sub, none, gone, stays}
+use Rattle.frames.specs.Sender.{told, passagesOver}
 use Rattle.frames.proofs.Passages.{finished-append}
 use Rattle.wire.specs.Holds.{carried}
-use Rattle.wire.specs.Messages.{Message, report, reply, messageBytes, finishedReports}
+use Rattle.wire.specs.Messages.{Message, report, reply, finishedReports}
 use Rattle.wire.specs.declared.Report.{Report}
 use Rattle.wire.specs.declared.Format.{Format}
 use Rattle.wire.specs.declared.Format.the-variants.{Mm, Microsoft, Absolute, Relative, FiveByte, ThreeByte, Hexadecimal}
@@ -23,7 +23,7 @@ use Rattle.ballbox.specs.Box as box
 use Rattle.ballbox.specs.Presses.{remembered, full}
 use Rattle.ballbox.specs.Latching.{latched, secondLatched}
 use Rattle.ballbox.specs.Commands.{isStream, commandOf, obeyed}
-use Rattle.ballbox.specs.Events.{bytesLeft, wanted, latching, secondNow, withByteReady, nextByte, sending, onSlot, dropped, onHost, onButtons, onPeriod, awake}
+use Rattle.ballbox.specs.Events.{bytesLeft, wanted, latching, secondNow, withByteReady, nextByte, sending, dropped, onHost, onButtons, onPeriod, awake}
 use Rattle.ballbox.specs.Good.{good}
 use Rattle.ballbox.specs.Promises.{aboveSeven, stepOf}
 use Rattle.ballbox.specs.declared.BallBox.{BallBox}
@@ -40,7 +40,7 @@ use Rattle.ballbox.proofs.Pressing.{idle-shows-none}
 use Rattle.ballbox.proofs.Refusals.{ruled}
 use Rattle.ballbox.proofs.Obeying.{dropped-settings, dropped-awake}
 use Rattle.history.specs.Runs.{RunPromise}
-use Rattle.history.specs.History.{whenAwake, toldBy, nextBox, passagesOf, goingAfter}
+use Rattle.history.specs.History.{whenAwake, toldBy, nextBox, passagesOf}
 use Rattle.history.specs.Asked.{hostsPass, allHosts, asks}
 use Rattle.history.specs.Presses.{NoReport, nothing-going, a-reply, empties, noneEmpties, changeTo, changesIn, inPlaceOfLast, noting, statesOver, noNinth, neverNinth, shownIn, shownBy, boxAfter, lastBox}
 use Rattle.history.proofs.Carries.{Carries}

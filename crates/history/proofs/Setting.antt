@@ -1,6 +1,6 @@
 -- A good box that is awake is set to a format by its letter, whatever was going.
 use mathlib.Core.Path.{_≡_, refl, _∙_, ap}
-use mathlib.Core.Bool.{Bool, true, false, cond}
+use mathlib.Core.Bool.{true, false, cond}
 use mathlib.Core.List.{[], _∷_}
 use Rattle.frames.specs.Words.{break}
 use Rattle.wire.specs.Line.{letterOf, namedBy, known}

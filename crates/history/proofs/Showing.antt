@@ -1,39 +1,36 @@
 -- One step of a box in a stream mode: what it remembers, and what the report that is going shows.
 use Prim.Native.Nat.{ℕ, zero, suc, _+_, _≤_}
 use mathlib.Core.Path.{_≡_, refl, sym, _∙_, ap}
-use mathlib.Core.Bool.{Bool, true, false, not, cond, _&&_, _||_}
+use mathlib.Core.Bool.{Bool, true, false, cond, _&&_, _||_}
 use mathlib.Core.List.{List, [], _∷_, _++_, append-nil}
 use native.Mathlib.Omega.{arith}
 use lib.ListN.{length, take, drop}
-use lib.Dec.{eqb, ltb, leb}
-use borrow.Author.Tests.{lt-ltb, le-ltb, ltb-true, eqb-true, eqb-false, leb-true, leb-false, le-leb}
+use lib.Dec.{eqb, ltb}
+use borrow.Author.Tests.{lt-ltb, le-ltb, ltb-true, eqb-true, eqb-false, leb-true, le-leb}
 use Rattle.numbers.proofs.Choices.{cases, neither}
-use Rattle.numbers.proofs.Tested.{holds, left, right}
+use Rattle.numbers.proofs.Tested.{left}
 use Rattle.frames.specs.Passages.{UnderWay, nothing, first}
 use Rattle.frames.specs.Sender.{sentOne, brokenOff}
-use Rattle.wire.specs.Line.{letterOf, known}
-use Rattle.wire.specs.Messages.{Latched, Message, report, reply, messageBytes}
-use Rattle.wire.specs.declared.Format.the-variants.{FiveByte}
+use Rattle.wire.specs.Line.{known}
+use Rattle.wire.specs.Messages.{Message, report, reply, messageBytes}
 use Rattle.ballbox.specs.Box.{modeD}
 use Rattle.ballbox.specs.Presses.{remembered, anyRemembered, full, remembering, toShow, showingFirst, shown, hidden}
 use Rattle.ballbox.specs.Latching.{latched, latchedReport, secondLatched}
 use Rattle.ballbox.specs.Commands.{isStream, letterP, space, letterf, lettert, byte05, letterd, commandOf, replyTo, obeyed}
-use Rattle.ballbox.specs.Events.{bytesLeft, wanted, latching, secondNow, withByteReady, memoryAfter, nextByte, sending, onSlot, dropped, onHost, onButtons, onPeriod, awake}
+use Rattle.ballbox.specs.Events.{wanted, secondNow, withByteReady, memoryAfter, nextByte, onSlot, dropped, onHost, onButtons}
 use Rattle.ballbox.specs.Good.{good, goodMemory}
-use Rattle.ballbox.specs.Promises.{aboveSeven, stepOf}
 use Rattle.ballbox.specs.declared.BallBox.{BallBox}
 use Rattle.ballbox.specs.declared.Memory.{Memory}
 use Rattle.ballbox.specs.declared.Going.{Going}
-use Rattle.ballbox.specs.declared.Event.{Event}
-use Rattle.ballbox.specs.declared.Event.the-variants.{Motion, Buttons, Host, Slot, Period}
+use Rattle.ballbox.specs.declared.Event.the-variants.{Buttons, Slot}
 use Rattle.ballbox.specs.declared.Command.{Command}
 use Rattle.ballbox.specs.declared.Command.the-variants.{SetFormat, SetStream, SetPrompt, AskReport, AskAck, AskCode, AskLetters, AskButtons, Sleep, Ignored}
 use Rattle.ballbox.proofs.Remembering.{memory-parts, memory-again, showing-good, remembered-length, remembered-behind, remembered-ninth, remembered-shown, remembered-hidden, remembered-showing, shown-none, shows-first}
 use Rattle.ballbox.proofs.Parts.{parts}
 use Rattle.ballbox.proofs.Slots.{latching-busy, latching-wanted, latching-idle, sending-byte, sending-silence, dropped-busy, dropped-idle}
-use Rattle.history.specs.History.{latchedNow, begun, pairedAt, paired, isFive, replying, whenAwake, toldBy, nextBox}
+use Rattle.history.specs.History.{latchedNow, pairedAt, isFive, replying, whenAwake}
 use Rattle.history.specs.Presses.{empties, changeTo, inPlaceOfLast, noting, shownIn, shownBy}
-use Rattle.history.proofs.Carries.{Carries, onLine}
+use Rattle.history.proofs.Carries.{Carries}
 use Rattle.history.proofs.Slots.{bytes-left, pairs, latched-carries, not-yet}
 
 -- the report that is going shows the first state that is remembered, or none

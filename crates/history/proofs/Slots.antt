@@ -1,18 +1,18 @@
 -- A slot: latching, U's second pair, and one word more.
-use Prim.Native.Nat.{ℕ, _+_, _<_}
+use Prim.Native.Nat.{ℕ, _+_}
 use mathlib.Core.Path.{_≡_, refl, sym, _∙_, ap}
 use mathlib.Core.Bool.{Bool, true, false, _&&_, and-false}
-use mathlib.Core.List.{List, [], _∷_, _++_}
+use mathlib.Core.List.{[], _∷_, _++_}
 use native.Mathlib.Omega.{arith}
-use lib.ListN.{length, take, set}
-use lib.Dec.{eqb, ltb, lit<}
+use lib.ListN.{length, take}
+use lib.Dec.{eqb, ltb}
 use borrow.Author.Tests.{lt-ltb, le-ltb, eqb-true, eqb-false, ne-eqb}
 use Rattle.numbers.proofs.Tested.{holds, left, right}
-use Rattle.frames.specs.Passages.{UnderWay, nothing, first, partWords}
+use Rattle.frames.specs.Passages.{nothing, first, partWords}
 use Rattle.frames.specs.Sender.{sentOne}
-use Rattle.frames.proofs.Sender.{nextWord, sends}
+use Rattle.frames.proofs.Sender.{sends}
 use Rattle.wire.specs.Line.{letterOf, namedBy, ofNamed, known}
-use Rattle.wire.specs.Table.{bytesOf, five, bytesU}
+use Rattle.wire.specs.Table.{bytesU}
 use Rattle.wire.specs.Reading.{at}
 use Rattle.wire.specs.Holds.{accepted, acceptedBy}
 use Rattle.wire.specs.Messages.{Latched, Message, report, reply, messageBytes}
@@ -24,13 +24,12 @@ use Rattle.wire.proofs.Front.{size-between}
 use Rattle.wire.proofs.Codec.{bytes-length}
 use Rattle.wire.proofs.Codec.Accepted.{parts, parts-accepted}
 use Rattle.ballbox.specs.Box.{goingFrom}
-use Rattle.ballbox.specs.Latching.{movement, taken, secondOnly, withSecond, secondLatched, latched, latchedReport}
+use Rattle.ballbox.specs.Latching.{movement, taken, withSecond, secondLatched, latched, latchedReport}
 use Rattle.ballbox.specs.Events.{bytesLeft, wanted, secondNow, withByteReady, after, nextByte, onSlot}
 use Rattle.ballbox.specs.Good.{good}
 use Rattle.ballbox.specs.declared.BallBox.{BallBox}
 use Rattle.ballbox.specs.declared.Going.{Going}
 use Rattle.ballbox.specs.declared.Track.{Track}
-use Rattle.ballbox.specs.declared.Pair.{Pair}
 use Rattle.ballbox.proofs.Letters.{Lettered, named, unnamed, lettered}
 use Rattle.ballbox.proofs.Accepting.{second-within, latched-accepted}
 use Rattle.ballbox.proofs.Slots.{latching-busy, latching-wanted, latching-idle, sending-byte, sending-silence}

@@ -1,39 +1,37 @@
 -- Within so many slots: on a busy line, each state that is remembered has been shown after as many reports' worth of slots.
 use Prim.Native.Nat.{ℕ, zero, suc, _+_, _-_, _*_, _≤_, _<_}
 use mathlib.Core.Path.{_≡_, refl, sym, _∙_, ap}
-use mathlib.Core.Bool.{Bool, true, false, not, cond, _&&_, _||_}
-use mathlib.Core.List.{List, [], _∷_, _++_, append-nil}
+use mathlib.Core.Bool.{Bool, true, false, cond, _&&_}
+use mathlib.Core.List.{List, [], _∷_, _++_}
 use native.Mathlib.Numerals.{one-add}
 use native.Mathlib.Omega.{arith}
-use lib.ListN.{length, take, length-append}
-use lib.Dec.{eqb, ltb}
-use lib.IntN.{ℤ}
-use borrow.Author.Tests.{eqb-true, eqb-false, ne-eqb, lt-ltb}
+use lib.ListN.{length, length-append}
+use lib.Dec.{eqb}
+use borrow.Author.Tests.{eqb-true, eqb-false, lt-ltb}
 use Rattle.numbers.proofs.Choices.{cases}
 use Rattle.numbers.proofs.Tested.{holds}
-use Rattle.frames.specs.Passages.{Passage, UnderWay, nothing, first}
-use Rattle.frames.specs.Sender.{told, sentOne, passagesOver}
+use Rattle.frames.specs.Passages.{UnderWay, nothing, first}
+use Rattle.frames.specs.Sender.{sentOne, passagesOver}
 use Rattle.frames.proofs.Passages.{finished-append}
-use Rattle.wire.specs.Line.{letterOf, sizeOf, sizeBy}
-use Rattle.wire.specs.Messages.{Latched, Message, report, reply, messageBytes}
+use Rattle.wire.specs.Line.{letterOf, sizeBy}
+use Rattle.wire.specs.Messages.{Message, report, reply, messageBytes}
 use Rattle.wire.proofs.Letters.{letter-named, size-named}
 use Rattle.wire.proofs.Front.{size-between}
 use Rattle.wire.proofs.Codec.{bytes-length}
 use Rattle.ballbox.specs.Presses.{remembered, anyRemembered, full}
 use Rattle.ballbox.specs.Latching.{latchedReport}
 use Rattle.ballbox.specs.Events.{wanted}
-use Rattle.ballbox.specs.Promises.{aboveSeven}
 use Rattle.ballbox.specs.declared.BallBox.{BallBox}
 use Rattle.ballbox.specs.declared.Event.{Event}
 use Rattle.ballbox.specs.declared.Event.the-variants.{Motion, Buttons, Host, Slot, Period}
 use Rattle.ballbox.proofs.Remembering.{remembered-length}
 use Rattle.ballbox.proofs.Parts.{parts}
-use Rattle.history.specs.History.{formatOf, latchedNow, begun, pairedAt, paired, isFive, whenAwake, toldBy, nextBox, passagesOf}
-use Rattle.history.specs.Asked.{hostsPass, allHosts, asks}
-use Rattle.history.specs.Presses.{empties, noHost, changeTo, inPlaceOfLast, noting, shownIn, shownBy, slotsIn}
+use Rattle.history.specs.History.{formatOf, latchedNow, pairedAt, isFive, toldBy, nextBox, passagesOf}
+use Rattle.history.specs.Asked.{allHosts}
+use Rattle.history.specs.Presses.{noHost, changeTo, noting, shownIn, shownBy, slotsIn}
 use Rattle.history.proofs.Slots.{known-format, not-yet}
 use Rattle.history.proofs.Bridge.{told-is}
-use Rattle.history.proofs.Asking.{refused-told, step-alike}
+use Rattle.history.proofs.Asking.{step-alike}
 use Rattle.history.proofs.Presses.{Streams, Step, streams-step, noting-length, Quiet, motion, buttons, period, quiet-passes, quiet-told}
 
 -- a message that shows a remembered state

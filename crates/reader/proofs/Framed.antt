@@ -37,7 +37,7 @@ use Rattle.reader.specs.declared.Read.{Read}
 use Rattle.reader.specs.declared.Answer.{Answer}
 use Rattle.reader.specs.declared.Answer.the-variants as answer
 use Rattle.reader.proofs.Entered.{byte-enters, enteredWord, enteredAll}
-use Rattle.reader.proofs.Parts.{Parts, parts, one-more}
+use Rattle.reader.proofs.Parts.{one-more}
 use Rattle.reader.proofs.Word.{by-rules, word-format}
 use Rattle.reader.proofs.Keeps.{ready-good, word-good}
 use Rattle.reader.proofs.Goodness.{step-word, fresh-is-good}
@@ -86,9 +86,6 @@ dropping-told (suc k) = rw (ne-eqb (suc k) 0 (λ e. omega arith))
 
 -- a good reader of the format
 module _ (f : Format) (r : Reader) (g : good r ≡ true) (named : namedBy (r .format) ≡ Known f) where
-  abbrev has-parts : Parts r
-  has-parts = parts r g
-
   abbrev size-is : sizeBy (r .format) ≡ sizeOf f
   size-is = size-named (r .format) named
 

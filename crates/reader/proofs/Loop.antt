@@ -34,7 +34,8 @@ pub record Turned (r : Reader) (w : ℕ) (o : List ℤ) (t : Reading) (last : Li
   pub sized : length front ≡ 5 * t .reports
   pub room : 5 * t .reports ≤ length o
   pub few : t .dropped + t .next .count ≤ 1 + r .count
-  pub below : r .count < sizeBy (r .format) → t .next .count < sizeBy (t .next .format)
+  pub format : t .next .format ≡ r .format
+  pub below : r .count < sizeBy (r .format) → t .next .count < sizeBy (r .format)
   pub wrote : last ≡ front ++ drop (5 * t .reports) o
   pub is : (ws : List ℕ) → lineOf r (w ∷ ws) o ≡ joined 1 (t .reports) (t .dropped) front (lineOf (t .next) ws (drop (5 * t .reports) o))
 
@@ -62,7 +63,8 @@ module _ (r : Reader) (w : ℕ) (o : List ℤ) where
             sized = rw n (x .sized);
             room = rw n (x .room);
             few = rw (d, m) (omega (arith, x .kept, one-byte w));
-            below = λ h. rw (m, word-format r w) (word-below r w h);
+            format = rw m (word-format r w);
+            below = λ h. rw m (word-below r w h);
             wrote = rw n (ap (λ (l : Long). l .out) f);
             is = rw (n, d, m) (x .is);
           }

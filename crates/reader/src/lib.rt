@@ -89,7 +89,9 @@ impl Reader {
         if !self.good() {
             return refusing(BAD_STATE, self);
         }
-        self.word(word)
+        let size = wire::size(self.format);
+        let marked = wire::marked(self.format);
+        self.word(size, marked, word)
     }
 
     // A line of words, and the numbers of its reports to a lent slice.
@@ -105,6 +107,8 @@ impl Reader {
                 dropped: 0,
             };
         }
-        self.line(words, out)
+        let size = wire::size(self.format);
+        let marked = wire::marked(self.format);
+        self.line(size, marked, words, out)
     }
 }

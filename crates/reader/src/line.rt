@@ -3,7 +3,7 @@ ghost use mathlib.Core.Path.{_≡_};
 ghost use Prim.Native.Nat.{_<_, _≤_};
 ghost use mathlib.Core.List.{_++_};
 ghost use lib.ListN.{length, take, drop};
-ghost use Rattle.wire.specs.Line.{sizeBy};
+ghost use Rattle.wire.specs.Line.{sizeBy, markedBy};
 ghost use Rattle.reader.specs.State.{fiveOf};
 ghost use Rattle.reader.specs.Line.{whole, lineOf};
 use crate::Answer;
@@ -44,11 +44,11 @@ fn reading(refusal: u8, next: Reader, taken: usize, reports: usize, dropped: usi
 
 impl Reader {
     // The first word of a part of the line, and its report to the front of the places that are left.
-    fn first(self, words: &[u16], out: &mut [i16]) -> Reading
-        requires { ⌜ (self .count < sizeBy (self .format)) × (0 < length (now words)) ⌝ }
+    fn first(self, size: usize, marked: bool, words: &[u16], out: &mut [i16]) -> Reading
+        requires { ⌜ (self .count < size) × (size ≡ sizeBy (self .format)) × (marked ≡ markedBy (self .format)) × (0 < length (now words)) ⌝ }
         ensures { λ r. ⌜ whole r (now (out .exit)) ≡ lineOf self (take 1 (now (words .entry))) (now (out .entry)) ⌝ }
     {
-        let s = self.word(words[0]);
+        let s = self.word(size, marked, words[0]);
         if s.refusal != SUCCESS {
             return reading(s.refusal, self, 0, 0, 0);
         }
@@ -68,8 +68,8 @@ impl Reader {
     }
 
     // The words of a line: what is left of it, from the next word on, is handed over with the reader that came back and the places that are left.
-    pub(crate) fn line(self, words: &[u16], out: &mut [i16]) -> Reading
-        requires { ⌜ self .count < sizeBy (self .format) ⌝ }
+    pub(crate) fn line(self, size: usize, marked: bool, words: &[u16], out: &mut [i16]) -> Reading
+        requires { ⌜ (self .count < size) × (size ≡ sizeBy (self .format)) × (marked ≡ markedBy (self .format)) ⌝ }
         ensures { λ r. ⌜ whole r (now (out .exit)) ≡ lineOf self (now (words .entry)) (now (out .entry)) ⌝ }
     {
         let mut r = self;
@@ -78,7 +78,7 @@ impl Reader {
         let mut reports: usize = 0;
         let mut dropped: usize = 0;
         while at < words.len() {
-            let t = r.first(&words[at..], &mut out[used..]);
+            let t = r.first(size, marked, &words[at..], &mut out[used..]);
             if t.taken == 0 {
                 return reading(t.refusal, r, at, reports, dropped);
             }

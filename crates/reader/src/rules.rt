@@ -2,7 +2,7 @@
 ghost use mathlib.Core.Path.{_≡_};
 ghost use mathlib.Core.Bool.{false};
 ghost use Prim.Native.Nat.{_<_};
-ghost use Rattle.wire.specs.Line.{sizeBy};
+ghost use Rattle.wire.specs.Line.{sizeBy, markedBy};
 ghost use Rattle.reader.specs.State.{noBytes};
 ghost use Rattle.reader.specs.Rules.{entered, answered, refusing, dropping, fitting, starting, keep, start, lose, byteOf, wordOf};
 use crate::Answer;
@@ -68,11 +68,10 @@ impl Reader {
     }
 
     // A byte that fits its place is kept; the last gives the report.
-    fn keep(mut self, byte: u8) -> Read
-        requires { ⌜ (self .count < sizeBy (self .format)) × (self .awaiting ≡ false) ⌝ }
+    fn keep(mut self, size: usize, byte: u8) -> Read
+        requires { ⌜ (self .count < size) × (size ≡ sizeBy (self .format)) × (self .awaiting ≡ false) ⌝ }
         ensures { λ r. ⌜ r ≡ keep self byte ⌝ }
     {
-        let size = wire::size(self.format);
         let at = self.count as usize;
         self.kept[at] = byte;
         if at + 1 == size {
@@ -84,10 +83,11 @@ impl Reader {
     }
 
     // Whether a byte is a valid first byte of a marked format.
-    fn starts(self, byte: u8) -> bool
+    fn starts(self, marked: bool, byte: u8) -> bool
+        requires { ⌜ marked ≡ markedBy (self .format) ⌝ }
         ensures { λ r. ⌜ r ≡ starting self byte ⌝ }
     {
-        wire::marked(self.format) & wire::fits(self.format, 0, byte)
+        marked & wire::fits(self.format, 0, byte)
     }
 
     // Such a byte starts a report anywhere; the kept bytes are dropped.
@@ -104,31 +104,31 @@ impl Reader {
     }
 
     // A byte that no rule takes is dropped with the kept; U, T, W then await silence.
-    fn lose(self) -> Read
-        requires { ⌜ self .count < sizeBy (self .format) ⌝ }
+    fn lose(self, marked: bool) -> Read
+        requires { ⌜ (self .count < 5) × (marked ≡ markedBy (self .format)) ⌝ }
         ensures { λ r. ⌜ r ≡ lose self ⌝ }
     {
         answered(
-            no_bytes(self.format, !wire::marked(self.format)),
+            no_bytes(self.format, !marked),
             Answer::Dropped(self.count + 1),
         )
     }
 
     // A byte. While a silence is awaited, each is dropped alone.
-    fn byte(self, byte: u8) -> Read
-        requires { ⌜ self .count < sizeBy (self .format) ⌝ }
+    fn byte(self, size: usize, marked: bool, byte: u8) -> Read
+        requires { ⌜ (self .count < size) × (size ≡ sizeBy (self .format)) × (marked ≡ markedBy (self .format)) ⌝ }
         ensures { λ r. ⌜ r ≡ byteOf self byte ⌝ }
     {
         if self.awaiting {
             return answered(self, Answer::Dropped(1));
         }
         if self.fits(byte) {
-            return self.keep(byte);
+            return self.keep(size, byte);
         }
-        if self.starts(byte) {
+        if self.starts(marked, byte) {
             return self.start(byte);
         }
-        self.lose()
+        self.lose(marked)
     }
 
     // A break or a silence drops the kept; U, T, W then await silence, or are ready.
@@ -139,14 +139,13 @@ impl Reader {
     }
 
     // A word: a byte, a break, a silence; any other is refused with 4.
-    pub(crate) fn word(self, word: u16) -> Read
-        requires { ⌜ self .count < sizeBy (self .format) ⌝ }
+    pub(crate) fn word(self, size: usize, marked: bool, word: u16) -> Read
+        requires { ⌜ (self .count < size) × (size ≡ sizeBy (self .format)) × (marked ≡ markedBy (self .format)) ⌝ }
         ensures { λ r. ⌜ r ≡ wordOf self word ⌝ }
     {
         if word <= 255 {
-            return self.byte(entered(self.format, word as u8));
+            return self.byte(size, marked, entered(self.format, word as u8));
         }
-        let marked = wire::marked(self.format);
         match word {
             BREAK => self.pause(!marked),
             SILENCE => self.pause(false),

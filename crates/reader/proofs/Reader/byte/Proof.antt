@@ -1,7 +1,9 @@
 -- `byte`: each rule in its turn.
 use borrow.Author.Needs.{needs}
+use native.Mathlib.Omega.{arith}
 use mathlib.Core.Path.{sym, _∙_}
 use Rattle.reader.specs.Rules.{byteOf}
+use Rattle.wire.proofs.Letters.{at-most-five}
 use Rattle.reader.proofs.Word.{strays-as-lost}
 use Rattle.reader.proofs.Reader.byte.Statement.{statement}
 use Rattle.reader.proofs.Reader.byte.Tie as tie
@@ -37,7 +39,8 @@ returns-3 c = let b = c .before .before .before in
     (c .start .ensures)
 
 lose-requires : tie.Need-lose-requires
-lose-requires c κs = search needs
+lose-requires c κs = let s = c .before .before .before .before .before in
+    (omega (arith, s .pre .0, s .pre .1, at-most-five (s .args .self .format)), s .pre .2)
 
 returns-4 : tie.Need-returns-4
 unfolding byteOf

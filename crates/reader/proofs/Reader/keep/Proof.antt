@@ -8,14 +8,11 @@ use Rattle.wire.proofs.Letters.{at-most-five}
 use Rattle.reader.proofs.Reader.keep.Statement.{statement}
 use Rattle.reader.proofs.Reader.keep.Tie as tie
 
-size-requires : tie.Need-size-requires
-size-requires c κs = search needs
-
 cast-at : tie.Need-cast-at
 cast-at c = search needs
 
 element-write-self : tie.Need-element-write-self
-element-write-self c = omega (arith, at-most-five (c .before .args .t1 .format))
+element-write-self c = omega (arith, at-most-five (c .args .t1 .format))
 
 add-if1 : tie.Need-add-if1
 add-if1 c = search needs
@@ -32,11 +29,11 @@ answered-requires c κs = search needs
 returns : tie.Need-returns
 unfolding keep
 returns c = let b = c .before .before .before .before in
-    simp (eq-eqb _ _ (b .if1 .taken ∙ b .before .size .ensures))
+    simp (eq-eqb _ _ (b .if1 .taken ∙ b .before .pre .1))
     (rw (c .before .no-bytes .ensures, c .before .before .report-of .ensures) at (c .answered .ensures))
 
 add-self : tie.Need-add-self
-add-self c = omega (arith, at-most-five (c .before .before .args .t1 .format))
+add-self c = omega (arith, at-most-five (c .before .args .t1 .format))
 
 answered-requires-2 : tie.Need-answered-requires-2
 answered-requires-2 c κs = search needs
@@ -44,13 +41,12 @@ answered-requires-2 c κs = search needs
 returns-2 : tie.Need-returns-2
 unfolding keep
 returns-2 c = let b = c .before in
-    simp (ne-eqb _ _ (λ e. b .if1 .left (e ∙ sym (b .before .size .ensures)))) (rw (b .before .before .pre .1) at (c .answered2 .ensures))
+    simp (ne-eqb _ _ (λ e. b .if1 .left (e ∙ sym (b .before .pre .1)))) (rw (b .before .pre .2) at (c .answered2 .ensures))
 
 pub keep-spec : {M : Type 1} → statement M
 keep-spec =
     tie.close
     (tie.spec
-    size-requires
     cast-at
     element-write-self
     add-if1

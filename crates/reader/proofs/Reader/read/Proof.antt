@@ -14,17 +14,25 @@ returns : tie.Need-returns
 unfolding readOf
 returns c = simp (sym (c .before .good2 .ensures) ∙ not-true _ (c .if1 .taken))
 
+size-requires : tie.Need-size-requires
+size-requires c κs = search needs
+
+marked-requires : tie.Need-marked-requires
+marked-requires c κs = search needs
+
 line-requires : tie.Need-line-requires
-line-requires c κs = let b = c .before in
-    below-size (b .before .before .before .args .self) (sym (b .before .good2 .ensures) ∙ not-false _ (b .if1 .left))
+line-requires c κs = let m = c .before in
+    let z = m .before in
+    let g = z .before in
+    (rw (z .size .ensures) (below-size (g .before .before .before .args .self) (sym (g .before .good2 .ensures) ∙ not-false _ (g .if1 .left))), z .size .ensures, m .marked .ensures)
 
 same-length : tie.Need-same-length
 same-length c = search needs
 
 returns-2 : tie.Need-returns-2
 unfolding readOf
-returns-2 c = let b = c .before .before .before in
+returns-2 c = let b = c .before .before .before .before .before in
     simp (sym (b .before .good2 .ensures) ∙ not-false _ (b .if1 .left)) (c .before .line .ensures)
 
 pub read-spec : {M : Type 1} → statement M
-read-spec = tie.close (tie.spec good-requires returns line-requires same-length returns-2)
+read-spec = tie.close (tie.spec good-requires returns size-requires marked-requires line-requires same-length returns-2)

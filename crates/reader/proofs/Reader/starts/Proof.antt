@@ -3,14 +3,11 @@ use borrow.Author.Needs.{needs}
 use Rattle.reader.proofs.Reader.starts.Statement.{statement}
 use Rattle.reader.proofs.Reader.starts.Tie as tie
 
-marked-requires : tie.Need-marked-requires
-marked-requires c κs = search needs
-
 fits-requires : tie.Need-fits-requires
 fits-requires c κs = search needs
 
 returns : tie.Need-returns
-returns c = rw (c .before .marked .ensures, c .fits2 .ensures)
+returns c = rw (c .before .pre, c .fits2 .ensures)
 
 pub starts-spec : {M : Type 1} → statement M
-starts-spec = tie.close (tie.spec marked-requires fits-requires returns)
+starts-spec = tie.close (tie.spec fits-requires returns)

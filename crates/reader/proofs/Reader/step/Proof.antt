@@ -17,12 +17,21 @@ returns : tie.Need-returns
 unfolding stepOf
 returns c = simp (sym (c .before .before .good2 .ensures) ∙ not-true _ (c .before .if1 .taken)) (ap outcome (c .refusing .ensures))
 
+size-requires : tie.Need-size-requires
+size-requires c κs = search needs
+
+marked-requires : tie.Need-marked-requires
+marked-requires c κs = search needs
+
 word-requires : tie.Need-word-requires
-word-requires c κs = below-size (c .before .before .args .self) (sym (c .before .good2 .ensures) ∙ not-false _ (c .if1 .left))
+word-requires c κs = let z = c .before in
+    let g = z .before in
+    (rw (z .size .ensures) (below-size (g .before .before .args .self) (sym (g .before .good2 .ensures) ∙ not-false _ (g .if1 .left))), z .size .ensures, c .marked .ensures)
 
 returns-2 : tie.Need-returns-2
 unfolding stepOf
-returns-2 c = simp (sym (c .before .before .good2 .ensures) ∙ not-false _ (c .before .if1 .left)) (ap outcome (c .word .ensures))
+returns-2 c = let g = c .before .before .before in
+    simp (sym (g .before .good2 .ensures) ∙ not-false _ (g .if1 .left)) (ap outcome (c .word .ensures))
 
 pub step-spec : {M : Type 1} → statement M
-step-spec = tie.close (tie.spec good-requires refusing-requires returns word-requires returns-2)
+step-spec = tie.close (tie.spec good-requires refusing-requires returns size-requires marked-requires word-requires returns-2)

@@ -19,9 +19,6 @@ returns : tie.Need-returns
 unfolding wordOf
 returns c = simp (le-leb _ _ (c .before .before .if1 .taken)) (rw (c .before .entered .ensures) at (c .byte .ensures))
 
-marked-requires : tie.Need-marked-requires
-marked-requires c κs = search needs
-
 pause-requires : tie.Need-pause-requires
 pause-requires c κs = search needs
 
@@ -33,7 +30,7 @@ refusing-requires c κs = search needs
 
 returns-2 : tie.Need-returns-2
 unfolding wordOf breakOf
-returns-2 c = rw (c .before .match .keys1, sym (c .before .before .marked .ensures)) (c .pause .ensures)
+returns-2 c = rw (c .before .match .keys1, sym (c .before .before .before .pre .2)) (c .pause .ensures)
 
 returns-3 : tie.Need-returns-3
 unfolding wordOf silenceOf
@@ -42,7 +39,7 @@ returns-3 c = rw (c .before .match .keys2) (c .pause2 .ensures)
 returns-4 : tie.Need-returns-4
 unfolding wordOf
 returns-4 c = let n = c .before .match .rest in
-    simp (lt-leb _ _ (c .before .before .before .if1 .left), ne-eqb _ _ (n .0 .1), ne-eqb _ _ (n .1)) (c .refusing .ensures)
+    simp (lt-leb _ _ (c .before .before .if1 .left), ne-eqb _ _ (n .0 .1), ne-eqb _ _ (n .1)) (c .refusing .ensures)
 
 pub word-spec : {M : Type 1} → statement M
 word-spec =
@@ -52,7 +49,6 @@ word-spec =
     entered-requires
     byte-requires
     returns
-    marked-requires
     pause-requires
     pause-requires-2
     refusing-requires
