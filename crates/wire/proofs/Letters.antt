@@ -74,3 +74,8 @@ known-below letter n = go (namedBy letter)
     go : (m : Named) → ofNamed false (λ f. true) m && ltb n (ofNamed 0 sizeOf m) ≡ ltb n (ofNamed 0 sizeOf m)
     go (Known f) = refl
     go Unknown = sym (le-ltb n 0 (omega arith))
+
+-- a later place is as any other later place
+pub later-place : (letter n b : ℕ) → (n ≡ 0 → ⊥) → fitsBy letter 1 b ≡ fitsBy letter n b
+unfolding fitsBy fitsAt
+later-place letter n b h = rw (ne-eqb n 0 h)

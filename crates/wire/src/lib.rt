@@ -98,9 +98,10 @@ pub fn marked(letter: u8) -> bool
 pub fn fits(letter: u8, place: u8, byte: u8) -> bool
     ensures { λ r. ⌜ FitsPromise letter place byte r ⌝ }
 {
-    match line::format_of(letter) {
-        Named::Known(f) => places::fits_at(f, place, byte),
-        Named::Unknown => false,
+    if place == 0 {
+        places::first_by(letter, byte)
+    } else {
+        places::later_by(letter, byte)
     }
 }
 

@@ -1,8 +1,10 @@
 // Which bytes are valid at the first place of a report, and which at a later one.
 ghost use mathlib.Core.Path.{_≡_};
-ghost use Rattle.wire.specs.Places.{fitsFirst, fitsLater, fitsAt};
+ghost use Rattle.wire.specs.Places.{fitsFirst, fitsLater, fitsBy};
 use crate::Format;
+use crate::Named;
 use crate::digits::is_digit;
+use crate::line::format_of;
 use crate::parity::is_even;
 
 fn fits_first(f: Format, b: u8) -> bool
@@ -33,13 +35,21 @@ fn fits_later(f: Format, b: u8) -> bool
     }
 }
 
-// Whether a byte is valid at a place: 0 is the first, any other a later one.
-pub(crate) fn fits_at(f: Format, place: u8, b: u8) -> bool
-    ensures { λ r. ⌜ r ≡ fitsAt f place b ⌝ }
+// Whether a byte is valid at the first place, and at a later one, of a format given by its letter.
+pub(crate) fn first_by(letter: u8, b: u8) -> bool
+    ensures { λ r. ⌜ r ≡ fitsBy letter 0 b ⌝ }
 {
-    if place == 0 {
-        fits_first(f, b)
-    } else {
-        fits_later(f, b)
+    match format_of(letter) {
+        Named::Known(f) => fits_first(f, b),
+        Named::Unknown => false,
+    }
+}
+
+pub(crate) fn later_by(letter: u8, b: u8) -> bool
+    ensures { λ r. ⌜ r ≡ fitsBy letter 1 b ⌝ }
+{
+    match format_of(letter) {
+        Named::Known(f) => fits_later(f, b),
+        Named::Unknown => false,
     }
 }
