@@ -2,13 +2,14 @@
 use Prim.Native.Nat.{ℕ, _<_}
 use mathlib.Core.Path.{_≡_, refl, ap, _∙_}
 use mathlib.Core.Bool.{Bool, true, false, not, cond}
+use mathlib.Core.List.{List·Memᴰ·head as here, List·Memᴰ·tail as there}
 use borrow.Author.Tests.{lt-ltb}
 use Rattle.numbers.proofs.Choices.{cases}
-use Rattle.wire.specs.Numbers.{success, badState, badButtons}
+use Rattle.wire.specs.Numbers.{success, badState, badButtons, accepted, refusal}
 use Rattle.ballbox.specs.Box.{Step, refused}
 use Rattle.ballbox.specs.Events.{bytesLeft, latching, nextByte, sending, onHost, awake, asleep}
 use Rattle.ballbox.specs.Good.{good}
-use Rattle.ballbox.specs.Promises.{outcome, aboveSeven, stepOf, RefusesRightly, accepted, refusal, StepPromise}
+use Rattle.ballbox.specs.Promises.{outcome, aboveSeven, stepOf, StepRefusal, StepPromise}
 use Rattle.ballbox.specs.declared.BallBox.{BallBox}
 use Rattle.ballbox.specs.declared.Event.{Event}
 use Rattle.ballbox.specs.declared.Event.the-variants.{Motion, Buttons, Host, Slot, Period}
@@ -40,7 +41,7 @@ sends : (b : BallBox) → sending b .refusal ≡ success
 unfolding sending nextByte
 sends b = cases (λ (x : Step). x .refusal ≡ success) (bytesLeft b) (λ e. refl) (λ e. refl)
 
-awake-rightly : (b : BallBox) (e : Event) → RefusesRightly b (awake b e)
+awake-rightly : (b : BallBox) (e : Event) → StepRefusal b (awake b e)
 unfolding awake onHost
 awake-rightly b (Motion dx dy) = accepted refl
 awake-rightly b (Buttons n) = accepted refl
@@ -48,7 +49,7 @@ awake-rightly b (Host n) = accepted refl
 awake-rightly b Slot = accepted (sends (latching b))
 awake-rightly b Period = accepted refl
 
-asleep-rightly : (b : BallBox) (e : Event) → RefusesRightly b (asleep b e)
+asleep-rightly : (b : BallBox) (e : Event) → StepRefusal b (asleep b e)
 unfolding asleep
 asleep-rightly b (Motion dx dy) = accepted refl
 asleep-rightly b (Buttons n) = accepted refl
@@ -56,12 +57,12 @@ asleep-rightly b (Host n) = accepted refl
 asleep-rightly b Slot = accepted refl
 asleep-rightly b Period = accepted refl
 
-step-rightly : (b : BallBox) (e : Event) → RefusesRightly b (stepOf b e)
+step-rightly : (b : BallBox) (e : Event) → StepRefusal b (stepOf b e)
 unfolding stepOf
 step-rightly b e =
-    cases (RefusesRightly b) (not (good b)) (λ g. refusal badState refl refl)
-    (λ g. cases (RefusesRightly b) (aboveSeven e) (λ l. refusal badButtons refl refl)
-    (λ l. cases (RefusesRightly b) (b .dormant) (λ d. asleep-rightly b e) (λ d. awake-rightly b e)))
+    cases (StepRefusal b) (not (good b)) (λ g. refusal (here refl))
+    (λ g. cases (StepRefusal b) (aboveSeven e) (λ l. refusal (there (here refl)))
+    (λ l. cases (StepRefusal b) (b .dormant) (λ d. asleep-rightly b e) (λ d. awake-rightly b e)))
 
-pub refusals : (b : BallBox) (e : Event) (r : Stepped) → StepPromise b e r → RefusesRightly b (outcome r)
+pub refusals : (b : BallBox) (e : Event) (r : Stepped) → StepPromise b e r → StepRefusal b (outcome r)
 refusals b e r s = rw s (step-rightly b e)

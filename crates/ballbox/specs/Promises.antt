@@ -1,10 +1,10 @@
 -- The promises of `fresh` and of `step`.
 use Prim.Native.Nat.{ℕ}
 use mathlib.Core.Path.{_≡_}
-use mathlib.Core.Bool.{Bool, true, false, not, cond, _||_}
+use mathlib.Core.Bool.{Bool, false, not, cond}
 use mathlib.Core.List.{List, [], _∷_}
-use lib.Dec.{eqb, ltb}
-use Rattle.wire.specs.Numbers.{success, badState, badButtons}
+use lib.Dec.{ltb}
+use Rattle.wire.specs.Numbers.{badState, badButtons, RefusesRightly}
 use Rattle.ballbox.specs.Box.{Step, freshBox, refused}
 use Rattle.ballbox.specs.Events.{awake, asleep}
 use Rattle.ballbox.specs.Good.{good}
@@ -38,10 +38,9 @@ stepOf b e =
     (cond (aboveSeven e) (refused badButtons b)
     (cond (b .dormant) (asleep b e) (awake b e)))
 
--- an answer that is no refusal, or has a number of the two and "returns the old state [..], no word"
-pub data RefusesRightly (b : BallBox) (a : Step) : Type 0 where
-  accepted : a .refusal ≡ success → RefusesRightly b a
-  refusal : (n : ℕ) → (eqb n badState || eqb n badButtons) ≡ true → a ≡ refused n b → RefusesRightly b a
+-- the box's refusals: each "returns the old state [..], no word"
+abbrev pub StepRefusal : BallBox → Step → Type 0
+StepRefusal b a = RefusesRightly (λ (s : Step). s .refusal) (refused badState b ∷ refused badButtons b ∷ []) a
 
 -- the promise of `fresh`
 abbrev pub FreshPromise : BallBox → Type 0

@@ -1,20 +1,17 @@
 -- Demand 1: "Every public entry takes every event, line word, state and buffer and ends with an answer. A refusal has a number from the list, hands
 -- back the old state and writes nothing; a reader given many words does all before the bad one and stops there."
 use Prim.Native.Nat.{ℕ, _<_, _≤_}
-use mathlib.Core.Path.{_≡_, refl, _∙_, ap}
+use mathlib.Core.Path.{_≡_, refl}
 use mathlib.Core.Bool.{Bool, true, false}
-use mathlib.Core.List.{List, [], _∷_, _++_, List·Memᴰ·head as here, List·Memᴰ·tail as there}
+use mathlib.Core.List.{List, [], _∷_, _++_, List·Memᴰ·head as here}
 use mathlib.Core.Logic.{_⊎_}
-use borrow.Author.Tests.{eqb-true}
-use lib.Dec.{eqb}
 use lib.ListN.{length, getD}
 use lib.IntN.{ℤ}
-use Rattle.numbers.proofs.Choices.{or-else}
 use Rattle.frames.specs.Words.{silence}
 use Rattle.wire.specs.Line.{known, letterOf, namedBy, sizeOf}
 use Rattle.wire.specs.Holds as holding
 use Rattle.wire.specs.Holds.{unheld, holds}
-use Rattle.wire.specs.Numbers.{success, badState, badLetter, badButtons, badFirstX, badFirstY, badSecondX, badSecondY, shortBuffer, badWord}
+use Rattle.wire.specs.Numbers.{success, badState, badLetter, badButtons, badWord, RefusesRightly, accepted, refusal}
 use Rattle.wire.specs.Encoder.{Encoding, refusalOf, lengthOf}
 use Rattle.wire.specs.Encoder as encoding
 use Rattle.wire.specs.Promises as encoder
@@ -32,7 +29,7 @@ use Rattle.reader.specs.Good as readers
 use Rattle.reader.specs.Rules.{refusing}
 use Rattle.reader.specs.Line.{Long, whole, stopped, withRefusal}
 use Rattle.reader.specs.Promises as reader
-use Rattle.reader.specs.Promises.{RefusesRightly, accepted, refusal, ReadPromise, beforeBad, newReader}
+use Rattle.reader.specs.Promises.{ReadPromise, beforeBad, newReader}
 use Rattle.reader.specs.declared.Reader.{Reader}
 use Rattle.reader.specs.declared.NewReader.{NewReader}
 use Rattle.reader.specs.declared.Read.{Read}
@@ -145,13 +142,7 @@ signed-one t places x a b = text.one-signed t places x
 pub put-one : (t : Text) (at : ℕ) (before : List ℕ) → OneWith (PutPromise t at before)
 put-one t at before a b after behind = text.one-put t at before
 
--- a refusal by its number, and by whether the state is good
-by-number : {A : Type 0} (of : ℕ → A) {a : A} (n m : ℕ)
-    → a ≡ of n
-    → eqb n m ≡ true
-    → a ≡ of m
-by-number of n m e h = e ∙ ap of (eqb-true n m h)
-
+-- a refusal by whether the state is good
 by-goodness : {A : Type 0} {number : A → ℕ} {bad a : A} (good : Bool)
     → (good ≡ true → number a ≡ success)
     → (good ≡ false → a ≡ bad)
@@ -161,34 +152,10 @@ by-goodness false h k = refusal (here (k refl))
 
 -- "A refusal has a number from the list, hands back the old state and writes nothing": all that a call leaves is no refusal, or it is one of those
 -- named here. Of the encoder: 1, 3, then 8, 9, 10 or 11, and 5, which tell no length and leave the buffer.
-abbrev pub unwritten : List ℕ → List Encoding
-unwritten before =
-    encoding.refused badLetter before ∷ encoding.refused badButtons before
-    ∷ encoding.refused badFirstX before ∷ encoding.refused badFirstY before ∷ encoding.refused badSecondX before ∷ encoding.refused badSecondY before
-    ∷ encoding.refused shortBuffer before ∷ []
-
 pub encode-refusals : (letter : ℕ) (r : Report) (before after : List ℕ) (a : Encoded)
     → EncodePromise letter r before a after
-    → RefusesRightly (λ (e : Encoding). e .refusal) (unwritten before) (encoding.outcome a after)
-encode-refusals letter r before after a p = go (wire-refusals.refusals letter r before after a p)
-  where
-    go : {e : Encoding} → encoder.RefusesRightly before e → RefusesRightly (λ (e : Encoding). e .refusal) (unwritten before) e
-    go (encoder.accepted e) = accepted e
-    go (encoder.refusal n l e) =
-        let is = by-number (λ (m : ℕ). encoding.refused m before) n in
-        refusal
-        (or-else _ _
-        (or-else _ _
-        (or-else _ _
-        (or-else _ _
-        (or-else _ _
-        (or-else _ _ (λ h. here (is badLetter e h)) (λ h. there (here (is badButtons e h))))
-        (λ h. there (there (here (is badFirstX e h)))))
-        (λ h. there (there (there (here (is badFirstY e h))))))
-        (λ h. there (there (there (there (here (is badSecondX e h)))))))
-        (λ h. there (there (there (there (there (here (is badSecondY e h))))))))
-        (λ h. there (there (there (there (there (there (here (is shortBuffer e h))))))))
-        l)
+    → RefusesRightly (λ (e : Encoding). e .refusal) (encoder.unwritten before) (encoding.outcome a after)
+encode-refusals = wire-refusals.refusals
 
 pub encode-refused : (letter : ℕ) (r : Report) (before after : List ℕ) (a : Encoded)
     → EncodePromise letter r before a after
@@ -218,13 +185,7 @@ read-line-refusals = refusals.read-refusals
 pub box-step-refusals : (b : BallBox) (e : Event) (r : Stepped)
     → box.StepPromise b e r
     → RefusesRightly (λ (s : Step). s .refusal) (refused badState b ∷ refused badButtons b ∷ []) (outcome r)
-box-step-refusals b e r p = go (box-refusals.refusals b e r p)
-  where
-    go : {s : Step} → box.RefusesRightly b s → RefusesRightly (λ (s : Step). s .refusal) (refused badState b ∷ refused badButtons b ∷ []) s
-    go (box.accepted e) = accepted e
-    go (box.refusal n l e) =
-        let is = by-number (λ (m : ℕ). refused m b) n in
-        refusal (or-else _ _ (λ h. here (is badState e h)) (λ h. there (here (is badButtons e h))) l)
+box-step-refusals = box-refusals.refusals
 
 -- of the lister: 6, with the lister and the slice as they were and counts of 0
 pub feed-refusals : (m : Lister) (input before after : List ℕ) (a : Listed)

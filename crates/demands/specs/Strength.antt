@@ -10,7 +10,7 @@ use lib.IntN.{ℤ, pos}
 use Rattle.frames.specs.Words.{silence}
 use Rattle.wire.specs.Line.{letterOf, sizeBy}
 use Rattle.wire.specs.Reading.{report}
-use Rattle.wire.specs.Numbers.{success}
+use Rattle.wire.specs.Numbers.{success, accepted, refusal}
 use Rattle.wire.specs.Encoder.{refusalOf}
 use Rattle.wire.specs.Promises.{EncodePromise}
 use Rattle.wire.specs.declared.Report.{Report}
@@ -102,9 +102,9 @@ refused-nothing : (r : Reader) (w : ℕ) (s : Read)
 refused-nothing r w s p n = go (step-refusals r w s p)
   where
     go : reader.StepRefusal r s → s .answer ≡ answer.Nothing
-    go (reader.accepted e) = absurd (n e)
-    go (reader.refusal (List·Memᴰ·head e)) = ap (λ (x : Read). x .answer) e
-    go (reader.refusal (List·Memᴰ·tail (List·Memᴰ·head e))) = ap (λ (x : Read). x .answer) e
+    go (accepted e) = absurd (n e)
+    go (refusal (List·Memᴰ·head e)) = ap (λ (x : Read). x .answer) e
+    go (refusal (List·Memᴰ·tail (List·Memᴰ·head e))) = ap (λ (x : Read). x .answer) e
 
 all-nothing : (p : ReaderProgram)
     → KeepsReading p

@@ -11,13 +11,13 @@ use lib.IntN.{ℤ}
 use borrow.Author.Tests.{lt-leb, ne-eqb}
 use Rattle.frames.specs.Words.{break, silence}
 use Rattle.wire.specs.Line.{known, letterOf}
-use Rattle.wire.specs.Numbers.{success, badState, badLetter, badWord}
+use Rattle.wire.specs.Numbers.{success, badState, badLetter, badWord, accepted, refusal}
 use Rattle.wire.specs.declared.Format.the-variants.{FiveByte}
 use Rattle.reader.specs.State.{fresh}
 use Rattle.reader.specs.Good.{good}
 use Rattle.reader.specs.Rules.{refusing, wordOf}
 use Rattle.reader.specs.Line.{Long, whole, stopped, joined, lineOf, withRefusal}
-use Rattle.reader.specs.Promises.{FreshPromise, StepPromise, ReadPromise, accepted, refusal, FreshRefusal, StepRefusal, ReadRefusal, newReader, freshOf, stepOf, readOf}
+use Rattle.reader.specs.Promises.{FreshPromise, StepPromise, ReadPromise, FreshRefusal, StepRefusal, ReadRefusal, newReader, freshOf, stepOf, readOf}
 use Rattle.reader.specs.declared.Reader.{Reader}
 use Rattle.reader.specs.declared.NewReader.{NewReader}
 use Rattle.reader.specs.declared.Read.{Read}

@@ -2,11 +2,11 @@
 use Prim.Native.Nat.{ℕ}
 use mathlib.Core.Path.{_≡_}
 use mathlib.Core.Bool.{Bool, cond}
-use mathlib.Core.List.{List, [], _∷_, List·Memᴰ}
+use mathlib.Core.List.{List, [], _∷_}
 use lib.ListN.{take}
 use lib.IntN.{ℤ}
 use Rattle.wire.specs.Line.{letterOf, known}
-use Rattle.wire.specs.Numbers.{success, badState, badLetter, badWord}
+use Rattle.wire.specs.Numbers.{success, badState, badLetter, badWord, RefusesRightly}
 use Rattle.wire.specs.declared.Format.the-variants.{FiveByte}
 use Rattle.reader.specs.State.{fresh, numbersOf}
 use Rattle.reader.specs.Good.{good}
@@ -16,11 +16,6 @@ use Rattle.reader.specs.declared.Reader.{Reader}
 use Rattle.reader.specs.declared.NewReader.{NewReader}
 use Rattle.reader.specs.declared.Read.{Read}
 use Rattle.reader.specs.declared.Reading.{Reading}
-
--- "A refusal has a number from the list": an answer that is no refusal, or one of the refusals that may be
-pub data RefusesRightly {A : Type 0} (number : A → ℕ) (refusals : List A) (a : A) : Type 0 where
-  accepted : number a ≡ success → RefusesRightly number refusals a
-  refusal : List·Memᴰ a refusals → RefusesRightly number refusals a
 
 -- "a format letter not in the table", 1; "(1 for a new reader: a fresh one of U)"
 abbrev pub newReader : ℕ → Reader → NewReader

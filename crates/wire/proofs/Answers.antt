@@ -3,7 +3,7 @@ use native.Mathlib.Omega.{arith}
 use Prim.Native.Nat.{ℕ, _<_, _≤_}
 use mathlib.Core.Path.{_≡_, refl, sym, _∙_, ap, ap₂, subst}
 use mathlib.Core.Bool.{Bool, true, false, not, cond}
-use mathlib.Core.List.{List, _++_}
+use mathlib.Core.List.{List, [], _∷_, _++_}
 use borrow.Author.Tests.{le-leb, lt-leb, lt-ltb}
 use lib.ListN.{length, drop}
 use lib.Dec.{eqb, ltb}
@@ -11,14 +11,14 @@ use lib.IntN.{pos}
 use Rattle.wire.proofs.Front.{size-small}
 use Rattle.numbers.proofs.Choices.{cases}
 use Rattle.wire.proofs.Accepts.{buttons-first, movement-next, room-last, accepts}
-use Rattle.wire.proofs.Refusals.{refusals}
+use Rattle.wire.proofs.Refusals.{refusals, unwritten-leaves}
 use Rattle.wire.proofs.Letters.{letter-named}
 use Rattle.wire.specs.Line.{letterOf, namedBy, sizeOf}
 use Rattle.wire.specs.Table.{bytesOf}
 use Rattle.wire.specs.Holds.{pressable, unheld, holds, accepted}
 use Rattle.wire.specs.Encoder.{Encoding, refusalOf, lengthOf, outcome, refused, unheldNumber, encodeIn}
-use Rattle.wire.specs.Numbers.{success}
-use Rattle.wire.specs.Promises.{KnownPromise, SizePromise, MarkedPromise, FitsPromise, ReportPromise, EncodePromise, RefusesRightly, accepted as taken, refusal, RefusalPromise, LengthPromise}
+use Rattle.wire.specs.Numbers.{success, badLetter, badButtons, badFirstX, badFirstY, badSecondX, badSecondY, shortBuffer, accepted as taken, refusal}
+use Rattle.wire.specs.Promises.{KnownPromise, SizePromise, MarkedPromise, FitsPromise, ReportPromise, EncodePromise, EncodeRefusal, RefusalPromise, LengthPromise}
 use Rattle.wire.specs.declared.Report.{Report}
 use Rattle.wire.specs.declared.Format.{Format}
 use Rattle.wire.specs.declared.Format.the-variants.{FiveByte}
@@ -82,9 +82,9 @@ one-encoding letter r before {a} {b} p q =
 pub refusal-leaves : (letter : ℕ) (r : Report) (before after : List ℕ) (a : Encoded) → EncodePromise letter r before a after → (refusalOf a ≡ success → ⊥) → (lengthOf a ≡ 0) × (after ≡ before)
 refusal-leaves letter r before after a p n = go (refusals letter r before after a p)
   where
-    go : RefusesRightly before (outcome a after) → (lengthOf a ≡ 0) × (after ≡ before)
+    go : EncodeRefusal before (outcome a after) → (lengthOf a ≡ 0) × (after ≡ before)
     go (taken e) = absurd (n e)
-    go (refusal m l e) = (ap (λ (x : Encoding). x .told) e, ap (λ (x : Encoding). x .buffer) e)
+    go (refusal m) = unwritten-leaves before (badLetter ∷ badButtons ∷ badFirstX ∷ badFirstY ∷ badSecondX ∷ badSecondY ∷ shortBuffer ∷ []) m
 
 -- an answer is what the definition says of a format
 told : (f : Format) (r : Report) (before : List ℕ) {a b : Encoded} {after behind : List ℕ} → EncodePromise (letterOf f) r before a after → outcome b behind ≡ encodeIn (Known f) r before → (a ≡ b) × (after ≡ behind)

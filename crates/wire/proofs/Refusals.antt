@@ -1,17 +1,18 @@
 -- The encoder's refusals: each has its number among the seven, tells no length and leaves the buffer.
 use Prim.Native.Nat.{ℕ}
-use mathlib.Core.Path.{_≡_, refl, sym}
-use mathlib.Core.Bool.{true, false, not, _||_}
-use mathlib.Core.List.{List}
+use mathlib.Core.Path.{_≡_, refl, sym, ap}
+use mathlib.Core.Bool.{false, not}
+use mathlib.Core.List.{List, _∷_, map, List·Memᴰ, List·Memᴰ·head as here, List·Memᴰ·tail as there}
 use lib.ListN.{length}
-use lib.Dec.{eqb, ltb}
+use lib.Dec.{ltb}
 use borrow.Author.Tests.{not-true}
 use Rattle.numbers.proofs.Choices.{cases}
+use Rattle.numbers.proofs.Tested as holding
 use Rattle.wire.specs.Line.{namedBy, sizeOf}
 use Rattle.wire.specs.Holds.{pressable, unheld, isNone, holds}
-use Rattle.wire.specs.Numbers.{badLetter, badButtons, badFirstX, badFirstY, badSecondX, badSecondY, shortBuffer}
-use Rattle.wire.specs.Encoder.{outcome, unheldNumber, encodeIn}
-use Rattle.wire.specs.Promises.{EncodePromise, RefusesRightly, accepted, refusal}
+use Rattle.wire.specs.Numbers.{accepted, refusal}
+use Rattle.wire.specs.Encoder.{Encoding, refused, outcome, unheldNumber, encodeIn}
+use Rattle.wire.specs.Promises.{unwritten, EncodePromise, EncodeRefusal}
 use Rattle.wire.specs.declared.Report.{Report}
 use Rattle.wire.specs.declared.Unheld.{Unheld}
 use Rattle.wire.specs.declared.Unheld.the-variants.{None, FirstX, FirstY, SecondX, SecondY}
@@ -20,20 +21,25 @@ use Rattle.wire.specs.declared.Named.the-variants.{Known, Unknown}
 use Rattle.wire.specs.declared.Encoded.{Encoded}
 
 -- a movement that is not held has a number of its own
-listed : (u : Unheld) → isNone u ≡ false → (eqb (unheldNumber u) badLetter || eqb (unheldNumber u) badButtons || eqb (unheldNumber u) badFirstX || eqb (unheldNumber u) badFirstY || eqb (unheldNumber u) badSecondX || eqb (unheldNumber u) badSecondY || eqb (unheldNumber u) shortBuffer) ≡ true
-listed None e = sym e
-listed FirstX e = refl
-listed FirstY e = refl
-listed SecondX e = refl
-listed SecondY e = refl
+listed : (before : List ℕ) (u : Unheld) → isNone u ≡ false → List·Memᴰ (refused (unheldNumber u) before) (unwritten before)
+listed before None e = absurd (holding.holds (sym e))
+listed before FirstX e = there (there (here refl))
+listed before FirstY e = there (there (there (here refl)))
+listed before SecondX e = there (there (there (there (here refl))))
+listed before SecondY e = there (there (there (there (there (here refl)))))
 
-encode-rightly : (named : Named) (r : Report) (before : List ℕ) → RefusesRightly before (encodeIn named r before)
+encode-rightly : (named : Named) (r : Report) (before : List ℕ) → EncodeRefusal before (encodeIn named r before)
 unfolding encodeIn holds
-encode-rightly Unknown r before = refusal badLetter refl refl
+encode-rightly Unknown r before = refusal (here refl)
 encode-rightly (Known f) r before =
-    cases (RefusesRightly before) (not (pressable r)) (λ p. refusal badButtons refl refl)
-    (λ p. cases (RefusesRightly before) (not (holds f r)) (λ h. refusal (unheldNumber (unheld f r)) (listed (unheld f r) (not-true (holds f r) h)) refl)
-    (λ h. cases (RefusesRightly before) (ltb (length before) (sizeOf f)) (λ s. refusal shortBuffer refl refl) (λ s. accepted refl)))
+    cases (EncodeRefusal before) (not (pressable r)) (λ p. refusal (there (here refl)))
+    (λ p. cases (EncodeRefusal before) (not (holds f r)) (λ h. refusal (listed before (unheld f r) (not-true (holds f r) h)))
+    (λ h. cases (EncodeRefusal before) (ltb (length before) (sizeOf f)) (λ s. refusal (there (there (there (there (there (there (here refl)))))))) (λ s. accepted refl)))
 
-pub refusals : (letter : ℕ) (r : Report) (before after : List ℕ) (a : Encoded) → EncodePromise letter r before a after → RefusesRightly before (outcome a after)
+pub refusals : (letter : ℕ) (r : Report) (before after : List ℕ) (a : Encoded) → EncodePromise letter r before a after → EncodeRefusal before (outcome a after)
 refusals letter r before after a p = rw p (encode-rightly (namedBy letter) r before)
+
+-- each of them tells no length and leaves the buffer
+pub unwritten-leaves : (before : List ℕ) {e : Encoding} (numbers : List ℕ) → List·Memᴰ e (map (λ (n : ℕ). refused n before) numbers) → (e .told ≡ 0) × (e .buffer ≡ before)
+unwritten-leaves before (n ∷ numbers) (here q) = (ap (λ (x : Encoding). x .told) q, ap (λ (x : Encoding). x .buffer) q)
+unwritten-leaves before (n ∷ numbers) (there m) = unwritten-leaves before numbers m

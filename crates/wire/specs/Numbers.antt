@@ -1,5 +1,7 @@
 -- Numbers given back: "Tested in that order, where they apply; 0 is success."
 use Prim.Native.Nat.{ℕ}
+use mathlib.Core.Path.{_≡_}
+use mathlib.Core.List.{List, List·Memᴰ}
 
 abbrev pub success : ℕ
 success = 0
@@ -36,3 +38,8 @@ shortBuffer = 5
 -- "a line word above 257"
 abbrev pub badWord : ℕ
 badWord = 4
+
+-- "A refusal has a number from the list": what a call leaves is no refusal, or one of the refusals that may be
+pub data RefusesRightly {A : Type 0} (number : A → ℕ) (refusals : List A) (a : A) : Type 0 where
+  accepted : number a ≡ success → RefusesRightly number refusals a
+  refusal : List·Memᴰ a refusals → RefusesRightly number refusals a

@@ -1,13 +1,12 @@
 -- What each public function promises: for every argument one answer.
 use Prim.Native.Nat.{ℕ}
 use mathlib.Core.Path.{_≡_}
-use mathlib.Core.Bool.{Bool, true, _||_}
-use mathlib.Core.List.{List}
-use lib.Dec.{eqb}
+use mathlib.Core.Bool.{Bool}
+use mathlib.Core.List.{List, [], _∷_}
 use Rattle.wire.specs.Line.{known, sizeBy, markedBy}
 use Rattle.wire.specs.Places.{fitsBy}
 use Rattle.wire.specs.Reading.{reportBy}
-use Rattle.wire.specs.Numbers.{success, badLetter, badButtons, badFirstX, badFirstY, badSecondX, badSecondY, shortBuffer}
+use Rattle.wire.specs.Numbers.{badLetter, badButtons, badFirstX, badFirstY, badSecondX, badSecondY, shortBuffer, RefusesRightly}
 use Rattle.wire.specs.Encoder.{Encoding, refusalOf, lengthOf, outcome, refused, encodeOf}
 use Rattle.wire.specs.declared.Report.{Report}
 use Rattle.wire.specs.declared.Encoded.{Encoded}
@@ -36,10 +35,15 @@ ReportPromise letter bytes answer = answer ≡ reportBy letter bytes
 abbrev pub EncodePromise : ℕ → Report → List ℕ → Encoded → List ℕ → Type 0
 EncodePromise letter report before answer after = outcome answer after ≡ encodeOf letter report before
 
--- an encoding that is no refusal, or has a number of the seven and "returns [..] counts of 0": it tells no length and leaves the buffer
-pub data RefusesRightly (before : List ℕ) (e : Encoding) : Type 0 where
-  accepted : e .refusal ≡ success → RefusesRightly before e
-  refusal : (n : ℕ) → (eqb n badLetter || eqb n badButtons || eqb n badFirstX || eqb n badFirstY || eqb n badSecondX || eqb n badSecondY || eqb n shortBuffer) ≡ true → e ≡ refused n before → RefusesRightly before e
+-- the encoder's refusals: each "returns [..] counts of 0", tells no length and leaves the buffer
+abbrev pub unwritten : List ℕ → List Encoding
+unwritten before =
+    refused badLetter before ∷ refused badButtons before
+    ∷ refused badFirstX before ∷ refused badFirstY before ∷ refused badSecondX before ∷ refused badSecondY before
+    ∷ refused shortBuffer before ∷ []
+
+abbrev pub EncodeRefusal : List ℕ → Encoding → Type 0
+EncodeRefusal before e = RefusesRightly (λ (x : Encoding). x .refusal) (unwritten before) e
 
 -- `Encoded::refusal(self)` and `Encoded::length(self)`
 abbrev pub RefusalPromise : Encoded → ℕ → Type 0
