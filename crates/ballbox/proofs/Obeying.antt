@@ -25,7 +25,7 @@ use Rattle.ballbox.specs.declared.Stepped.{Stepped}
 use Rattle.wire.proofs.Letters.{letter-named}
 use Rattle.ballbox.proofs.Parts.{mode-known, parts}
 use Rattle.ballbox.proofs.Refusals.{awake-step}
-use Rattle.ballbox.proofs.Slots.{dropped-busy, dropped-idle}
+use Rattle.ballbox.proofs.Cases.{dropped-busy, dropped-idle}
 
 pub rest-ignored : (n : ℕ) → isCommand n ≡ false → commandOf n ≡ Ignored
 unfolding commandOf known namedBy
