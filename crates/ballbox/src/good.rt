@@ -79,10 +79,7 @@ impl Going {
     fn good(self, letter: u8) -> bool
         ensures { λ r. ⌜ r ≡ goodGoing letter self ⌝ }
     {
-        self.sent_below()
-            & self.length_known(letter)
-            & self.second_held(letter)
-            & self.rest_zero()
+        self.sent_below() & self.length_known(letter) & self.second_held(letter) & self.rest_zero()
     }
 }
 
