@@ -32,7 +32,7 @@ use Rattle.ballbox.specs.declared.Event.the-variants.{Motion, Buttons, Host, La
 use Rattle.ballbox.proofs.Goodness.{stepped-good}
 use Rattle.ballbox.proofs.Refusals.{ruled}
 use Rattle.ballbox.proofs.Obeying.{dropped-settings, dropped-awake}
-use Rattle.history.specs.History.{formatOf, latchedNow, begun, pairedAt, paired, isFive, whenAwake, toldBy, nextBox, passagesOf, goingAfter}
+use Rattle.history.specs.History.{formatOf, begun, pairedAt, paired, isFive, whenAwake, toldBy, nextBox, passagesOf, goingAfter}
 use Rattle.history.specs.Asked.{allHosts, asks, onlyAsks}
 use Rattle.history.proofs.Carries.{Alike, Carries}
 use Rattle.history.proofs.Sending.{latched-carries, five-is, pair-accepted, pairs}

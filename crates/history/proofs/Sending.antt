@@ -15,7 +15,7 @@ use Rattle.wire.specs.Line.{letterOf, namedBy, ofNamed, known}
 use Rattle.wire.specs.Table.{bytesU}
 use Rattle.wire.specs.Reading.{at}
 use Rattle.wire.specs.Holds.{accepted, acceptedBy}
-use Rattle.wire.specs.Messages.{Latched, Message, report, reply, messageBytes}
+use Rattle.wire.specs.Messages.{Message, report, reply, messageBytes}
 use Rattle.wire.specs.declared.Report.{Report}
 use Rattle.wire.specs.declared.Format.{Format}
 use Rattle.wire.specs.declared.Format.the-variants.{Mm, Microsoft, Absolute, Relative, FiveByte, ThreeByte, Hexadecimal}

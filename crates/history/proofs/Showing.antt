@@ -18,7 +18,7 @@ use Rattle.ballbox.specs.Presses.{remembered, anyRemembered, full, remembering,
 use Rattle.ballbox.specs.Latching.{latched, latchedReport, secondLatched}
 use Rattle.ballbox.specs.Commands.{isStream, letterP, space, letterf, lettert, byte05, letterd, commandOf, replyTo, obeyed}
 use Rattle.ballbox.specs.Events.{wanted, secondNow, withByteReady, memoryAfter, latching, nextByte, sending, dropped, onHost, onButtons}
-use Rattle.ballbox.specs.Good.{good, goodMemory}
+use Rattle.ballbox.specs.Good.{goodMemory}
 use Rattle.ballbox.specs.declared.BallBox.{BallBox}
 use Rattle.ballbox.specs.declared.Memory.{Memory}
 use Rattle.ballbox.specs.declared.Going.{Going}
@@ -26,7 +26,6 @@ use Rattle.ballbox.specs.declared.Event.the-variants.{Buttons, Send}
 use Rattle.ballbox.specs.declared.Command.{Command}
 use Rattle.ballbox.specs.declared.Command.the-variants.{SetFormat, SetStream, SetPrompt, AskReport, AskAck, AskCode, AskLetters, AskButtons, Sleep, Ignored}
 use Rattle.ballbox.proofs.Remembering.{memory-parts, remembered-length, remembered-behind, remembered-ninth, remembered-shown, remembered-hidden, remembered-showing, shown-none, shows-first}
-use Rattle.ballbox.proofs.Parts.{parts}
 use Rattle.ballbox.proofs.Cases.{latching-busy, latching-wanted, latching-idle, sending-byte, sending-silence, dropped-busy, dropped-idle}
 use Rattle.history.specs.History.{latchedNow, begun, pairedAt, isFive, replying, whenAwake}
 use Rattle.history.specs.Presses.{empties, changeTo, inPlaceOfLast, noting, shownIn, shownBy}

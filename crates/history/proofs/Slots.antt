@@ -1,5 +1,4 @@
 -- Slot was Latch followed by Send: for every box, and over every run.
-use Prim.Native.Nat.{ℕ}
 use mathlib.Core.Path.{_≡_, refl, sym, _∙_, ap, ap₂}
 use mathlib.Core.Bool.{Bool, true, false, cond}
 use mathlib.Core.List.{List, [], _∷_, _++_, append-assoc}
@@ -10,7 +9,6 @@ use Rattle.ballbox.specs.Events.{gives, bytesLeft, wanted, latching, nextByte, 
 use Rattle.ballbox.specs.Good.{good}
 use Rattle.ballbox.specs.Promises.{outcome, sentWords, stepOf, StepPromise}
 use Rattle.ballbox.specs.declared.BallBox.{BallBox}
-use Rattle.ballbox.specs.declared.Event.{Event}
 use Rattle.ballbox.specs.declared.Event.the-variants.{Latch, Send}
 use Rattle.ballbox.specs.declared.Stepped.{Stepped}
 use Rattle.ballbox.proofs.Parts.{parts}

@@ -1,4 +1,4 @@
--- `on_slots`: the slots left fall.
+-- `on_slots`: the characters left fall.
 use borrow.Author.Needs.{needs}
 use Rattle.figures.proofs.steps.on_slots.Statement.{statement}
 use Rattle.figures.proofs.steps.on_slots.Tie as tie
