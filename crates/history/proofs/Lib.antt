@@ -10,6 +10,7 @@ pub mod Asking
 pub mod Setting
 pub mod Permitted
 pub mod Slots
+pub mod Account
 pub mod Showing
 pub mod Presses
 pub mod Within

@@ -4,3 +4,4 @@ pub mod History
 pub mod Asked
 pub mod Presses
 pub mod Slots
+pub mod Account

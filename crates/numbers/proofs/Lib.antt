@@ -4,5 +4,6 @@ pub mod Choices
 pub mod Rows
 pub mod Twos
 pub mod Held
+pub mod Sums
 pub mod Ones
 pub mod Machine
