@@ -58,11 +58,11 @@ position-whole t h =
     λ i. excesses (x i) (y i)
 
 -- a sum is a 64-bit number; with nothing added it stays, and while it is at neither end it is the plain sum
-pub sum-long : (a b : ℤ) → isLong (heldLong a b) ≡ true
+sum-long : (a b : ℤ) → isLong (heldLong a b) ≡ true
 unfolding heldLong
 sum-long a b = held-inside leastLong mostLong (a +ℤ b) refl
 
-pub sum-same : (a : ℤ) → isLong a ≡ true → heldLong a (pos 0) ≡ a
+sum-same : (a : ℤ) → isLong a ≡ true → heldLong a (pos 0) ≡ a
 unfolding heldLong
 sum-same a h = rw (+ℤ-idr a) (held-same leastLong mostLong a h)
 

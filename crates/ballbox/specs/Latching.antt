@@ -51,6 +51,10 @@ takenOver letter t = excesses (limitExcess letter (movement letter t .x)) (limit
 unfoldable pub cleared : Track → Track
 cleared t = record { counter = zeros; position = t .position; last = t .position }
 
+-- the movement is taken out of the box, and its excess added up; "the excess is lost" to the reports
+abbrev pub movementTaken : BallBox → BallBox
+movementTaken b = overLimit (takenOver (b .settings .format) (b .track)) (withTrack (cleared (b .track)) b)
+
 -- the report that is latched, with the buttons that it is to show; in U its second pair is zero: "bytes 4 and 5 are held as 0 until then"
 unfoldable pub latchedReport : BallBox → Report
 latchedReport b =
@@ -60,10 +64,8 @@ latchedReport b =
 unfoldable pub latched : BallBox → BallBox
 latched b =
     withDue false
-    (withTrack (cleared (b .track))
     (withMemory (showingFirst (b .memory))
-    (overLimit (takenOver (b .settings .format) (b .track))
-    (withGoing (goingFrom (bytesBy (b .settings .format) (latchedReport b))) b))))
+    (withGoing (goingFrom (bytesBy (b .settings .format) (latchedReport b))) (movementTaken b)))
 
 -- a report of U that has nothing but its second pair
 abbrev pub secondOnly : Pair → Report
@@ -80,7 +82,4 @@ withSecond p g =
 
 -- "In U, the second pair is latched the same way, without buttons"; "due stays"
 unfoldable pub secondLatched : BallBox → BallBox
-secondLatched b =
-    withTrack (cleared (b .track))
-    (overLimit (takenOver (b .settings .format) (b .track))
-    (withGoing (withSecond (taken (b .settings .format) (b .track)) (b .going)) b))
+secondLatched b = withGoing (withSecond (taken (b .settings .format) (b .track)) (b .going)) (movementTaken b)

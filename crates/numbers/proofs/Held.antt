@@ -186,6 +186,6 @@ room-above m (pos (suc b)) h e =
     let y : m - suc b ≤ m = omega arith in
     omega (arith, mag-cond (ltb m (suc b)) x y)
 
--- and the difference of one of 32 bits and one of 16 fits 64
-pub difference-fits : {a b : ℤ} → SFits w32 a → SFits w16 b → SFits w64 (a -ℤ b)
+-- and the difference of two of 32 bits fits 64
+pub difference-fits : {a b : ℤ} → SFits w32 a → SFits w32 b → SFits w64 (a -ℤ b)
 difference-fits {a} {b} h k = record { sfits = omega (arith, mag-sum a (negℤ b), neg-near b, h .sfits, k .sfits) }
