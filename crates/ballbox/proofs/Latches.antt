@@ -18,7 +18,7 @@ use Rattle.wire.specs.declared.Format.{Format}
 use Rattle.wire.specs.declared.Format.the-variants.{Absolute, FiveByte}
 use Rattle.ballbox.specs.Box.{Step, goingFrom, withGoing}
 use Rattle.ballbox.specs.Latching.{limits, limited, movement, taken, latchedReport, latched}
-use Rattle.ballbox.specs.Events.{bytesLeft, wanted, secondNow, latching, withByteReady, nextByte, sending, awake}
+use Rattle.ballbox.specs.Events.{bytesLeft, wanted, withByteReady, nextByte, sending, awake}
 use Rattle.ballbox.specs.Good.{onPad, good}
 use Rattle.ballbox.specs.Promises.{sentWords, StepPromise}
 use Rattle.ballbox.specs.declared.Event.the-variants.{Latch, Send}

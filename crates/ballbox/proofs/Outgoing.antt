@@ -7,7 +7,7 @@ use native.Mathlib.Omega.{arith}
 use lib.Dec.{leb, ltb, eqb}
 use lib.ListN.{length, replicate, getD-replicate}
 use lib.Seq.{getD-take, getD-append-add}
-use borrow.Author.Tests.{leb-true, ltb-false, lt-ltb, le-leb, lt-leb, eqb-true, eq-eqb, ne-eqb, not-false}
+use borrow.Author.Tests.{leb-true, ltb-false, lt-ltb, le-leb, lt-leb, eqb-true, eq-eqb, not-false}
 use Rattle.numbers.proofs.Choices.{or-else, other, either, neither, cases}
 use Rattle.numbers.specs.Signed.{twos}
 use Rattle.numbers.proofs.Tested.{left, right, holds, each-at, each-of}
