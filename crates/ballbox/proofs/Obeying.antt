@@ -52,7 +52,7 @@ abbrev pub goingOr : Going → List ℕ → Going
 goingOr g [] = g
 goingOr g (b ∷ bytes) = goingFrom (b ∷ bytes)
 
--- it commandEmpties the memory, or leaves it
+-- it empties the memory, or leaves it
 abbrev pub commandEmpties : Command → Bool
 commandEmpties (SetFormat f) = true
 commandEmpties (SetStream m) = false

@@ -6,10 +6,8 @@ use mathlib.Core.List.{List, [], _∷_, _++_}
 use native.Mathlib.Omega.{arith}
 use lib.Dec.{eqb}
 use lib.ListN.{length}
-use lib.IntN.{ℤ, pos, _+ℤ_, _-ℤ_, +ℤ-assoc, +ℤ-comm, +ℤ-idl, +ℤ-idr, -ℤ-+ℤ-cancel}
-use lib.Signed.{ltZ}
+use lib.IntN.{ℤ, pos, _+ℤ_, +ℤ-assoc, +ℤ-idl, +ℤ-idr}
 use borrow.Author.Tests.{eqb-true, ne-eqb, not-true}
-use Rattle.numbers.specs.Signed.{held, heldSum, least, most}
 use Rattle.numbers.proofs.Choices.{cases}
 use Rattle.numbers.proofs.Tested.{holds, left, right}
 use Rattle.numbers.proofs.Sums.{Sum, none, term, _plus_, same-terms}
@@ -19,8 +17,10 @@ use Rattle.wire.specs.Line.{letterOf, known}
 use Rattle.wire.specs.declared.Format.the-variants.{FiveByte}
 use Rattle.wire.specs.Messages.{Latched, Message, report, reply, messageBytes}
 use Rattle.wire.specs.declared.Report.{Report}
-use Rattle.ballbox.specs.Motion.{counted, movedBy, isA}
-use Rattle.ballbox.specs.Latching.{limits, limited, movement, taken, cleared, latched, latchedReport, secondLatched}
+use Rattle.ballbox.specs.Motion.{counted, countedOver, movedBy, isA}
+use Rattle.ballbox.specs.Latching.{movement, taken, takenOver, cleared, latched, latchedReport, secondLatched}
+use Rattle.ballbox.specs.Thrown.{noExcess, sums, noSums}
+use Rattle.ballbox.specs.Excesses.{limitThrows, counterThrows, thrown}
 use Rattle.ballbox.specs.Box.{pair, modeD, Step}
 use Rattle.ballbox.specs.Commands.{isStream, letterP, space, letterf, lettert, byte05, letterd, commandOf, replyTo, obeyed}
 use Rattle.ballbox.specs.Events.{onMotion, onButtons, onPeriod, bytesLeft, wanted, latching, secondNow, withByteReady, nextByte, sending, dropped, onHost, awake, woken, asleep}
@@ -32,37 +32,47 @@ use Rattle.ballbox.specs.declared.Command.{Command}
 use Rattle.ballbox.specs.declared.Command.the-variants.{SetFormat, SetStream, SetPrompt, AskReport, AskAck, AskCode, AskLetters, AskButtons, Sleep, Ignored}
 use Rattle.ballbox.specs.declared.Pair.{Pair}
 use Rattle.ballbox.specs.declared.Track.{Track}
+use Rattle.ballbox.specs.declared.Excess.{Excess}
+use Rattle.ballbox.specs.declared.Sums.{Sums}
 use Rattle.ballbox.specs.declared.Event.{Event}
 use Rattle.ballbox.specs.declared.Event.the-variants.{Motion, Buttons, Host, Latch, Send, Period}
 use Rattle.ballbox.proofs.Cases.{latching-busy, latching-wanted, latching-idle, sending-byte, sending-silence}
 use Rattle.ballbox.proofs.Obeying.{dropped-settings}
 use Rattle.ballbox.proofs.Goodness.{stepped-good}
+use Rattle.ballbox.proofs.Throwing.{taken-whole, counted-whole}
 use Rattle.ballbox.proofs.Refusals.{ruled}
 use Rattle.history.specs.History.{begun, pairedAt, paired, withPair, isFive, replying, whenAwake, whenAsleep, toldBy, nextBox, passagesOf, goingAfter}
 use Rattle.history.specs.Presses.{boxAfter}
+use Rattle.history.specs.Sums.{Kind, over-limit, over-counter, Axis, x-axis, y-axis, excessOf, thrownIn, sumOf}
 use Rattle.history.proofs.Carries.{Carries}
 use Rattle.history.proofs.Sending.{bytes-left}
 use Rattle.history.proofs.Bridge.{step-sends, told-is, buttons-line}
 use Rattle.history.proofs.Asking.{latching-alike, sending-alike, refused-next, refused-told}
-use Rattle.history.specs.Account.{Axis, x-axis, y-axis, along, whileAwake, over, fedBy, valueOf, valueIn, inFinished, inGoing, inCounter, inBroken, clearedBy, excess, sumExcess, limitExcess, countedOver, takenOver, excessAlong, latchesNow, overLimitBy, overCounterBy, selectsA, neverA}
+use Rattle.history.specs.Account.{along, whileAwake, over, fedBy, valueOf, valueIn, inFinished, inGoing, inCounter, inBroken, clearedBy, selectsA, neverA}
 
--- TEMP §6: a number that is held, and its excess, make it up
-held-excess : (lo hi x : ℤ) → held lo hi x +ℤ excess lo hi x ≡ x
-unfolding held excess
-held-excess lo hi x = go (ltZ x lo) refl (ltZ hi x) refl
-  where
-    go : (s : Bool) → ltZ x lo ≡ s → (t : Bool) → ltZ hi x ≡ t → held lo hi x +ℤ excess lo hi x ≡ x
-    go true e t f = rw e (+ℤ-comm lo (x -ℤ lo) ∙ -ℤ-+ℤ-cancel x lo)
-    go false e true f = rw (e, f) (+ℤ-comm hi (x -ℤ hi) ∙ -ℤ-+ℤ-cancel x hi)
-    go false e false f = rw (e, f) (+ℤ-idr x)
+-- what an event of a box that is awake throws away
+abbrev latchesNow : BallBox → Event → Bool
+latchesNow b (Motion dx dy) = false
+latchesNow b (Buttons n) = false
+latchesNow b (Host byte) = false
+latchesNow b Latch = not (bytesLeft b) && wanted b
+latchesNow b Send = bytesLeft b && secondNow b
+latchesNow b Period = false
 
-sum-excess : (a b : ℤ) → heldSum a b +ℤ sumExcess a b ≡ a +ℤ b
-unfolding heldSum sumExcess
-sum-excess a b = held-excess least most (a +ℤ b)
+abbrev excessAlong : Axis → Excess → ℤ
+excessAlong x-axis e = e .x
+excessAlong y-axis e = e .y
 
-limit-excess : (letter : ℕ) (v : ℤ) → limited letter v +ℤ limitExcess letter v ≡ v
-unfolding limited limitExcess
-limit-excess letter v = held-excess (limits letter .low) (limits letter .high) v
+abbrev overLimitBy : Axis → BallBox → Event → ℤ
+overLimitBy a b e = cond (latchesNow b e) (excessAlong a (takenOver (b .settings .format) (b .track))) (pos 0)
+
+abbrev overCounterBy : Axis → BallBox → Event → ℤ
+overCounterBy a b (Motion dx dy) = excessAlong a (countedOver (b .track .counter) dx dy)
+overCounterBy a b (Buttons n) = pos 0
+overCounterBy a b (Host byte) = pos 0
+overCounterBy a b Latch = pos 0
+overCounterBy a b Send = pos 0
+overCounterBy a b Period = pos 0
 
 -- what a step ends or loses, part by part
 pub record Parts : Type 0 where
@@ -197,12 +207,11 @@ module _ (a : Axis) where
   quiet-accounts x y = same-terms (x ∷ y ∷ []) ((term 0 plus term 1) plus none) ((none plus none plus none plus none plus none) plus (term 0 plus term 1)) refl
 
   counted-along : (c : Pair) (dx dy : ℤ) → along a (counted c dx dy) +ℤ excessAlong a (countedOver c dx dy) ≡ along a c +ℤ along a (pair dx dy)
-  unfolding counted countedOver
   counted-along c dx dy = go a
     where
       go : (a : Axis) → along a (counted c dx dy) +ℤ excessAlong a (countedOver c dx dy) ≡ along a c +ℤ along a (pair dx dy)
-      go x-axis = sum-excess (c .x) dx
-      go y-axis = sum-excess (c .y) dy
+      go x-axis = counted-whole c dx dy .0
+      go y-axis = counted-whole c dx dy .1
 
   motion-accounts : (b : BallBox) (dx dy : ℤ) (g : UnderWay Message) → Accounts b (Motion dx dy) g (onMotion dx dy b) (told [] g)
   unfolding movedBy
@@ -217,12 +226,12 @@ module _ (a : Axis) where
 
   -- a pair that is taken, and its excess, are the counters, but in A
   taken-along : (letter : ℕ) (t : Track) → isA letter ≡ false → along a (taken letter t) +ℤ excessAlong a (takenOver letter t) ≡ along a (t .counter)
-  unfolding taken takenOver movement
+  unfolding movement
   taken-along letter t r = go a
     where
       go : (a : Axis) → along a (taken letter t) +ℤ excessAlong a (takenOver letter t) ≡ along a (t .counter)
-      go x-axis = limit-excess letter (movement letter t .x) ∙ rw r
-      go y-axis = limit-excess letter (movement letter t .y) ∙ rw r
+      go x-axis = taken-whole letter t .0 ∙ rw r
+      go y-axis = taken-whole letter t .1 ∙ rw r
 
   cleared-along : (t : Track) → along a (cleared t .counter) ≡ pos 0
   unfolding cleared

@@ -1,29 +1,20 @@
--- The whole account of a move: every count that the ball made, axis by axis, in a report, in the box, or in a loss that has a name.
+-- The whole account of a move: every count that the ball made, axis by axis, in a report, in the box, or in a loss that has a name. The two excesses are
+-- those of the run's steps (Sums).
 use mathlib.Core.Bool.{Bool, true, false, not, cond, _&&_}
 use mathlib.Core.List.{List, [], _∷_}
-use Prim.Native.Nat.{ℕ}
-use lib.IntN.{ℤ, pos, _+ℤ_, _-ℤ_}
-use lib.Signed.{ltZ}
-use Rattle.numbers.specs.Signed.{least, most}
+use lib.IntN.{ℤ, pos, _+ℤ_}
 use Rattle.frames.specs.Passages.{Passage, silent, finished, broken, UnderWay, nothing, first}
 use Rattle.wire.specs.Line.{known}
 use Rattle.wire.specs.Messages.{Message, report, reply}
 use Rattle.wire.specs.declared.Report.{Report}
 use Rattle.ballbox.specs.Box.{pair}
 use Rattle.ballbox.specs.Motion.{isA}
-use Rattle.ballbox.specs.Latching.{limits, movement}
-use Rattle.ballbox.specs.Events.{bytesLeft, wanted, secondNow}
-use Rattle.ballbox.specs.declared.Track.{Track}
 use Rattle.ballbox.specs.declared.BallBox.{BallBox}
 use Rattle.ballbox.specs.declared.Pair.{Pair}
 use Rattle.ballbox.specs.declared.Event.{Event}
 use Rattle.ballbox.specs.declared.Event.the-variants.{Motion, Buttons, Host, Latch, Send, Period}
 use Rattle.history.specs.History.{nextBox}
-
--- "per axis"
-pub data Axis : Type 0 where
-  x-axis : Axis
-  y-axis : Axis
+use Rattle.history.specs.Sums.{Axis, x-axis, y-axis}
 
 abbrev pub along : Axis → Pair → ℤ
 along x-axis p = p .x
@@ -86,55 +77,6 @@ clearedBy a b (Host byte) = cond (known byte) (inCounter a b) (pos 0)
 clearedBy a b Latch = pos 0
 clearedBy a b Send = pos 0
 clearedBy a b Period = pos 0
-
--- TEMP: §6
-pub record Excess : Type 0 where
-  pub x : ℤ
-  pub y : ℤ
-
-abbrev excesses : ℤ → ℤ → Excess
-excesses x y = record { x = x; y = y }
-
-unfoldable pub excess : ℤ → ℤ → ℤ → ℤ
-excess lo hi x = cond (ltZ x lo) (x -ℤ lo) (cond (ltZ hi x) (x -ℤ hi) (pos 0))
-
-unfoldable pub sumExcess : ℤ → ℤ → ℤ
-sumExcess a b = excess least most (a +ℤ b)
-
-unfoldable pub limitExcess : ℕ → ℤ → ℤ
-limitExcess letter v = excess (limits letter .low) (limits letter .high) v
-
-unfoldable pub countedOver : Pair → ℤ → ℤ → Excess
-countedOver c dx dy = excesses (sumExcess (c .x) dx) (sumExcess (c .y) dy)
-
-unfoldable pub takenOver : ℕ → Track → Excess
-takenOver letter t = excesses (limitExcess letter (movement letter t .x)) (limitExcess letter (movement letter t .y))
--- TEMP ends
-
-abbrev pub excessAlong : Axis → Excess → ℤ
-excessAlong x-axis e = e .x
-excessAlong y-axis e = e .y
-
--- "excess over the report limit": of a report that is latched, and of U's second pair
-abbrev pub latchesNow : BallBox → Event → Bool
-latchesNow b (Motion dx dy) = false
-latchesNow b (Buttons n) = false
-latchesNow b (Host byte) = false
-latchesNow b Latch = not (bytesLeft b) && wanted b
-latchesNow b Send = bytesLeft b && secondNow b
-latchesNow b Period = false
-
-abbrev pub overLimitBy : Axis → BallBox → Event → ℤ
-overLimitBy a b e = cond (latchesNow b e) (excessAlong a (takenOver (b .settings .format) (b .track))) (pos 0)
-
--- "excess over the 16-bit counter"
-abbrev pub overCounterBy : Axis → BallBox → Event → ℤ
-overCounterBy a b (Motion dx dy) = excessAlong a (countedOver (b .track .counter) dx dy)
-overCounterBy a b (Buttons n) = pos 0
-overCounterBy a b (Host byte) = pos 0
-overCounterBy a b Latch = pos 0
-overCounterBy a b Send = pos 0
-overCounterBy a b Period = pos 0
 
 -- "It is stated only for runs that never select A": no byte A of the host's while awake
 abbrev pub selectsA : BallBox → Event → Bool

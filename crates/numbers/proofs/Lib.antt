@@ -3,7 +3,7 @@ pub mod Tested
 pub mod Choices
 pub mod Rows
 pub mod Twos
+pub mod Machine
 pub mod Held
 pub mod Sums
 pub mod Ones
-pub mod Machine
