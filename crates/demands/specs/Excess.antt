@@ -1,11 +1,11 @@
 -- What the limit threw away: "Whatever limits a movement shall also give back the excess, with its sign, and whatever holds the counter at 16 bits
 -- likewise. The box adds up the two kinds apart, per axis, in 64-bit sums held at the ends of their range, readable after any step. The line words
 -- stay as they are."
-use mathlib.Core.Path.{_≡_, refl, _∙_, ap}
+use mathlib.Core.Path.{_≡_, refl, _∙_}
 use mathlib.Core.Bool.{true}
 use mathlib.Core.List.{List, [], _∷_}
 use Prim.Native.Nat.{ℕ}
-use lib.IntN.{ℤ, pos, _+ℤ_, +ℤ-idl}
+use lib.IntN.{ℤ, pos, _+ℤ_}
 use Rattle.numbers.specs.Signed.{minus}
 use Rattle.wire.specs.Line.{letterOf}
 use Rattle.wire.specs.declared.Format.{Format}

@@ -2,7 +2,7 @@
 use mathlib.Core.Path.{_≡_, refl, sym, _∙_, ap, ap₂}
 use mathlib.Core.Bool.{true, _&&_}
 use mathlib.Core.List.{List, [], _∷_, _++_}
-use lib.IntN.{ℤ, pos, _+ℤ_, +ℤ-assoc, +ℤ-idr}
+use lib.IntN.{ℤ, _+ℤ_, +ℤ-assoc, +ℤ-idr}
 use lib.Signed.{ltZ}
 use Rattle.numbers.specs.Signed.{leastLong, mostLong, heldLong}
 use Rattle.numbers.proofs.Tested.{left, right}
