@@ -1,7 +1,7 @@
 -- The whole account of a move: what a step adds to the motion fed, it adds to the seven parts.
 use Prim.Native.Nat.{ℕ, _+_, _≤_}
 use mathlib.Core.Path.{_≡_, refl, sym, ap, ap₂, subst, _∙_}
-use mathlib.Core.Bool.{Bool, true, false, not, cond, _&&_, and-false}
+use mathlib.Core.Bool.{Bool, true, false, not, cond, _&&_, _||_, and-false}
 use mathlib.Core.List.{List, [], _∷_, _++_}
 use native.Mathlib.Omega.{arith}
 use lib.Dec.{eqb}
@@ -10,7 +10,7 @@ use lib.IntN.{ℤ, pos, _+ℤ_, +ℤ-assoc, +ℤ-idl, +ℤ-idr}
 use borrow.Author.Tests.{eqb-true, ne-eqb, not-true}
 use Rattle.numbers.proofs.Choices.{cases}
 use Rattle.numbers.proofs.Tested.{holds, left, right}
-use Rattle.numbers.proofs.Sums.{Sum, none, term, _plus_, same-terms}
+use Rattle.numbers.proofs.Sums.{none, term, _plus_, same-terms}
 use Rattle.frames.specs.Passages.{Passage, silent, finished, broken, UnderWay, nothing, first}
 use Rattle.frames.specs.Sender.{Told, told, sentOne, brokenOff, passagesOver, goingOver}
 use Rattle.wire.specs.Line.{letterOf, known}
@@ -25,7 +25,7 @@ use Rattle.ballbox.specs.Box.{pair, modeD, Step}
 use Rattle.ballbox.specs.Commands.{isStream, letterP, space, letterf, lettert, byte05, letterd, commandOf, replyTo, obeyed}
 use Rattle.ballbox.specs.Events.{onMotion, onButtons, onPeriod, bytesLeft, wanted, latching, secondNow, withByteReady, nextByte, sending, dropped, onHost, awake, woken, asleep}
 use Rattle.ballbox.specs.Good.{good}
-use Rattle.ballbox.specs.Promises.{aboveSeven, stepOf}
+use Rattle.ballbox.specs.Promises.{aboveSeven}
 use Rattle.ballbox.specs.declared.BallBox.{BallBox}
 use Rattle.ballbox.specs.declared.Settings.{Settings}
 use Rattle.ballbox.specs.declared.Command.{Command}
@@ -545,3 +545,95 @@ module _ (a : Axis) where
       ∙ (sym (+ℤ-assoc (all now) (all rest) end)
       ∙ (ap (λ (x : ℤ). x +ℤ end) (sym (all-more now rest))
       ∙ rw (finished-more (t .passages) (passagesOf c (t .going) events), broken-more (t .passages) (passagesOf c (t .going) events)))))))
+
+-- the excesses of a run's steps are those of what its events throw away while awake
+pub none-along : (k : Kind) (a : Axis) → excessOf k a noSums ≡ pos 0
+none-along over-limit x-axis = refl
+none-along over-limit y-axis = refl
+none-along over-counter x-axis = refl
+none-along over-counter y-axis = refl
+
+abbrev overBy : Kind → Axis → BallBox → Event → ℤ
+overBy over-limit a b e = overLimitBy a b e
+overBy over-counter a b e = overCounterBy a b e
+
+either-along : (a : Axis) (t : Bool) (e o : Excess) → excessOf over-limit a (sums (cond t e noExcess) o) ≡ cond t (excessAlong a e) (pos 0)
+either-along x-axis true e o = refl
+either-along y-axis true e o = refl
+either-along x-axis false e o = refl
+either-along y-axis false e o = refl
+
+no-counter : (a : Axis) (l : Excess) → excessOf over-counter a (sums l noExcess) ≡ pos 0
+no-counter x-axis l = refl
+no-counter y-axis l = refl
+
+throws : (k : Kind) (a : Axis) (b : BallBox) (e : Event) → excessOf k a (sums (limitThrows b e) (counterThrows b e)) ≡ overBy k a b e
+throws over-limit a b (Motion dx dy) = either-along a false noExcess _
+throws over-limit a b (Buttons n) = either-along a false noExcess _
+throws over-limit a b (Host byte) = either-along a false noExcess _
+throws over-limit a b Latch = either-along a (not (bytesLeft b) && wanted b) (takenOver (b .settings .format) (b .track)) noExcess
+throws over-limit a b Send = either-along a (bytesLeft b && secondNow b) (takenOver (b .settings .format) (b .track)) noExcess
+throws over-limit a b Period = either-along a false noExcess _
+throws over-counter x-axis b (Motion dx dy) = refl
+throws over-counter y-axis b (Motion dx dy) = refl
+throws over-counter a b (Buttons n) = no-counter a _
+throws over-counter a b (Host byte) = no-counter a _
+throws over-counter a b Latch = no-counter a _
+throws over-counter a b Send = no-counter a _
+throws over-counter a b Period = no-counter a _
+
+refused-none : (k : Kind) (a : Axis) (b : BallBox) (e : Event) → aboveSeven e ≡ true → overBy k a b e ≡ pos 0
+refused-none k a b (Motion dx dy) p = absurd (holds p)
+refused-none over-limit a b (Buttons n) p = refl
+refused-none over-counter a b (Buttons n) p = refl
+refused-none k a b (Host byte) p = absurd (holds p)
+refused-none k a b Latch p = absurd (holds p)
+refused-none k a b Send p = absurd (holds p)
+refused-none k a b Period p = absurd (holds p)
+
+step-throws : (k : Kind) (a : Axis) (b : BallBox) (e : Event) → good b ≡ true → excessOf k a (thrown b e) ≡ whileAwake b (overBy k a b e)
+unfolding thrown
+step-throws k a b e g = rw g (go (aboveSeven e) refl (b .dormant) refl)
+  where
+    both : Sums
+    both = sums (limitThrows b e) (counterThrows b e)
+
+    still : (d : Bool) → excessOf k a (cond d noSums both) ≡ cond d (pos 0) (overBy k a b e)
+    still true = none-along k a
+    still false = throws k a b e
+
+    go : (t : Bool) → aboveSeven e ≡ t → (d : Bool) → b .dormant ≡ d → excessOf k a (cond (aboveSeven e || b .dormant) noSums both) ≡ whileAwake b (overBy k a b e)
+    go true p d q = rw (p, refused-none k a b e p) (none-along k a ∙ sym (nothing-comes b))
+    go false p d q =
+        rw p
+        (ap (λ (t : Bool). excessOf k a (cond t noSums both)) q ∙ (still d ∙ sym (awake-is b d q (overBy k a b e))))
+
+run-throws : (k : Kind) (a : Axis) (b : BallBox) (events : List Event) → good b ≡ true → over (overBy k a) b events ≡ sumOf (thrownIn k a b events)
+unfolding over thrownIn sumOf
+run-throws k a b [] g = refl
+run-throws k a b (e ∷ events) g = ap₂ _+ℤ_ (sym (step-throws k a b e g)) (run-throws k a (nextBox b e) events (stepped-good b e g))
+
+-- The account, from a good box that is not set to A and has nothing going and nothing counted.
+pub account : (a : Axis) (b : BallBox) (events : List Event) → Kept b nothing → inCounter a b ≡ pos 0 → neverA b events ≡ true
+    → over (fedBy a) b events
+    ≡ inFinished a (passagesOf b nothing events)
+    +ℤ (inGoing a (goingAfter b nothing events)
+    +ℤ (inCounter a (boxAfter b events)
+    +ℤ (sumOf (thrownIn over-limit a b events)
+    +ℤ (sumOf (thrownIn over-counter a b events)
+    +ℤ (inBroken a (passagesOf b nothing events)
+    +ℤ over (clearedBy a) b events)))))
+account a b events k z n =
+    let f = inFinished a (passagesOf b nothing events) in
+    let g = inGoing a (goingAfter b nothing events) in
+    let c = inCounter a (boxAfter b events) in
+    let l = over (overLimitBy a) b events in
+    let o = over (overCounterBy a) b events in
+    let r = inBroken a (passagesOf b nothing events) in
+    let d = over (clearedBy a) b events in
+    sym (+ℤ-idl _)
+    ∙ (ap (λ (x : ℤ). (pos 0 +ℤ x) +ℤ over (fedBy a) b events) (sym z)
+    ∙ (accounts a b nothing events k n
+    ∙ (same-terms (f ∷ l ∷ o ∷ r ∷ d ∷ g ∷ c ∷ []) ((term 0 plus term 1 plus term 2 plus term 3 plus term 4) plus (term 5 plus term 6))
+    (term 0 plus term 5 plus term 6 plus term 1 plus term 2 plus term 3 plus term 4) refl
+    ∙ rw (run-throws over-limit a b events (k .good), run-throws over-counter a b events (k .good)))))
