@@ -48,7 +48,7 @@ use Rattle.ballbox.specs.declared.Stepped.{Stepped}
 use Rattle.ballbox.proofs.Answers as box-answers
 use Rattle.ballbox.proofs.Refusals as box-refusals
 use Rattle.ballbox.proofs.Goodness as box-goodness
-use Rattle.listing.specs.Machine as listers
+use Rattle.listing.specs.Feeding as listers
 use Rattle.listing.specs.Promises as lister
 use Rattle.listing.specs.Promises.{Whole, FeedPromise, FinishPromise}
 use Rattle.listing.specs.declared.Lister.{Lister}

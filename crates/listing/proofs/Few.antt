@@ -1,110 +1,88 @@
 -- No text of the lister is longer than forty bytes.
 use Prim.Native.Nat.{ℕ, _+_, _≤_}
+use mathlib.Core.Bool.{Bool, true, false, cond}
 use mathlib.Core.List.{List, [], _∷_, _++_}
 use native.Mathlib.Omega.{arith}
-use lib.Dec.{ltb, leb, eqb}
-use lib.IntN.{_+ℤ_}
+use lib.Dec.{eqb}
+use lib.IntN.{pos}
 use lib.ListN.{length, length-append}
-use Rattle.wire.specs.declared.Report.{Report}
-use Rattle.reader.specs.Promises.{stepOf}
-use Rattle.reader.specs.declared.Answer.{Answer}
-use Rattle.reader.specs.declared.Answer.the-variants as answer
-use Rattle.text.specs.Decimals.{digitsOf, numberOf}
-use Rattle.text.proofs.Laws.{on-cond, digits-long, number-long, signed-long}
-use Rattle.listing.specs.Lines.{width, mostLines, newline, tab, saidBy}
-use Rattle.listing.specs.Items.{E, answerItems}
-use Rattle.listing.specs.Bytes.{buttonsOf, sumOf, lineD, lineR, lineH, lineE, lineOver, allBytes}
-use Rattle.listing.specs.Machine.{Saying, Turning, atFirst, formatted, worded, lineObeyed, takenOf, endOf, unfinished, unopened, frontOf, fedByte, closedOf, lastOf}
-use Rattle.listing.specs.declared.Line.{Line}
-use Rattle.listing.specs.declared.Line.the-variants as line
-use Rattle.listing.specs.declared.Place.{Place}
+use Rattle.reader.specs.declared.Reader.{Reader}
+use Rattle.text.specs.Decimals.{signedOf, numberOf}
+use Rattle.text.proofs.Laws.{on-cond, digits-long, signed-long}
+use Rattle.listing.specs.Lines.{newline}
+use Rattle.listing.specs.Scanning.{width, endIn, scannedByte, closedOf, endOf}
+use Rattle.listing.specs.Items.{gaveOf, itemsIn}
+use Rattle.listing.specs.Printing.{fieldOf, fieldsOf, Form, formOf, headOf, lineOf, opening, allBytes}
+use Rattle.listing.specs.Feeding.{unopened, frontOf, closed, itemsOf, fedByte, lastOf}
+use Rattle.listing.specs.declared.Found.{Found}
+use Rattle.listing.specs.declared.Found.the-variants as found
+use Rattle.listing.specs.declared.Field.{Field}
+use Rattle.listing.specs.declared.Field.the-variants as field
+use Rattle.listing.specs.declared.Item.{Item}
+use Rattle.listing.specs.declared.Item.the-variants as item
+use Rattle.listing.specs.declared.Given.{Given}
+use Rattle.listing.specs.declared.Given.the-variants as given
 use Rattle.listing.specs.declared.Lister.{Lister}
-use Rattle.listing.proofs.Grown.{all-append}
 
--- two lists, one behind the other
-both-few : (a b : List ℕ) (m n : ℕ) → length a ≤ m → length b ≤ n → length (a ++ b) ≤ m + n
-both-few a b m n h k = omega (arith, length-append a b)
+-- the most bytes of a field behind its tab, and of fields
+abbrev most : Field → ℕ
+most (field.Line n) = 5
+most (field.Number x) = 7
+most (field.Pressed b) = 4
+most field.Over = 5
 
-few-E : (n : ℕ) → length (lineE width n) ≤ 7
-unfolding lineE
-few-E n = omega (arith, both-few (digitsOf 4 n) (newline ∷ []) 4 1 (omega (arith, digits-long 4 n)) (omega arith))
+abbrev mostOf : List Field → ℕ
+mostOf [] = 0
+mostOf (f ∷ fs) = most f + mostOf fs
 
-few-H : (k : ℕ) → length (lineH k) ≤ 6
-unfolding lineH
-few-H k = omega (arith, both-few (numberOf 2 k) (newline ∷ []) 3 1 (omega (arith, number-long 2 k)) (omega arith))
+few-field : (f : Field) → 1 + length (fieldOf width f) ≤ most f
+few-field (field.Line n) = omega (arith, digits-long 4 n)
+few-field (field.Number x) = omega (arith, signed-long 4 x)
+few-field (field.Pressed b) = omega arith
+few-field field.Over = omega arith
 
-few-D : (n k : ℕ) → length (lineD width n k) ≤ 11
-unfolding lineD
-few-D n k =
-    let a = both-few (digitsOf 4 n) (tab ∷ numberOf 2 k) 4 4 (omega (arith, digits-long 4 n)) (omega (arith, number-long 2 k)) in
-    let b = both-few (digitsOf 4 n ++ (tab ∷ numberOf 2 k)) (newline ∷ []) 8 1 a (omega arith) in
-    omega (arith, b)
+few-fields : (fs : List Field) → length (fieldsOf width fs) ≤ mostOf fs
+few-fields [] = omega arith
+few-fields (f ∷ fs) = omega (arith, few-field f, few-fields fs, length-append (fieldOf width f) (fieldsOf width fs))
 
-few-R : (n letter : ℕ) (p : Report) → length (lineR width n letter p) ≤ 25
-unfolding lineR
-few-R n letter p =
-    let x = tab ∷ sumOf (p .x1) (p .x2) in
-    let y = tab ∷ sumOf (p .y1) (p .y2) in
-    let l = tab ∷ buttonsOf letter (p .buttons) in
-    let a = both-few (digitsOf 4 n) l 4 4 (omega (arith, digits-long 4 n)) (omega arith) in
-    let b = both-few (digitsOf 4 n ++ l) x 8 7 a (omega (arith, signed-long 4 (p .x1 +ℤ p .x2))) in
-    let d = both-few (digitsOf 4 n ++ l ++ x) y 15 7 b (omega (arith, signed-long 4 (p .y1 +ℤ p .y2))) in
-    let e = both-few (digitsOf 4 n ++ l ++ x ++ y) (newline ∷ []) 22 1 d (omega arith) in
-    omega (arith, e)
+-- the line of a form, and of an item
+few-form : (f : Form) → length (lineOf width f) ≤ 2 + mostOf (f .fields)
+unfolding lineOf
+few-form f = omega (arith, few-fields (f .fields), length-append (headOf width f) (newline ∷ []))
 
--- the lines of a saying
-abbrev Few : ℕ → Saying → Type 0
-Few m s = length (allBytes width (s .items)) ≤ m
+few-item : (i : Item) → length (lineOf width (formOf i)) ≤ 25
+few-item (item.D n k) = omega (arith, few-form (formOf (item.D n k)))
+few-item (item.R n b x y) = omega (arith, few-form (formOf (item.R n b x y)))
+few-item (item.H k) = omega (arith, few-form (formOf (item.H k)))
+few-item (item.E n) = omega (arith, few-form (formOf (item.E n)))
+few-item item.Over = omega (arith, few-form (formOf item.Over))
 
-single-few : (l : List ℕ) {m : ℕ} → length l ≤ m → length (l ++ []) ≤ m
-single-few l h = omega (arith, length-append l [])
-
-few-wrong : (n : ℕ) → length (allBytes width (E n ∷ [])) ≤ 25
-few-wrong n = single-few (lineE width n) (omega (arith, few-E n))
-
-few-answer : (letter n : ℕ) (a : Answer) → length (allBytes width (answerItems letter n a)) ≤ 25
-few-answer letter n answer.Nothing = omega arith
-few-answer letter n (answer.Report p) = single-few (lineR width n letter p) (few-R n letter p)
-few-answer letter n (answer.Dropped k) = single-few (lineD width n k) (omega (arith, few-D n k))
-
-few-obeyed : (p : Place) (n : ℕ) (l : Line) → Few 25 (lineObeyed p n l)
-unfolding formatted worded
-few-obeyed p n line.Bad = few-wrong n
-few-obeyed p n (line.Format f) = on-cond (Few 25) (atFirst p) _ _ (omega arith) (few-wrong n)
-few-obeyed p n (line.Word w) = on-cond (Few 25) (atFirst p) _ _ (few-wrong n) (few-answer (p .reader .format) n (stepOf (p .reader) w .answer))
-
-few-taken : (p : Place) (l : Line) → Few 25 (takenOf p l)
-unfolding takenOf lineOver
-few-taken p l = on-cond (Few 25) (p .ended) _ _ (omega arith) (on-cond (Few 25) (leb mostLines (p .line)) _ _ (omega arith) (few-obeyed p (p .line + 1) l))
-
-few-end : (p : Place) → Few 7 (endOf p)
-unfolding endOf
-few-end p =
-    on-cond (Few 7) (p .ended) _ _ (omega arith)
-    (on-cond (Few 7) (atFirst p) _ _ (single-few (lineE width 1) (few-E 1)) (single-few (lineH (p .reader .count)) (omega (arith, few-H (p .reader .count)))))
+few-given : (g : Given) → length (allBytes width (itemsIn g)) ≤ 25
+few-given given.Nothing = omega arith
+few-given (given.One i) = omega (arith, few-item i, length-append (lineOf width (formOf i)) [])
 
 few-front : (m : Lister) → length (frontOf m) ≤ 4
-unfolding frontOf numberOf
-few-front m = on-cond (λ (l : List ℕ). length l ≤ 4) (unopened m) _ _ (omega arith) (omega arith)
+unfolding frontOf lineOf signedOf numberOf
+few-front m = on-cond (λ (l : List ℕ). length l ≤ 4) (unopened (m .scanner)) _ _ (omega arith) (omega arith)
 
-few-closed : (m : Lister) → Few 25 (closedOf m)
-unfolding closedOf
-few-closed m = on-cond (Few 25) (eqb (m .count) 0) _ _ (omega arith) (few-taken (m .place) (saidBy (unfinished m)))
+-- what the end gives
+few-end : (r : Reader) (t u : Bool) → length (allBytes width (itemsIn (gaveOf r (cond t found.Nothing (cond u (found.Bad 1) found.End)) .given))) ≤ 9
+unfolding gaveOf
+few-end r true u = omega arith
+few-end r false true = omega (arith, few-form (formOf (item.E 1)), length-append (lineOf width (formOf (item.E 1))) [])
+few-end r false false = omega (arith, few-form (formOf (item.H (r .count))), length-append (lineOf width (formOf (item.H (r .count)))) [])
 
 -- what a byte writes, and what the end does
 pub few-byte : (m : Lister) (c : ℕ) → length (fedByte m c .text) ≤ 40
 unfolding fedByte
 few-byte m c =
-    let P : Turning → Type 0 = λ t. length (t .text) ≤ 40 in
-    on-cond P (eqb c newline) _ _ (line-few (saidBy (unfinished m))) (on-cond P (ltb (m .count) 5) _ _ (omega (arith, few-front m)) (line-few line.Bad))
-  where
-    line-few : (l : Line) → length (frontOf m ++ allBytes width (takenOf (m .place) l .items)) ≤ 40
-    line-few l = omega (arith, both-few (frontOf m) (allBytes width (takenOf (m .place) l .items)) 4 25 (few-front m) (few-taken (m .place) l))
+    let g = gaveOf (m .reader) (scannedByte (m .scanner) c .found) .given in
+    omega (arith, few-front m, few-given g, length-append (frontOf m) (allBytes width (itemsIn g)))
 
 pub few-last : (m : Lister) → length (lastOf m .text) ≤ 40
-unfolding lastOf
+unfolding lastOf endOf
 few-last m =
-    let s = closedOf m in
-    let e = endOf (s .next) in
-    let a : length (allBytes width (s .items ++ e .items)) ≤ 32 = rw (all-append width (s .items) (e .items)) (omega (arith, both-few (allBytes width (s .items)) (allBytes width (e .items)) 25 7 (few-closed m) (few-end (s .next)))) in
-    omega (arith, both-few (frontOf m) (allBytes width (s .items ++ e .items)) 4 32 (few-front m) a)
+    let a = allBytes width (itemsOf m (closedOf (m .scanner))) in
+    let e = allBytes width (itemsOf (closed m) (endOf (closed m .scanner))) in
+    let few : length e ≤ 9 = few-end (closed m .reader) (closed m .scanner .ended) (eqb (closed m .scanner .line) 0) in
+    omega (arith, few-front m, few-given (gaveOf (m .reader) (closedOf (m .scanner) .found) .given), few, length-append (frontOf m) a, length-append (frontOf m ++ a) e)

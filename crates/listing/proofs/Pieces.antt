@@ -9,7 +9,7 @@ use lib.Dec.{ltb}
 use lib.ListN.{length, getD, take, length-append}
 use borrow.Author.Tests.{le-ltb, ltb-true, ltb-false}
 use Rattle.numbers.proofs.Choices.{cases}
-use Rattle.listing.specs.Machine.{fedByte, lastOf, feedIn, finishIn, Feed}
+use Rattle.listing.specs.Feeding.{fedByte, lastOf, feedIn, finishIn, Feed}
 use Rattle.listing.specs.Promises.{enough}
 use Rattle.listing.specs.declared.Lister.{Lister}
 use Rattle.listing.proofs.Few.{few-byte, few-last}

@@ -1,5 +1,5 @@
--- The input's lines, to numbered words or a bad line.
-use Prim.Native.Nat.{ℕ, _+_, _-_, _*_, _^_}
+-- The lines of an input, and what each says.
+use Prim.Native.Nat.{ℕ, _+_, _-_, _*_}
 use mathlib.Core.Bool.{Bool, true, false, not, cond, _&&_}
 use mathlib.Core.List.{List, [], _∷_}
 use lib.Dec.{leb, eqb}
@@ -7,13 +7,6 @@ use Rattle.frames.specs.Words.{break, silence}
 use Rattle.wire.specs.Line.{known}
 use Rattle.listing.specs.declared.Line.{Line}
 use Rattle.listing.specs.declared.Line.the-variants as line
-
--- "the width of line numbers", and with it the most lines: "at most 9,999 lines"
-abbrev pub width : ℕ
-width = 4
-
-abbrev pub mostLines : ℕ
-mostLines = 10 ^ width - 1
 
 abbrev pub newline : ℕ
 newline = 0x0A
@@ -68,47 +61,3 @@ saidBy (a ∷ []) = markIn a
 saidBy (a ∷ b ∷ []) = line.Bad
 saidBy (a ∷ b ∷ c ∷ cs) =
     cond (eqb a 0x46 && eqb b tab) (formatIn c cs) (cond (eqb a 0x42 && eqb b tab) (byteIn (c ∷ cs)) line.Bad)
-
--- a word, and the number of its line
-pub record Numbered : Type 0 where
-  pub line : ℕ
-  pub word : ℕ
-
--- how the input ends: whole, with a bad line, or with a line too many
-pub data Ending : Type 0 where
-  Whole : Ending
-  BadLine : ℕ → Ending
-  TooMany : Ending
-
--- the numbered words, as far as they go
-pub record Words : Type 0 where
-  pub words : List Numbered
-  pub ending : Ending
-
-abbrev pub ends : Ending → Words
-ends e = record { words = []; ending = e }
-
--- a word in front of the later ones; "A bad line gives `E` and its number and ends", and so does a second format
-abbrev pub numbered : ℕ → Line → Words → Words
-numbered n (line.Word w) later = record { words = record { line = n; word = w } ∷ later .words; ending = later .ending }
-numbered n (line.Format f) later = ends (BadLine n)
-numbered n line.Bad later = ends (BadLine n)
-
--- the words on the lines behind line n; "line 10,000 gives `E` and `over`"
-unfoldable pub wordsAfter : ℕ → List (List ℕ) → Words
-wordsAfter n [] = ends Whole
-wordsAfter n (l ∷ ls) = cond (leb mostLines n) (ends TooMany) (numbered (n + 1) (saidBy l) (wordsAfter (n + 1) ls))
-
--- "`F` letter first": the format and the words behind it, or "a missing first line"
-pub data Recording : Type 0 where
-  Missing : Recording
-  Of : ℕ → Words → Recording
-
-abbrev pub opened : Line → Words → Recording
-opened (line.Format f) later = Of f later
-opened (line.Word w) later = Missing
-opened line.Bad later = Missing
-
-unfoldable pub recordingOf : List (List ℕ) → Recording
-recordingOf [] = Missing
-recordingOf (l ∷ ls) = opened (saidBy l) (wordsAfter 1 ls)

@@ -6,7 +6,7 @@ use Prim.Native.Nat.{_+_, _-_, _<_, _≤_}
 use native.Mathlib.Omega.{arith}
 use lib.ListN.{length, drop, getD}
 use Rattle.text.specs.Growth.{textOf, fitsAt}
-use Rattle.listing.specs.Machine.{fedByte, feedIn}
+use Rattle.listing.specs.Feeding.{fedByte, feedIn}
 use Rattle.listing.specs.Promises.{whole}
 use Rattle.listing.specs.declared.Turn.{Turn}
 use Rattle.listing.specs.declared.Listed.{Listed}

@@ -1,6 +1,6 @@
 -- Whether nothing has been written yet.
 use borrow.Author.Needs.{needs}
-use Rattle.listing.specs.Machine.{frontOf}
+use Rattle.listing.specs.Feeding.{frontOf}
 use Rattle.listing.proofs.Lister.front.Statement.{statement}
 use Rattle.listing.proofs.Lister.front.Tie as tie
 
