@@ -105,7 +105,7 @@ module _ (m : Lister) (before after : List ℕ) (a : Listed) (g : good m ≡ tru
   -- with so many places it ends
   pub ends-with-room : enough ≤ length before → a .ended ≡ true
   ends-with-room room =
-      call-ended (finishIn m (length before)) before after a finishes ∙ ap (λ (f : Feed). f .next .scanner .ended) (pieces.finished m (length before) room) ∙ end-ends m
+      call-ended (finishIn m (length before)) before after a finishes ∙ ap (λ (f : Feed). f .next .scanner .ended) (pieces.finished m (length before) g room) ∙ end-ends m
 
   -- it has ended with its last lines
   ends-with : a .ended ≡ true → take (a .written) after ≡ lastOf m .text

@@ -3,20 +3,18 @@ use Prim.Native.Nat.{ℕ, _+_, _-_, _≤_, _<_}
 use mathlib.Core.Path.{_≡_, refl, _∙_, ap}
 use mathlib.Core.Bool.{Bool, true, false, cond}
 use mathlib.Core.Logic.{_⊎_, inl, inr, ⊎-elim}
-use mathlib.Core.List.{List, [], _∷_, _++_}
+use mathlib.Core.List.{List, [], _∷_}
 use native.Mathlib.Omega.{arith}
 use lib.Dec.{leb, ltb, eqb}
 use lib.ListN.{length}
 use borrow.Author.Tests.{ne-eqb, le-leb, leb-false}
 use Rattle.numbers.proofs.Choices.{cases}
 use Rattle.listing.specs.Lines.{newline, saidBy}
-use Rattle.listing.specs.Scanning.{width, mostLines, lineIn, ends, scan, unfinished, passing, takenOf, scannedByte, closedOf, endOf, passed, mostBytes}
+use Rattle.listing.specs.Scanning.{mostLines, lineIn, ends, scan, unfinished, takenOf, scannedByte, closedOf, endOf, passed, mostBytes}
 use Rattle.listing.specs.Items.{itemsFrom}
-use Rattle.listing.specs.Printing.{allBytes}
-use Rattle.listing.specs.Feeding.{Feed, frontOf, fedByte, lastOf, feedIn}
+use Rattle.listing.specs.Feeding.{Feed, fedByte, lastOf, feedIn}
 use Rattle.listing.specs.declared.Line.{Line}
 use Rattle.listing.specs.declared.Line.the-variants as line
-use Rattle.listing.specs.declared.Found.{Found}
 use Rattle.listing.specs.declared.Found.the-variants.{Nothing}
 use Rattle.listing.specs.declared.Scan.{Scan}
 use Rattle.listing.specs.declared.Scanner.{Scanner}

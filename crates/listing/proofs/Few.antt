@@ -1,19 +1,28 @@
 -- No text of the lister is longer than forty bytes.
-use Prim.Native.Nat.{ℕ, _+_, _≤_}
+use Prim.Native.Nat.{ℕ, _+_, _-_, _<_, _≤_, _^_}
+use mathlib.Core.Path.{_≡_}
 use mathlib.Core.Bool.{Bool, true, false, cond}
 use mathlib.Core.List.{List, [], _∷_, _++_}
 use native.Mathlib.Omega.{arith}
-use lib.Dec.{eqb}
-use lib.IntN.{pos}
+use lib.Dec.{leb, eqb}
+use lib.IntN.{pos, natAbs}
 use lib.ListN.{length, length-append}
+use borrow.Author.Tests.{leb-false}
+use Rattle.numbers.proofs.Choices.{cases}
+use Rattle.reader.specs.Good as reader
+use Rattle.reader.specs.Promises.{stepOf}
 use Rattle.reader.specs.declared.Reader.{Reader}
-use Rattle.text.specs.Decimals.{signedOf, numberOf}
-use Rattle.text.proofs.Laws.{on-cond, digits-long, signed-long}
-use Rattle.listing.specs.Lines.{newline}
-use Rattle.listing.specs.Scanning.{width, endIn, scannedByte, closedOf, endOf}
-use Rattle.listing.specs.Items.{gaveOf, itemsIn}
-use Rattle.listing.specs.Printing.{fieldOf, fieldsOf, Form, formOf, headOf, lineOf, opening, allBytes}
-use Rattle.listing.specs.Feeding.{unopened, frontOf, closed, itemsOf, fedByte, lastOf}
+use Rattle.reader.specs.declared.Answer.{Answer}
+use Rattle.reader.specs.declared.Answer.the-variants as answer
+use Rattle.text.specs.Decimals.{plain, digitsOf, sizeIn, placesOf, decimalOf}
+use Rattle.text.proofs.Digits.{decimal-few}
+use Rattle.listing.specs.Lines.{newline, saidBy}
+use Rattle.listing.specs.Scanning.{width, mostLines, onLine, lineIn, unfinished, takenOf, scannedByte, closedOf, endOf}
+use Rattle.listing.specs.Items.{answerGiven, gaveOf, itemsIn}
+use Rattle.listing.specs.Printing.{fieldOf, fieldsOf, Form, formOf, headOf, lineOf, allBytes}
+use Rattle.listing.specs.Feeding.{unopened, frontOf, closed, itemsOf, fedByte, lastOf, good}
+use Rattle.listing.specs.declared.Line.{Line}
+use Rattle.listing.specs.declared.Line.the-variants as line
 use Rattle.listing.specs.declared.Found.{Found}
 use Rattle.listing.specs.declared.Found.the-variants as found
 use Rattle.listing.specs.declared.Field.{Field}
@@ -22,67 +31,125 @@ use Rattle.listing.specs.declared.Item.{Item}
 use Rattle.listing.specs.declared.Item.the-variants as item
 use Rattle.listing.specs.declared.Given.{Given}
 use Rattle.listing.specs.declared.Given.the-variants as given
+use Rattle.listing.specs.declared.Scan.{Scan}
+use Rattle.listing.specs.declared.Scanner.{Scanner}
 use Rattle.listing.specs.declared.Lister.{Lister}
+use Rattle.listing.proofs.Small.{Small, few-kept, small-step}
+use Rattle.listing.proofs.Keeps.{closed-reads}
 
--- the most bytes of a field behind its tab, and of fields
-abbrev most : Field → ℕ
-most (field.Line n) = 5
-most (field.Number x) = 7
-most (field.Pressed b) = 4
-most field.Over = 5
+-- fields whose line numbers are within the width, and whose other numbers have four digits at most
+abbrev Short : List Field → Type 0
+Short [] = Unit {0}
+Short (field.Line n ∷ fs) = (n < 10 ^ width) × Short fs
+Short (field.Number x ∷ fs) = (natAbs x < 10 ^ 4) × Short fs
+Short (field.Pressed b ∷ fs) = Short fs
+Short (field.Over ∷ fs) = Short fs
 
+-- the most bytes of such fields, each behind its tab
 abbrev mostOf : List Field → ℕ
 mostOf [] = 0
-mostOf (f ∷ fs) = most f + mostOf fs
+mostOf (field.Line n ∷ fs) = 2 + width + mostOf fs
+mostOf (field.Number x ∷ fs) = 6 + mostOf fs
+mostOf (field.Pressed b ∷ fs) = 4 + mostOf fs
+mostOf (field.Over ∷ fs) = 5 + mostOf fs
 
-few-field : (f : Field) → 1 + length (fieldOf width f) ≤ most f
-few-field (field.Line n) = omega (arith, digits-long 4 n)
-few-field (field.Number x) = omega (arith, signed-long 4 x)
-few-field (field.Pressed b) = omega arith
-few-field field.Over = omega arith
+few-fields : (fs : List Field) → Short fs → length (fieldsOf width fs) ≤ mostOf fs
+few-fields [] h = omega arith
+few-fields (field.Line n ∷ fs) h = omega (arith, decimal-few width (width - 1) (pos n) (omega arith) (h .0), few-fields fs (h .1), length-append (fieldOf width (field.Line n)) (fieldsOf width fs))
+few-fields (field.Number x ∷ fs) h = omega (arith, decimal-few plain 3 x (omega arith) (h .0), few-fields fs (h .1), length-append (fieldOf width (field.Number x)) (fieldsOf width fs))
+few-fields (field.Pressed b ∷ fs) h = omega (arith, few-fields fs h)
+few-fields (field.Over ∷ fs) h = omega (arith, few-fields fs h)
 
-few-fields : (fs : List Field) → length (fieldsOf width fs) ≤ mostOf fs
-few-fields [] = omega arith
-few-fields (f ∷ fs) = omega (arith, few-field f, few-fields fs, length-append (fieldOf width f) (fieldsOf width fs))
-
--- the line of a form, and of an item
-few-form : (f : Form) → length (lineOf width f) ≤ 2 + mostOf (f .fields)
+few-form : (f : Form) → Short (f .fields) → length (lineOf width f) ≤ 2 + mostOf (f .fields)
 unfolding lineOf
-few-form f = omega (arith, few-fields (f .fields), length-append (headOf width f) (newline ∷ []))
+few-form f h = omega (arith, few-fields (f .fields) h, length-append (headOf width f) (newline ∷ []))
 
-few-item : (i : Item) → length (lineOf width (formOf i)) ≤ 25
-few-item (item.D n k) = omega (arith, few-form (formOf (item.D n k)))
-few-item (item.R n b x y) = omega (arith, few-form (formOf (item.R n b x y)))
-few-item (item.H k) = omega (arith, few-form (formOf (item.H k)))
-few-item (item.E n) = omega (arith, few-form (formOf (item.E n)))
-few-item item.Over = omega (arith, few-form (formOf item.Over))
+-- the line of what is given
+abbrev ShortGiven : Given → Type 0
+ShortGiven given.Nothing = Unit {0}
+ShortGiven (given.One i) = Short (formOf i .fields)
 
-few-given : (g : Given) → length (allBytes width (itemsIn g)) ≤ 25
-few-given given.Nothing = omega arith
-few-given (given.One i) = omega (arith, few-item i, length-append (lineOf width (formOf i)) [])
+most-item : (i : Item) → mostOf (formOf i .fields) ≤ 22
+most-item (item.D n k) = omega arith
+most-item (item.R n b x y) = omega arith
+most-item (item.H k) = omega arith
+most-item (item.E n) = omega arith
+most-item item.Over = omega arith
+
+few-given : (g : Given) → ShortGiven g → length (allBytes width (itemsIn g)) ≤ 24
+few-given given.Nothing h = omega arith
+few-given (given.One i) h = omega (arith, few-form (formOf i) h, most-item i, length-append (lineOf width (formOf i)) [])
+
+-- what is found on a line, whose number is below the most lines
+abbrev Numbered : Found → Type 0
+Numbered found.Nothing = Unit {0}
+Numbered (found.Format f) = Unit {0}
+Numbered (found.Word n w) = n < 10 ^ width
+Numbered (found.Bad n) = n < 10 ^ width
+Numbered found.Over = Unit {0}
+Numbered found.End = ⊥
+
+numbered-line : (n : ℕ) (l : Line) → Numbered (lineIn n l)
+unfolding lineIn
+numbered-line n l = cases Numbered (leb mostLines n) (λ _. tt) (λ e. go l (leb-false _ _ e))
+  where
+    go : (l : Line) → n < mostLines → Numbered (onLine n l)
+    go line.Bad h = omega arith
+    go (line.Format f) h = cases Numbered (eqb n 0) (λ _. tt) (λ _. omega arith)
+    go (line.Word w) h = cases Numbered (eqb n 0) (λ _. omega arith) (λ _. omega arith)
+
+numbered-taken : (s : Scanner) (l : Line) → Numbered (takenOf s l .found)
+unfolding takenOf
+numbered-taken s l = cases (λ (k : Scan). Numbered (k .found)) (s .ended) (λ _. tt) (λ _. numbered-line (s .line) l)
+
+numbered-byte : (s : Scanner) (c : ℕ) → Numbered (scannedByte s c .found)
+unfolding scannedByte
+numbered-byte s c =
+    let P : Scan → Type 0 = λ k. Numbered (k .found) in
+    cases P (eqb c newline) (λ _. numbered-taken s (saidBy (unfinished s))) (λ _. cases P (leb 5 (s .count)) (λ _. numbered-taken s line.Bad) (λ _. tt))
+
+numbered-closed : (s : Scanner) → Numbered (closedOf s .found)
+unfolding closedOf
+numbered-closed s = cases (λ (k : Scan). Numbered (k .found)) (eqb (s .count) 0) (λ _. tt) (λ _. numbered-taken s (saidBy (unfinished s)))
+
+short-gave : (r : Reader) (f : Found) → Numbered f → ShortGiven (gaveOf r f .given)
+unfolding gaveOf
+short-gave r found.Nothing h = tt
+short-gave r (found.Format f) h = tt
+short-gave r (found.Word n w) h = go (stepOf r w .answer) (small-step r w)
+  where
+    go : (a : Answer) → Small a → ShortGiven (answerGiven (r .format) n a)
+    go answer.Nothing k = tt
+    go (answer.Report p) k = (h, (k .0, (k .1, tt)))
+    go (answer.Dropped b) k = (h, (k, tt))
+short-gave r (found.Bad n) h = (h, tt)
+short-gave r found.Over h = tt
+short-gave r found.End h = absurd h
 
 few-front : (m : Lister) → length (frontOf m) ≤ 4
-unfolding frontOf lineOf signedOf numberOf
-few-front m = on-cond (λ (l : List ℕ). length l ≤ 4) (unopened (m .scanner)) _ _ (omega arith) (omega arith)
+unfolding frontOf lineOf decimalOf placesOf sizeIn digitsOf
+few-front m = cases (λ (l : List ℕ). length l ≤ 4) (unopened (m .scanner)) (λ _. omega arith) (λ _. omega arith)
 
--- what the end gives
-few-end : (r : Reader) (t u : Bool) → length (allBytes width (itemsIn (gaveOf r (cond t found.Nothing (cond u (found.Bad 1) found.End)) .given))) ≤ 9
+-- what the end gives to a reader that keeps few bytes
+few-end : (r : Reader) (t u : Bool) → r .count < 5 → length (allBytes width (itemsIn (gaveOf r (cond t found.Nothing (cond u (found.Bad 1) found.End)) .given))) ≤ 8
 unfolding gaveOf
-few-end r true u = omega arith
-few-end r false true = omega (arith, few-form (formOf (item.E 1)), length-append (lineOf width (formOf (item.E 1))) [])
-few-end r false false = omega (arith, few-form (formOf (item.H (r .count))), length-append (lineOf width (formOf (item.H (r .count)))) [])
+few-end r true u h = omega arith
+few-end r false true h = omega (arith, few-form (formOf (item.E 1)) (omega arith, tt), length-append (lineOf width (formOf (item.E 1))) [])
+few-end r false false h = omega (arith, few-form (formOf (item.H (r .count))) (omega arith, tt), length-append (lineOf width (formOf (item.H (r .count)))) [])
 
--- what a byte writes, and what the end does
+-- what a byte writes, and what the end of a good lister does
 pub few-byte : (m : Lister) (c : ℕ) → length (fedByte m c .text) ≤ 40
 unfolding fedByte
 few-byte m c =
-    let g = gaveOf (m .reader) (scannedByte (m .scanner) c .found) .given in
-    omega (arith, few-front m, few-given g, length-append (frontOf m) (allBytes width (itemsIn g)))
+    let f = scannedByte (m .scanner) c .found in
+    let g = gaveOf (m .reader) f .given in
+    omega (arith, few-front m, few-given g (short-gave (m .reader) f (numbered-byte (m .scanner) c)), length-append (frontOf m) (allBytes width (itemsIn g)))
 
-pub few-last : (m : Lister) → length (lastOf m .text) ≤ 40
+pub few-last : (m : Lister) → good m ≡ true → length (lastOf m .text) ≤ 40
 unfolding lastOf endOf
-few-last m =
+few-last m ok =
+    let f = closedOf (m .scanner) .found in
     let a = allBytes width (itemsOf m (closedOf (m .scanner))) in
     let e = allBytes width (itemsOf (closed m) (endOf (closed m .scanner))) in
-    let few : length e ≤ 9 = few-end (closed m .reader) (closed m .scanner .ended) (eqb (closed m .scanner .line) 0) in
-    omega (arith, few-front m, few-given (gaveOf (m .reader) (closedOf (m .scanner) .found) .given), few, length-append (frontOf m) a, length-append (frontOf m ++ a) e)
+    let few : length e ≤ 8 = few-end (closed m .reader) (closed m .scanner .ended) (eqb (closed m .scanner .line) 0) (few-kept (closed m .reader) (closed-reads m ok)) in
+    omega (arith, few-front m, few-given (gaveOf (m .reader) f .given) (short-gave (m .reader) f (numbered-closed (m .scanner))), few, length-append (frontOf m) a, length-append (frontOf m ++ a) e)

@@ -18,7 +18,7 @@ use Rattle.listing.specs.Lines.{newline, saidBy}
 use Rattle.listing.specs.Scanning as scanner
 use Rattle.listing.specs.Scanning.{mostLines, lineIn, ends, unfinished, takenOf, scannedByte, closedOf, endOf}
 use Rattle.listing.specs.Items.{gaveOf}
-use Rattle.listing.specs.Feeding.{Feed, fresh, fedByte, lastOf, feedIn, finishIn, good}
+use Rattle.listing.specs.Feeding.{Feed, fresh, closed, fedByte, lastOf, feedIn, finishIn, good}
 use Rattle.listing.specs.declared.Line.{Line}
 use Rattle.listing.specs.declared.Line.the-variants as line
 use Rattle.listing.specs.declared.Found.{Found}
@@ -93,9 +93,12 @@ feed-stays-good (c ∷ cs) m room g =
     cases (λ (f : Feed). good (f .next) ≡ true) (ltb room (length (fedByte m c .text))) (λ _. g)
     (λ _. feed-stays-good cs (fedByte m c .next) (room - length (fedByte m c .text)) (byte-stays-good m c g))
 
+pub closed-reads : (m : Lister) → good m ≡ true → reader.good (closed m .reader) ≡ true
+closed-reads m g = gave-good (m .reader) (closedOf (m .scanner) .found) (reads m g)
+
 last-good : (m : Lister) → good m ≡ true → good (lastOf m .next) ≡ true
 unfolding good lastOf
-last-good m g = both _ _ (made _ (end-within (m .scanner) (kept m g))) (gave-good _ (endOf (closedOf (m .scanner) .next) .found) (gave-good (m .reader) (closedOf (m .scanner) .found) (reads m g)))
+last-good m g = both _ _ (made _ (end-within (m .scanner) (kept m g))) (gave-good (closed m .reader) (endOf (closedOf (m .scanner) .next) .found) (closed-reads m g))
 
 pub finish-stays-good : (m : Lister) (room : ℕ) → good m ≡ true → good (finishIn m room .next) ≡ true
 unfolding finishIn

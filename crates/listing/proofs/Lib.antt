@@ -3,7 +3,6 @@
 -- (Refusals); and what the functions' proofs share.
 pub mod Answers
 pub mod Calls
-pub mod Digits
 pub mod Ended
 pub mod Feeds
 pub mod Few
@@ -15,5 +14,6 @@ pub mod Parse
 pub mod Pieces
 pub mod Refusals
 pub mod Scanned
+pub mod Small
 pub mod Whole
 pub mod Worked

@@ -7,9 +7,9 @@ use native.Mathlib.Omega.{arith}
 use lib.ListN.{length, take, replicate, length-replicate}
 use lib.Seq.{take-all}
 use Rattle.wire.specs.Reading.{readV}
-use Rattle.text.specs.Decimals.{digitsOf, numberOf, signedOf}
+use Rattle.text.specs.Decimals.{digitsOf, sizeIn, placesOf, decimalOf, readable, plusIn, numberIn}
 use Rattle.reader.proofs.Computing as reader
-use Rattle.listing.specs.Lines.{byteIn, markIn, formatIn, saidBy}
+use Rattle.listing.specs.Lines.{markIn, formatIn, saidBy}
 use Rattle.listing.specs.Scanning.{lineIn, takenOf, scannedByte, closedOf, endOf, mostBytes}
 use Rattle.listing.specs.Scanning as scanner
 use Rattle.listing.specs.Items.{gaveOf}
@@ -25,7 +25,7 @@ use Rattle.listing.proofs.Calls.{takes-all, in-calls, ended-early, has-
 
 -- what the calls compute with
 unfoldable computing : Unit {0}
-unfolding reader.computing feedOf finishOf feedIn finishIn lastOf fedByte frontOf good scanner.good closedOf endOf scannedByte takenOf lineIn gaveOf byteIn markIn formatIn saidBy lineOf digitsOf numberOf signedOf readV
+unfolding reader.computing feedOf finishOf feedIn finishIn lastOf fedByte frontOf good scanner.good closedOf endOf scannedByte takenOf lineIn gaveOf markIn formatIn saidBy lineOf digitsOf sizeIn placesOf decimalOf readable plusIn numberIn readV
 computing = tt
 
 -- a call with so many places, answered by the definition

@@ -1,10 +1,14 @@
 -- The lines of an input, and what each says.
-use Prim.Native.Nat.{ℕ, _+_, _-_, _*_}
-use mathlib.Core.Bool.{Bool, true, false, not, cond, _&&_}
+use Prim.Native.Nat.{ℕ}
+use mathlib.Core.Bool.{cond, _&&_}
 use mathlib.Core.List.{List, [], _∷_}
 use lib.Dec.{leb, eqb}
+use lib.IntN.{pos, negsuc}
 use Rattle.frames.specs.Words.{break, silence}
 use Rattle.wire.specs.Line.{known}
+use Rattle.text.specs.Decimals.{plain, numberIn}
+use Rattle.text.specs.declared.Number.{Number}
+use Rattle.text.specs.declared.Number.the-variants.{None, Is}
 use Rattle.listing.specs.declared.Line.{Line}
 use Rattle.listing.specs.declared.Line.the-variants as line
 
@@ -24,26 +28,14 @@ unfoldable pub linesIn : List ℕ → List (List ℕ)
 linesIn [] = []
 linesIn (c ∷ cs) = cond (eqb c newline) ([] ∷ linesIn cs) (front c (linesIn cs))
 
--- "Decimals have no leading zeros"
-abbrev pub isDecimal : ℕ → Bool
-isDecimal c = leb 0x30 c && leb c 0x39
+-- "`B` decimal byte"; "Decimals have no leading zeros"
+abbrev pub byteOf : Number → Line
+byteOf None = line.Bad
+byteOf (Is (pos n)) = cond (leb n 255) (line.Word n) line.Bad
+byteOf (Is (negsuc n)) = line.Bad
 
-abbrev pub allDigits : List ℕ → Bool
-allDigits [] = true
-allDigits (c ∷ cs) = isDecimal c && allDigits cs
-
-abbrev pub noLeadingZero : List ℕ → Bool
-noLeadingZero [] = false
-noLeadingZero (c ∷ []) = true
-noLeadingZero (c ∷ d ∷ ds) = not (eqb c 0x30)
-
-abbrev pub valueOf : ℕ → List ℕ → ℕ
-valueOf v [] = v
-valueOf v (c ∷ cs) = valueOf (v * 10 + (c - 0x30)) cs
-
--- "`B` decimal byte"
-unfoldable pub byteIn : List ℕ → Line
-byteIn ds = cond (allDigits ds && noLeadingZero ds && leb (valueOf 0 ds) 255) (line.Word (valueOf 0 ds)) line.Bad
+abbrev pub byteIn : List ℕ → Line
+byteIn ds = byteOf (numberIn plain ds)
 
 -- "`X` (256), `Q` (257)"
 unfoldable pub markIn : ℕ → Line

@@ -3,15 +3,13 @@ use Prim.Native.Nat.{ℕ}
 use mathlib.Core.Bool.{Bool, cond}
 use mathlib.Core.List.{List, [], _∷_, _++_}
 use lib.IntN.{pos}
-use Rattle.text.specs.Decimals.{digitsOf, signedOf}
+use Rattle.text.specs.Decimals.{plain, decimalOf}
 use Rattle.listing.specs.Lines.{newline, tab}
 use Rattle.listing.specs.declared.Middle.{Middle}
 use Rattle.listing.specs.declared.Middle.the-variants.{Up, Down, Unknown}
 use Rattle.listing.specs.declared.Buttons.{Buttons}
 use Rattle.listing.specs.declared.Item.{Item}
 use Rattle.listing.specs.declared.Item.the-variants as item
-use Rattle.listing.specs.declared.Given.{Given}
-use Rattle.listing.specs.declared.Given.the-variants as given
 use Rattle.listing.specs.declared.Field.{Field}
 use Rattle.listing.specs.declared.Field.the-variants as field
 
@@ -35,8 +33,8 @@ over = 0x6F ∷ 0x76 ∷ 0x65 ∷ 0x72 ∷ []
 
 -- the bytes of a field
 abbrev pub fieldOf : ℕ → Field → List ℕ
-fieldOf w (field.Line n) = digitsOf w n
-fieldOf w (field.Number x) = signedOf 4 x
+fieldOf w (field.Line n) = decimalOf w (pos n)
+fieldOf w (field.Number x) = decimalOf plain x
 fieldOf w (field.Pressed b) = three b
 fieldOf w field.Over = over
 

@@ -36,10 +36,10 @@ fn buttons(letter: u8, buttons: u8) -> Buttons
 }
 
 // Two movements summed.
-fn sum(a: i16, b: i16) -> i32
+fn sum(a: i16, b: i16) -> i64
     ensures { λ r. ⌜ r ≡ a +ℤ b ⌝ }
 {
-    a as i32 + b as i32
+    a as i64 + b as i64
 }
 
 fn report(letter: u8, n: u32, p: Report) -> Item

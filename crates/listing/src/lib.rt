@@ -9,6 +9,9 @@ mod lines;
 mod printing;
 mod scanning;
 
+// The width of line numbers.
+pub(crate) const WIDTH: usize = 4;
+
 // What a line says.
 pub(crate) enum Line {
     Bad,
@@ -57,7 +60,7 @@ pub struct Buttons {
 // line or `over`.
 pub enum Item {
     D(u32, u16),
-    R(u32, Buttons, i32, i32),
+    R(u32, Buttons, i64, i64),
     H(u16),
     E(u32),
     Over,
@@ -78,7 +81,7 @@ pub(crate) struct Gave {
 // A field of a line: the number of a line, a number, buttons, or `over`.
 pub(crate) enum Field {
     Line(u32),
-    Number(i32),
+    Number(i64),
     Pressed(Buttons),
     Over,
 }

@@ -2,8 +2,9 @@
 ghost use mathlib.Core.Path.{_≡_};
 ghost use mathlib.Core.List.{[], _∷_};
 ghost use lib.ListN.{take};
-ghost use Rattle.listing.specs.Lines.{isDecimal, byteIn, markIn, formatIn, saidBy};
+ghost use Rattle.listing.specs.Lines.{byteOf, byteIn, markIn, formatIn, saidBy};
 use crate::Line;
+use text::Number;
 
 // A line of one byte.
 fn mark(a: u8) -> Line
@@ -26,41 +27,29 @@ fn format(c: u8) -> Line
     Line::Bad
 }
 
-fn is_digit(c: u8) -> bool
-    ensures { λ r. ⌜ r ≡ isDecimal c ⌝ }
+// A number that is a byte.
+fn byte(number: Number) -> Line
+    ensures { λ r. ⌜ r ≡ byteOf number ⌝ }
 {
-    (b'0' <= c) & (c <= b'9')
+    match number {
+        Number::None => Line::Bad,
+        Number::Is(x) => if (x < 0) | (255 < x) {
+            Line::Bad
+        } else {
+            Line::Word(x as u16)
+        },
+    }
 }
 
-// Decimals of one, two and three digits.
-fn one(c: u8) -> Line
-    ensures { λ r. ⌜ r ≡ byteIn (c ∷ []) ⌝ }
+// The byte that the first n of three bytes are the decimal of.
+fn decimal(n: usize, c: u8, d: u8, e: u8) -> Line
+    ensures { λ r. ⌜ r ≡ byteIn (take n (c ∷ d ∷ e ∷ [])) ⌝ }
 {
-    if is_digit(c) {
-        return Line::Word((c - 48) as u16);
+    let digits = [c, d, e];
+    if n < 3 {
+        return byte(Number::read(&digits[..n], 1));
     }
-    Line::Bad
-}
-
-fn two(c: u8, d: u8) -> Line
-    ensures { λ r. ⌜ r ≡ byteIn (c ∷ d ∷ []) ⌝ }
-{
-    if is_digit(c) & is_digit(d) & !(c == b'0') {
-        return Line::Word((c - 48) as u16 * 10 + (d - 48) as u16);
-    }
-    Line::Bad
-}
-
-fn three(c: u8, d: u8, e: u8) -> Line
-    ensures { λ r. ⌜ r ≡ byteIn (c ∷ d ∷ e ∷ []) ⌝ }
-{
-    if is_digit(c) & is_digit(d) & is_digit(e) & !(c == b'0') {
-        let v = ((c - 48) as u16 * 10 + (d - 48) as u16) * 10 + (e - 48) as u16;
-        if v <= 255 {
-            return Line::Word(v);
-        }
-    }
-    Line::Bad
+    byte(Number::read(&digits, 1))
 }
 
 // The line that the first n of five bytes are.
@@ -80,13 +69,7 @@ pub(crate) fn said_by(n: usize, a: u8, b: u8, c: u8, d: u8, e: u8) -> Line
         return Line::Bad;
     }
     if (a == b'B') & (b == b'\t') {
-        if n == 3 {
-            return one(c);
-        }
-        if n == 4 {
-            return two(c, d);
-        }
-        return three(c, d, e);
+        return decimal(n - 2, c, d, e);
     }
     Line::Bad
 }

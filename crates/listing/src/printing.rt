@@ -11,13 +11,11 @@ use crate::Field;
 use crate::Given;
 use crate::Item;
 use crate::Middle;
+use crate::WIDTH;
 use text::Text;
 
-// The width of line numbers.
-const WIDTH: usize = 4;
-
-// The digits of a number before the last.
-const PLACES: usize = 4;
+// The width of other numbers: no leading zeros.
+const PLAIN: usize = 1;
 
 // A letter where a button is down.
 fn pressed(down: bool, letter: u8) -> u8
@@ -58,8 +56,8 @@ fn field(front: Text, field: Field) -> Text
 {
     let behind = front.with(b'\t');
     match field {
-        Field::Line(n) => behind.digits(WIDTH, n),
-        Field::Number(x) => behind.signed(PLACES, x),
+        Field::Line(n) => behind.decimal(WIDTH, n as i64),
+        Field::Number(x) => behind.decimal(PLAIN, x),
         Field::Pressed(buttons) => three(behind, buttons),
         Field::Over => over(behind),
     }
@@ -77,12 +75,12 @@ fn fields(front: Text, item: Item) -> Text
     ensures { λ r. ⌜ r ≡ grownBy front (headOf width (formOf item)) ⌝ }
 {
     match item {
-        Item::D(n, k) => field(letter(front, b'D', Field::Line(n)), Field::Number(k as i32)),
+        Item::D(n, k) => field(letter(front, b'D', Field::Line(n)), Field::Number(k as i64)),
         Item::R(n, buttons, x, y) => {
             let pressed = field(letter(front, b'R', Field::Line(n)), Field::Pressed(buttons));
             field(field(pressed, Field::Number(x)), Field::Number(y))
         }
-        Item::H(k) => letter(front, b'H', Field::Number(k as i32)),
+        Item::H(k) => letter(front, b'H', Field::Number(k as i64)),
         Item::E(n) => letter(front, b'E', Field::Line(n)),
         Item::Over => letter(front, b'E', Field::Over),
     }
@@ -102,5 +100,5 @@ pub(crate) fn printed(front: Text, given: Given) -> Text
 pub(crate) fn opening() -> Text
     ensures { λ r. ⌜ r ≡ textOf (lineOf width (opening width)) ⌝ }
 {
-    letter(Text::none(), b'L', Field::Number(WIDTH as i32)).with(b'\n')
+    letter(Text::none(), b'L', Field::Number(WIDTH as i64)).with(b'\n')
 }

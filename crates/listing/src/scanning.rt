@@ -7,10 +7,16 @@ use crate::Found;
 use crate::Line;
 use crate::Scan;
 use crate::Scanner;
+use crate::WIDTH;
 use crate::lines;
 
 // The most lines: as many as the width of line numbers holds.
-const MOST_LINES: u32 = 9999;
+fn most_lines() -> u32
+    ensures { λ r. ⌜ r ≡ mostLines ⌝ }
+{
+    let tens = [1u32, 10, 100, 1_000, 10_000, 100_000, 1_000_000];
+    tens[WIDTH] - 1
+}
 
 // Whether nothing is found behind it.
 fn ends(found: Found) -> bool
@@ -50,7 +56,7 @@ fn on_line(n: u32, line: Line) -> Found
 fn line_in(n: u32, line: Line) -> Found
     ensures { λ r. ⌜ r ≡ lineIn n line ⌝ }
 {
-    if n >= MOST_LINES {
+    if n >= most_lines() {
         return Found::Over;
     }
     on_line(n, line)
@@ -76,7 +82,7 @@ impl Scanner {
     pub(crate) fn good(self) -> bool
         ensures { λ r. ⌜ r ≡ good self ⌝ }
     {
-        (self.line <= MOST_LINES) & (self.count <= 5)
+        (self.line <= most_lines()) & (self.count <= 5)
     }
 
     // What the unfinished line says.

@@ -33,7 +33,8 @@ same-length c = search needs
 returns-2 : tie.Need-returns-2
 returns-2 c = let a = c .before .before .before .before .before .before .before .before .before .before .before .args in let m = a .self in
     let p = c .before .before .before .before .put in
-    finish-stops m (a .out .now) _ _ (sym (c .before .before .before .before .before .before .before .before .before .good2 .ensures) ∙ not-false _ (c .before .before .before .before .before .before .before .before .if1 .left)) _ (ap (λ (t : Turn). t .text) (c .before .before .before .before .before .before .before .last .ensures)) (few-last m) (p .ensures .1) (sym (p .ensures .0) ∙ not-true _ (c .before .if2 .taken)) (c .answer2 .ensures)
+    let ok = sym (c .before .before .before .before .before .before .before .before .before .good2 .ensures) ∙ not-false _ (c .before .before .before .before .before .before .before .before .if1 .left) in
+    finish-stops m (a .out .now) _ _ ok _ (ap (λ (t : Turn). t .text) (c .before .before .before .before .before .before .before .last .ensures)) (few-last m ok) (p .ensures .1) (sym (p .ensures .0) ∙ not-true _ (c .before .if2 .taken)) (c .answer2 .ensures)
 
 answer-requires-3 : tie.Need-answer-requires-3
 answer-requires-3 c κs = search needs
@@ -45,7 +46,8 @@ returns-3 : tie.Need-returns-3
 returns-3 c = let a = c .before .before .before .before .before .before .before .before .before .before .before .before .args in let m = a .self in
     let p = c .before .before .before .before .before .put in
     let t = c .before .before .before .before .before .before .before .before .last in
-    finish-goes m (a .out .now) _ _ (sym (c .before .before .before .before .before .before .before .before .before .before .good2 .ensures) ∙ not-false _ (c .before .before .before .before .before .before .before .before .before .if1 .left)) _ (ap (λ (t : Turn). t .text) (t .ensures)) (few-last m) (p .ensures .1) (sym (p .ensures .0) ∙ not-false _ (c .before .before .if2 .left))
+    let ok = sym (c .before .before .before .before .before .before .before .before .before .before .good2 .ensures) ∙ not-false _ (c .before .before .before .before .before .before .before .before .before .if1 .left) in
+    finish-goes m (a .out .now) _ _ ok _ (ap (λ (t : Turn). t .text) (t .ensures)) (few-last m ok) (p .ensures .1) (sym (p .ensures .0) ∙ not-false _ (c .before .before .if2 .left))
     (c .answer3 .ensures ∙ ap (λ (n : Lister). answerOf 0 n 0 (t .result .text .len)) (ap (λ (t : Turn). t .next) (t .ensures)))
 
 pub finish-spec : {M : Type 1} → statement M

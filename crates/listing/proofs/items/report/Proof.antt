@@ -4,7 +4,7 @@ use mathlib.Core.Path.{_≡_}
 use mir.Syntax.{w16}
 use mir.Val.{SFits, toZ, ofZ}
 use mir.Facts.{toZ-ofZ}
-use Rattle.numbers.proofs.Held.{sum-fits}
+use Rattle.listing.proofs.Small.{sum-fits}
 use Rattle.listing.proofs.items.report.Statement.{statement}
 use Rattle.listing.proofs.items.report.Tie as tie
 

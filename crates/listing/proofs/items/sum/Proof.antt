@@ -1,16 +1,11 @@
--- The sum of two 16-bit numbers fits 32 bits.
-use native.Mathlib.Omega.{arith}
+-- The sum of two 16-bit numbers fits.
 use mathlib.Core.Path.{_≡_}
-use lib.IntN.{ℤ}
-use mir.Syntax.{w16, w32}
-use mir.Val.{SFits, toZ, ofZ}
+use mir.Syntax.{w16}
+use mir.Val.{toZ, ofZ}
 use mir.Facts.{toZ-ofZ}
-use Rattle.numbers.proofs.Held.{sum-fits}
+use Rattle.listing.proofs.Small.{wider, sum-fits}
 use Rattle.listing.proofs.items.sum.Statement.{statement}
 use Rattle.listing.proofs.items.sum.Tie as tie
-
-wider : {z : ℤ} → SFits w16 z → SFits w32 z
-wider h = record { sfits = omega (arith, h .sfits) }
 
 a-is : (c : tie.Start) → toZ w16 (ofZ w16 (c .args .a)) ≡ c .args .a
 a-is c = toZ-ofZ (c .fits .a)

@@ -1,18 +1,21 @@
 -- A field behind a tab, by its case.
 use borrow.Author.Needs.{needs}
+use native.Mathlib.Omega.{arith}
 use mathlib.Core.Path.{_≡_, _∙_}
-use mir.Syntax.{w32}
+use mir.Syntax.{w64}
 use mir.Val.{toZ, ofZ}
+use mir.Facts.{toZ-pos}
 use Rattle.listing.proofs.printing.field.Statement.{statement}
 use Rattle.listing.proofs.printing.field.Tie as tie
 
 returns : tie.Need-returns
-returns c = c .digits .ensures ∙ rw (c .before .before .before .before .with .ensures, c .before .before .field .given .1)
+returns c = let n = c .before .before .field .given .0 .0 in
+    c .decimal .ensures ∙ rw (c .before .before .before .before .with .ensures, c .before .before .field .given .1, toZ-pos w64 {n = n} (omega arith))
 
 returns-2 : tie.Need-returns-2
 returns-2 c = let x = c .before .before .field2 .given .0 .0 in
-    let same : toZ w32 (ofZ w32 x) ≡ x = search needs in
-    c .signed .ensures ∙ rw (c .before .before .before .before .with .ensures, c .before .before .field2 .given .1, same)
+    let same : toZ w64 (ofZ w64 x) ≡ x = search needs in
+    c .decimal2 .ensures ∙ rw (c .before .before .before .before .with .ensures, c .before .before .field2 .given .1, same)
 
 returns-3 : tie.Need-returns-3
 returns-3 c = c .three .ensures ∙ rw (c .before .before .before .before .with .ensures, c .before .before .field3 .given .1)
@@ -25,6 +28,7 @@ field-spec =
     tie.close
     (tie.spec
     (λ c κs. search needs)
+    (λ c. search needs)
     (λ c. search needs)
     (λ c κs. search needs)
     (λ c. search needs)

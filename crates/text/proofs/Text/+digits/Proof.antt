@@ -1,7 +1,7 @@
 -- `digits`: by the places left.
 use borrow.Author.Needs.{needs}
 use native.Mathlib.Omega.{arith}
-use Rattle.text.proofs.Laws.{no-digits, one-digit}
+use Rattle.text.proofs.Digits.{no-digits, one-digit}
 use Prim.Native.Nat.{ℕ, _<_}
 use borrow.Fn.Kinds.{In}
 use borrow.Fn.PlainCycle.{Measures, is, falls, and}
@@ -9,7 +9,7 @@ use Rattle.text.proofs.Text.digits.Reads as digits
 use Rattle.text.proofs.Text.digits.Kinds as digits-kinds
 use Rattle.text.proofs.Text.+digits.Lts-digits as digits-lts
 use Rattle.text.proofs.Text.with.Reads as with-reads
-use Rattle.text.proofs.digit.Reads as digit-reads
+use Rattle.text.proofs.decimals.digit.Reads as digit-reads
 use Rattle.text.proofs.Text.+digits.{statement}
 use Rattle.text.proofs.Text.+digits.Tie.{close}
 

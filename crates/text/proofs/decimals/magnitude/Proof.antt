@@ -5,15 +5,15 @@ use Prim.Native.Nat.{_-_}
 use native.Mathlib.Omega.{arith}
 use lib.IntN.{ℤ, pos, negsuc, _-ℤ_, natAbs}
 use lib.Signed.{ltZ}
-use mir.Syntax.{w32}
+use mir.Syntax.{w64}
 use mir.Val.{SFits, toZ, ofZ}
 use mir.Facts.{toZ-ofZ}
-use Rattle.text.proofs.Laws.{up, down, small, some, few}
-use Rattle.text.proofs.magnitude.Statement.{statement}
-use Rattle.text.proofs.magnitude.Tie as tie
+use Rattle.text.proofs.Digits.{up, down, small, some, few}
+use Rattle.text.proofs.decimals.magnitude.Statement.{statement}
+use Rattle.text.proofs.decimals.magnitude.Tie as tie
 
 -- x, and what is made of it below zero
-same : (c : tie.Start) → toZ w32 (ofZ w32 (c .args .x)) ≡ c .args .x
+same : (c : tie.Start) → toZ w64 (ofZ w64 (c .args .x)) ≡ c .args .x
 same c = toZ-ofZ (c .fits .x)
 
 below : (c : tie.Then1) → ltZ (c .before .args .x) (pos 0) ≡ true
@@ -22,14 +22,14 @@ below c = rw (same (c .before)) at (c .if1 .taken)
 above : (c : tie.Else1) → ltZ (c .before .args .x) (pos 0) ≡ false
 above c = rw (same (c .before)) at (c .if1 .left)
 
-is : (c : tie.Then1) → negsuc 0 -ℤ toZ w32 (ofZ w32 (c .before .args .x)) ≡ pos (natAbs (c .before .args .x) - 1)
+is : (c : tie.Then1) → negsuc 0 -ℤ toZ w64 (ofZ w64 (c .before .args .x)) ≡ pos (natAbs (c .before .args .x) - 1)
 is c = rw (same (c .before)) (down (c .before .args .x) (below c))
 
-small-fits : (c : tie.Then1) → SFits w32 (pos (natAbs (c .before .args .x) - 1))
+small-fits : (c : tie.Then1) → SFits w64 (pos (natAbs (c .before .args .x) - 1))
 small-fits c = record { sfits = omega (arith, small (c .before .args .x) (c .before .fits .x)) }
 
-kept : (c : tie.Then1) → toZ w32 (ofZ w32 (negsuc 0 -ℤ toZ w32 (ofZ w32 (c .before .args .x)))) ≡ pos (natAbs (c .before .args .x) - 1)
-kept c = ap (λ (z : ℤ). toZ w32 (ofZ w32 z)) (is c) ∙ toZ-ofZ (small-fits c)
+kept : (c : tie.Then1) → toZ w64 (ofZ w64 (negsuc 0 -ℤ toZ w64 (ofZ w64 (c .before .args .x)))) ≡ pos (natAbs (c .before .args .x) - 1)
+kept c = ap (λ (z : ℤ). toZ w64 (ofZ w64 z)) (is c) ∙ toZ-ofZ (small-fits c)
 
 sub-result : tie.Need-sub-result
 sub-result c = rw (is c) (small-fits c)

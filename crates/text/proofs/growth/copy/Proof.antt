@@ -6,8 +6,8 @@ use native.Mathlib.Numerals.{add-one}
 use native.Mathlib.Omega.{arith}
 use lib.ListN.{length, getD, length-set}
 use lib.Seq.{paste, paste-zero, paste-suc}
-use Rattle.text.proofs.copy.Statement.{statement}
-use Rattle.text.proofs.copy.Tie as tie
+use Rattle.text.proofs.growth.copy.Statement.{statement}
+use Rattle.text.proofs.growth.copy.Tie as tie
 
 abbrev Inv-loop : tie.InvT-loop
 Inv-loop out₀ at n bytes i₀ out i = (i ≤ n) × (out ≡ paste out₀ at bytes i) × (length out ≡ length out₀)
