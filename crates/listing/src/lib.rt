@@ -28,7 +28,7 @@ pub struct Scanner {
 }
 
 // What is found in a recording: its format; the number of a line and its word; the number of a bad line; a line too many; and its end.
-pub enum Found {
+pub(crate) enum Found {
     Nothing,
     Format(u8),
     Word(u32, u16),
@@ -44,13 +44,13 @@ pub(crate) struct Scan {
 }
 
 // The middle button, which is not known in V.
-pub enum Middle {
+pub(crate) enum Middle {
     Up,
     Down,
     Unknown,
 }
 
-pub struct Buttons {
+pub(crate) struct Buttons {
     pub left: bool,
     pub middle: Middle,
     pub right: bool,
@@ -58,7 +58,7 @@ pub struct Buttons {
 
 // What a line of the listing shows, by its letter: D, a line and the bytes dropped; R, a line, the buttons, x and y; H, the bytes kept; E, a bad
 // line or `over`.
-pub enum Item {
+pub(crate) enum Item {
     D(u32, u16),
     R(u32, Buttons, i64, i64),
     H(u16),
@@ -67,7 +67,7 @@ pub enum Item {
 }
 
 // What is given: nothing, or an item.
-pub enum Given {
+pub(crate) enum Given {
     Nothing,
     One(Item),
 }

@@ -12,24 +12,6 @@ use Rattle.listing.proofs.Scanner.says.Tie as tie
 five : (c : tie.Start) → length (c .args .self .held) ≡ 5
 five c = search needs
 
-array-read-said-by : tie.Need-array-read-said-by
-array-read-said-by c = search needs
-
-array-read-said-by-2 : tie.Need-array-read-said-by-2
-array-read-said-by-2 c = search needs
-
-array-read-said-by-3 : tie.Need-array-read-said-by-3
-array-read-said-by-3 c = search needs
-
-array-read-said-by-4 : tie.Need-array-read-said-by-4
-array-read-said-by-4 c = search needs
-
-array-read-said-by-5 : tie.Need-array-read-said-by-5
-array-read-said-by-5 c = search needs
-
-said-by-requires : tie.Need-said-by-requires
-said-by-requires c κs = search needs
-
 returns : tie.Need-returns
 returns c = c .said-by .ensures ∙ ap (λ (l : List ℕ). saidBy (take (c .before .before .args .self .count) l)) (five-is (c .before .before .args .self .held) (five (c .before .before)))
 
@@ -37,10 +19,10 @@ pub says-spec : {M : Type 1} → statement M
 says-spec =
     tie.close
     (tie.spec
-    array-read-said-by
-    array-read-said-by-2
-    array-read-said-by-3
-    array-read-said-by-4
-    array-read-said-by-5
-    said-by-requires
+    (λ c. search needs)
+    (λ c. search needs)
+    (λ c. search needs)
+    (λ c. search needs)
+    (λ c. search needs)
+    (λ c κs. search needs)
     returns)

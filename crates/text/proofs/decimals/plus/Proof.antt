@@ -43,9 +43,6 @@ high : (c : tie.Else2 Inv-loop μ-loop) → getD (c .before .before .before .bef
 high c = let x = getD (c .before .before .before .before .before .before .before .args .bytes .now) (c .before .before .before .before .before .loop .i) 0 in
     leb-true x 57 (right (leb 48 x) (leb x 57) (is c))
 
-mul-v : tie.Need-mul-v Inv-loop μ-loop
-mul-v c = search needs
-
 sub-v : tie.Need-sub-v Inv-loop μ-loop
 sub-v c = low c
 
@@ -82,7 +79,7 @@ plus-spec =
     (λ c κs. search needs)
     returns
     returns-2
-    mul-v
+    (λ c. search needs)
     sub-v
     cast-v
     add-v
