@@ -1,0 +1,3 @@
+-- Laws of a machine over a line.
+pub mod Laws
+pub mod Parts
