@@ -3,7 +3,7 @@ use Prim.Native.Nat.{ℕ, _+_, _-_, _*_, _<_, _≤_}
 use mathlib.Core.Path.{_≡_, refl, sym, _∙_, ap}
 use mathlib.Core.Bool.{Bool, true, false, _&&_}
 use mathlib.Core.Logic.{_⊎_, inl, inr, ⊎-elim}
-use mathlib.Core.List.{List, [], _∷_, _++_, append-assoc}
+use mathlib.Core.List.{List, [], _∷_, _++_, append-assoc, append-nil}
 use native.Mathlib.Numerals.{one-add}
 use native.Mathlib.Omega.{arith}
 use lib.ListN.{length, getD, take, drop, length-append}
@@ -81,12 +81,26 @@ module _ {S A X : Type 0} (m : Machine S A X) where
       by-words (λ s p room f. length (f .answers) < length p → run m s (p ++ q) room ≡ f) (λ s room h. absurd (omega arith)) (λ s w p room x h. x .is (p ++ q))
       (λ s w p room f t ih h. t .is (p ++ q) ∙ ap (behind (m .answer s w ∷ [])) (ih (omega arith)))
 
+  -- a word that is refused behind p: what p gave, but for the number
+  pub refused-behind : (q : List ℕ) (w : ℕ) (p : List ℕ) (s : S) (room : ℕ) → let f = run m s p room in length (f .answers) ≡ length p → (m .refusal (f .next) w ≡ 0 → ⊥)
+      → run m s (p ++ w ∷ q) room ≡ ran (m .refusal (f .next) w) (f .next) (f .answers)
+  refused-behind q w p s room h n =
+      let f = run m s p room in
+      join (w ∷ q) p s room h ∙ rw (stops (f .next) w (room - length (written m (f .answers))) (λ z. absurd (n z)) .is q, append-nil)
+
   -- no more words are taken than there are, and no more is written than has room
   pub within : (words : List ℕ) (s : S) (room : ℕ) → (length (run m s words room .answers) ≤ length words) × (length (written m (run m s words room .answers)) ≤ room)
   within =
       by-words (λ s words room f. (length (f .answers) ≤ length words) × (length (written m (f .answers)) ≤ room)) (λ s room. (omega arith, omega arith))
       (λ s w words room x. (omega arith, omega arith))
       (λ s w words room f t ih. (omega (arith, ih .0), omega (arith, ih .1, t .fits, length-append (m .writes (m .answer s w)) (written m (f .answers)))))
+
+  -- the words taken give what all give, but for the number
+  pub up-to : (words : List ℕ) (s : S) (room : ℕ) → let f = run m s words room in run m s (take (length (f .answers)) words) room ≡ ran 0 (f .next) (f .answers)
+  unfolding run
+  up-to =
+      by-words (λ s words room f. run m s (take (length (f .answers)) words) room ≡ ran 0 (f .next) (f .answers)) (λ s room. refl) (λ s w words room x. refl)
+      (λ s w words room f t ih. t .is (take (length (f .answers)) words) ∙ ap (behind (m .answer s w ∷ [])) ih)
 
   -- where no word is taken the state is the old one
   pub none-taken : (words : List ℕ) (s : S) (room : ℕ) → length (run m s words room .answers) ≡ 0 → run m s words room ≡ ran (run m s words room .refusal) s []

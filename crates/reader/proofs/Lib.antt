@@ -8,7 +8,7 @@ pub mod Entered
 pub mod Word
 pub mod Keeps
 pub mod Turn
-pub mod View
+pub mod Counted
 pub mod Loop
 pub mod Bounds
 pub mod Permitted

@@ -1,133 +1,141 @@
--- A turn of the long read's loop.
-use mathlib.Core.Path.{_≡_, sym, _∙_, ap}
-use mathlib.Core.Logic.{_⊎_, inl, inr}
-use mathlib.Core.List.{List, [], _∷_, _++_, append-assoc, append-nil}
+-- Where the long read's loop stands, and a turn of it.
+use mathlib.Core.Path.{_≡_, refl, sym, _∙_, ap}
+use mathlib.Core.Bool.{Bool}
+use mathlib.Core.List.{List, [], _∷_, _++_}
 use Prim.Native.Nat.{ℕ, _+_, _-_, _*_, _<_, _≤_}
-use native.Mathlib.Nat.{add-zero}
 use native.Mathlib.Numerals.{add-one}
 use native.Mathlib.Omega.{arith}
 use lib.ListN.{length, getD, take, drop, length-append, length-drop, take-append-drop, drop-of-length-le}
-use lib.Seq.{take-all, drop-cons, take-at, drop-at, length-take-le}
+use lib.Seq.{drop-cons}
 use lib.IntN.{ℤ}
 use borrow.Rule.Slice.PartMut.{putMid}
-use Rattle.frames.specs.Words.{isByte}
-use Rattle.wire.specs.Line.{sizeBy}
-use Rattle.reader.specs.Rules.{wordOf}
-use Rattle.reader.specs.Counts.{byteIn}
-use Rattle.reader.specs.Line.{Long, whole, stopped, joined, lineOf}
+use Rattle.fold.specs.Fold.{Ran, ran, filled, written, run}
+use Rattle.fold.specs.Parts.{Part}
+use Rattle.fold.proofs.Laws as fold
+use Rattle.fold.proofs.Parts.{rest-is, back, none, of-run, joins, part-within, part-room, part-long, part-left, part-ends}
+use Rattle.wire.specs.Line.{sizeBy, markedBy}
+use Rattle.reader.specs.Counts.{handedOut, droppedAmong}
+use Rattle.reader.specs.Line.{Long, whole, reads, counted, lineOf}
 use Rattle.reader.specs.declared.Reader.{Reader}
 use Rattle.reader.specs.declared.Reading.{Reading}
-use Rattle.reader.proofs.View.{Stops, Takes, view, joined-joined}
+use Rattle.reader.specs.declared.Answer.{Answer}
 use Rattle.reader.proofs.Word.{word-format, word-below}
-use Rattle.numbers.proofs.Choices.{cases}
+use Rattle.reader.proofs.Counted.{five-each, reports-both, dropped-both}
+use Rattle.reader.proofs.Bounds.{line-within}
 
--- where the loop stands: what is done, and what is left
-abbrev pub standing : List ℕ → List ℤ → Reader → ℕ → ℕ → ℕ → ℕ → Long
-standing words out r at used reports dropped = joined at reports dropped (take used out) (lineOf r (drop at words) (drop used out))
+-- a part of the line is read: the answers to its words, counted, the reader behind them, and the slice
+pub record Stands (r : Reader) (words : List ℕ) (before : List ℤ) (next : Reader) (taken used reports dropped : ℕ) (after : List ℤ) : Type 0 where
+  pub answers : List Answer
+  pub part : Part reads r words before answers next after
+  pub words-are : taken ≡ length answers
+  pub places-are : used ≡ length (written reads answers)
+  pub reports-are : reports ≡ length (handedOut answers)
+  pub dropped-are : dropped ≡ droppedAmong answers
 
-pub one-byte : (w : ℕ) → byteIn w ≤ 1
-one-byte w = cases (λ n. n ≤ 1) (isByte w) (λ _. omega arith) (λ _. omega arith)
+pub starts : (r : Reader) (words : List ℕ) (out : List ℤ) → Stands r words out r 0 0 0 0 out
+unfolding droppedAmong
+starts r words out = record { answers = []; part = none reads r words out; words-are = refl; places-are = refl; reports-are = refl; dropped-are = refl }
 
--- what a turn that took its word did
-pub record Turned (r : Reader) (w : ℕ) (o : List ℤ) (t : Reading) (last : List ℤ) : Type 0 where
-  pub front : List ℤ
-  pub sized : length front ≡ 5 * t .reports
-  pub room : 5 * t .reports ≤ length o
-  pub few : t .dropped + t .next .count ≤ 1 + r .count
-  pub format : t .next .format ≡ r .format
-  pub below : r .count < sizeBy (r .format) → t .next .count < sizeBy (r .format)
-  pub wrote : last ≡ front ++ drop (5 * t .reports) o
-  pub is : (ws : List ℕ) → lineOf r (w ∷ ws) o ≡ joined 1 (t .reports) (t .dropped) front (lineOf (t .next) ws (drop (5 * t .reports) o))
+-- how far it has come
+pub record Far (r : Reader) (words : List ℕ) (before : List ℤ) (taken used reports dropped : ℕ) (after : List ℤ) : Type 0 where
+  pub within : taken ≤ length words
+  pub places : used ≡ 5 * reports
+  pub room : used ≤ length before
+  pub long : length after ≡ length before
+  pub few : dropped ≤ length words + r .count
 
-module _ (r : Reader) (w : ℕ) (o : List ℤ) where
-  stops : (t : Reading) (last : List ℤ) → whole t last ≡ lineOf r (w ∷ []) o → t .taken ≡ 0 → ((ws : List ℕ) → lineOf r (w ∷ ws) o ≡ stopped (t .refusal) r o) × (last ≡ o)
-  stops t last e z = go (view r w o)
-    where
-      go : Stops r w o ⊎ Takes r w o → ((ws : List ℕ) → lineOf r (w ∷ ws) o ≡ stopped (t .refusal) r o) × (last ≡ o)
-      go (inl s) = let is = e ∙ s .is [] in (λ ws. s .is ws ∙ ap (λ (l : Long). stopped (l .reading .refusal) r o) (sym is), ap (λ (l : Long). l .out) is)
-      go (inr x) = absurd (omega (arith, ap (λ (l : Long). l .reading .taken) (e ∙ x .is [])))
+-- what a reader keeps over a line: fewer bytes than its format has, and the format
+pub record Sized (size : ℕ) (marked : Bool) (r : Reader) : Type 0 where
+  pub below : r .count < size
+  pub sized : size ≡ sizeBy (r .format)
+  pub mark : marked ≡ markedBy (r .format)
 
-  pub turned : (t : Reading) (last : List ℤ) → whole t last ≡ lineOf r (w ∷ []) o → (t .taken ≡ 0 → ⊥) → Turned r w o t last
+stays-sized : (size : ℕ) (marked : Bool) (r : Reader) (w : ℕ) → Sized size marked r → Sized size marked (reads .next r w)
+stays-sized size marked r w s =
+    record { below = rw (s .sized) (word-below r w (rw (s .sized) at (s .below))); sized = rw (word-format r w) (s .sized); mark = rw (word-format r w) (s .mark) }
+
+module _ {words : List ℕ} {out₀ out : List ℤ} {r₀ r : Reader} {at used reports dropped : ℕ} (s : Stands r₀ words out₀ r at used reports dropped out) where
+  pub far : Far r₀ words out₀ at used reports dropped out
   unfolding lineOf
-  turned t last e z = go (view r w o)
-    where
-      go : Stops r w o ⊎ Takes r w o → Turned r w o t last
-      go (inl s) = absurd (z (ap (λ (l : Long). l .reading .taken) (e ∙ s .is [])))
-      go (inr x) =
-          let f = e ∙ x .is [] in
-          let n : t .reports ≡ x .n = ap (λ (l : Long). l .reading .reports) f ∙ add-zero _ in
-          let d : t .dropped ≡ x .d = ap (λ (l : Long). l .reading .dropped) f ∙ add-zero _ in
-          let m : t .next ≡ wordOf r w .next = ap (λ (l : Long). l .reading .next) f in
-          record {
-            front = x .front;
-            sized = rw n (x .sized);
-            room = rw n (x .room);
-            few = rw (d, m) (omega (arith, x .kept, one-byte w));
-            format = rw m (word-format r w);
-            below = λ h. rw m (word-below r w h);
-            wrote = rw n (ap (λ (l : Long). l .out) f);
-            is = rw (n, d, m) (x .is);
-          }
+  far =
+      let later = run reads r (drop (length (s .answers)) words) (length out₀ - length (written reads (s .answers))) .answers in
+      let b = rw (s .part .is) at (line-within words r₀ out₀) in
+      record {
+        within = omega (arith, part-within reads (s .part), s .words-are);
+        places = omega (arith, five-each (s .answers), s .places-are, s .reports-are);
+        room = omega (arith, part-room reads (s .part), s .places-are);
+        long = part-long reads (s .part);
+        few = omega (arith, b .few, b .some, dropped-both (s .answers) later, s .dropped-are);
+      }
 
--- a list from a place on, as the code lends it
-module _ {A : Type 0} where
-  pub rest-is : (l : List A) (a : ℕ) → take (length l - a) (drop a l) ≡ drop a l
-  rest-is l a = take-all (length l - a) (drop a l) (simp length-drop (omega arith))
+  -- a part of the rest is read, and so told; then it stands behind that
+  more : (t : Reading) (last : List ℤ) (f : Ran Reader Answer) → whole t last ≡ counted f (drop used out)
+      → Part reads r (drop at words) (drop used out) (f .answers) (f .next) (filled (written reads (f .answers)) (drop used out))
+      → Stands r₀ words out₀ (t .next) (at + t .taken) (used + 5 * t .reports) (reports + t .reports) (dropped + t .dropped) (take used out ++ last)
+  more t last f e p =
+      let l = s .answers in
+      let k = f .answers in
+      let reports-is = ap (λ (x : Long). x .reading .reports) e in
+      record {
+        answers = l ++ k;
+        part = rw (ap (λ (x : Long). x .out) e, ap (λ (x : Long). x .reading .next) e, s .places-are) (joins reads (s .part) (rw (s .words-are, s .places-are) at p));
+        words-are = omega (arith, s .words-are, length-append l k, ap (λ (x : Long). x .reading .taken) e);
+        places-are = rw (fold.written-append reads l k) (omega (arith, s .places-are, length-append (written reads l) (written reads k), five-each k, reports-is));
+        reports-are = omega (arith, s .reports-are, reports-both l k, reports-is);
+        dropped-are = omega (arith, s .dropped-are, dropped-both l k, ap (λ (x : Long). x .reading .dropped) e);
+      }
 
-  none-after : (l : List A) (a : ℕ) → drop (length l - a) (drop a l) ≡ []
-  none-after l a = drop-of-length-le (drop a l) {i = length l - a} (simp length-drop (omega arith))
+  -- the read ends here
+  ends : (n : ℕ) → run reads r (drop at words) (length (drop used out)) ≡ ran n r []
+      → whole (record { refusal = n; next = r; taken = at; reports = reports; dropped = dropped }) out ≡ lineOf r₀ words out₀
+  unfolding lineOf
+  ends n e =
+      let is = part-ends reads (s .part) n (rw (s .words-are, s .places-are, part-left reads (s .part), length-drop) at e) in
+      rw (is, s .words-are, s .reports-are, s .dropped-are, s .part .wrote)
 
-  -- the list, when the part from a place on is back
-  pub back : (l last : List A) (a : ℕ) → putMid a (length l - a) l last ≡ take a l ++ last
-  back l last a = rw (none-after l a, append-nil last)
+  pub ends-all : length words ≤ at → whole (record { refusal = 0; next = r; taken = at; reports = reports; dropped = dropped }) out ≡ lineOf r₀ words out₀
+  unfolding run
+  ends-all h = ends 0 (rw (drop-of-length-le words h))
 
-  take-two : (a b c : List A) (n m : ℕ) → length a ≡ n → length b ≡ m → take (n + m) (a ++ (b ++ c)) ≡ a ++ b
-  take-two a b c n m p q = rw (← append-assoc) (take-at (a ++ b) c (n + m) (length-append a b ∙ cc))
+  module _ (left : at < length words) where
+    words-is : drop at words ≡ getD words at 0 ∷ drop (at + 1) words
+    words-is = rw add-one (drop-cons words at 0 left)
 
-  drop-two : (a b c : List A) (n m : ℕ) → length a ≡ n → length b ≡ m → drop (n + m) (a ++ (b ++ c)) ≡ c
-  drop-two a b c n m p q = rw (← append-assoc) (drop-at (a ++ b) c (n + m) (length-append a b ∙ cc))
+    pub some : 0 < length (take (length words - at) (drop at words))
+    some = rw (rest-is words at, words-is) (omega arith)
 
--- the read ends here
-pub ends : (words : List ℕ) (out : List ℤ) (r : Reader) (at used reports dropped n : ℕ) → lineOf r (drop at words) (drop used out) ≡ stopped n r (drop used out)
-    → whole (record { refusal = n; next = r; taken = at; reports = reports; dropped = dropped }) out ≡ standing words out r at used reports dropped
-ends words out r at used reports dropped n e = rw (e, add-zero at, add-zero reports, add-zero dropped, take-append-drop)
+    -- what the callee says of the first word that is left and of the places that are left
+    module _ (t : Reading) (last : List ℤ) (e : whole t last ≡ lineOf r (take 1 (take (length words - at) (drop at words))) (take (length out - used) (drop used out))) where
+      abbrev f : Ran Reader Answer
+      f = run reads r (getD words at 0 ∷ []) (length (drop used out))
 
-pub ends-all : (words : List ℕ) (out : List ℤ) (r : Reader) (at used reports dropped : ℕ) → length words ≤ at
-    → whole (record { refusal = 0; next = r; taken = at; reports = reports; dropped = dropped }) out ≡ standing words out r at used reports dropped
-unfolding lineOf
-ends-all words out r at used reports dropped h =
-    ends words out r at used reports dropped 0 (ap (λ (l : List ℕ). lineOf r l (drop used out)) (drop-of-length-le words h))
+      said : whole t last ≡ counted f (drop used out)
+      unfolding lineOf
+      said = rw (rest-is words at, rest-is out used, words-is) at e
 
--- the loop's turn
-module _ (words : List ℕ) (out : List ℤ) (r : Reader) (at used reports dropped : ℕ) (left : at < length words) (room : used ≤ length out) where
-  words-is : drop at words ≡ getD words at 0 ∷ drop (at + 1) words
-  words-is = rw add-one (drop-cons words at 0 left)
+      taken-is : t .taken ≡ length (f .answers)
+      taken-is = ap (λ (l : Long). l .reading .taken) said
 
-  pub some : 0 < length (take (length words - at) (drop at words))
-  some = rw (rest-is words at, words-is) (omega arith)
+      -- it took no word, and the read ends; the slice is as it was
+      module _ (z : t .taken ≡ 0) where
+        none-is : f ≡ ran (f .refusal) r []
+        none-is = fold.none-taken reads (getD words at 0 ∷ []) r (length (drop used out)) (sym taken-is ∙ z)
 
-  -- what the callee says of the parts, said of the first word that is left and of the places that are left
-  pub said : (l : Long) → l ≡ lineOf r (take 1 (take (length words - at) (drop at words))) (take (length out - used) (drop used out)) → l ≡ lineOf r (getD words at 0 ∷ []) (drop used out)
-  said l e = rw (rest-is words at, rest-is out used, words-is) at e
+        pub unchanged : putMid used (length out - used) out last ≡ out
+        unchanged = rw (back out last used, ap (λ (l : Long). l .out) said, none-is) (take-append-drop used out)
 
-  pub again : (t : Reading) (last : List ℤ) → Turned r (getD words at 0) (drop used out) t last
-      → standing words (putMid used (length out - used) out last) (t .next) (at + 1) (used + 5 * t .reports) (reports + t .reports) (dropped + t .dropped) ≡ standing words out r at used reports dropped
-  again t last x =
-      let n = length-take-le used out room in
-      let rest = drop (5 * t .reports) (drop used out) in
-      let new : putMid used (length out - used) out last ≡ take used out ++ (x .front ++ rest) = back out last used ∙ ap (λ (l : List ℤ). take used out ++ l) (x .wrote) in
-      rw (new, take-two (take used out) (x .front) rest used (5 * t .reports) n (x .sized), drop-two (take used out) (x .front) rest used (5 * t .reports) n (x .sized))
-      (sym (joined-joined at reports dropped 1 (t .reports) (t .dropped) (take used out) (x .front) _)
-      ∙ ap (joined at reports dropped (take used out)) (sym (x .is (drop (at + 1) words)) ∙ ap (λ (l : List ℕ). lineOf r l (drop used out)) (sym words-is)))
+        pub ends-before : whole (record { refusal = t .refusal; next = r; taken = at; reports = reports; dropped = dropped }) out ≡ lineOf r₀ words out₀
+        ends-before =
+            let short : length (f .answers) < 1 = omega (arith, taken-is) in
+            ends (t .refusal) (rw (words-is, ap (λ (l : Long). l .reading .refusal) said) (fold.not-reached reads (drop (at + 1) words) (getD words at 0 ∷ []) r (length (drop used out)) short ∙ none-is))
 
-  pub same : (t : Reading) (last : List ℤ) → Turned r (getD words at 0) (drop used out) t last → length (putMid used (length out - used) out last) ≡ length out
-  same t last x =
-      rw (back out last used, x .wrote)
-      (simp length-append (omega (arith, length-take-le used out room, x .sized, x .room, length-drop (5 * t .reports) (drop used out), length-drop used out)))
+      -- or it took one
+      pub again : (t .taken ≡ 0 → ⊥) → Stands r₀ words out₀ (t .next) (at + 1) (used + 5 * t .reports) (reports + t .reports) (dropped + t .dropped) (putMid used (length out - used) out last)
+      again z =
+          let one : length (f .answers) ≡ 1 = omega (arith, taken-is, fold.within reads (getD words at 0 ∷ []) r (length (drop used out)) .0, z) in
+          let p = rw (← words-is) at (of-run reads (getD words at 0 ∷ []) (drop (at + 1) words) r (drop used out) one) in
+          rw (back out last used) (rw (taken-is ∙ one) at (more t last f said p))
 
-  pub ends-before : (t : Reading) (last : List ℤ) → whole t last ≡ lineOf r (getD words at 0 ∷ []) (drop used out) → t .taken ≡ 0
-      → whole (record { refusal = t .refusal; next = r; taken = at; reports = reports; dropped = dropped }) out ≡ standing words out r at used reports dropped
-  ends-before t last e z = ends words out r at used reports dropped (t .refusal) (ap (λ (l : List ℕ). lineOf r l (drop used out)) words-is ∙ stops r (getD words at 0) (drop used out) t last e z .0 (drop (at + 1) words))
-
-  pub unchanged : (t : Reading) (last : List ℤ) → whole t last ≡ lineOf r (getD words at 0 ∷ []) (drop used out) → t .taken ≡ 0 → putMid used (length out - used) out last ≡ out
-  unchanged t last e z = rw (back out last used, stops r (getD words at 0) (drop used out) t last e z .1) (take-append-drop used out)
+      pub still : (size : ℕ) (marked : Bool) → Sized size marked r → Sized size marked (t .next)
+      still size marked h =
+          rw (ap (λ (l : Long). l .reading .next) said) (fold.stays reads (Sized size marked) (stays-sized size marked) (getD words at 0 ∷ []) r (length (drop used out)) h)

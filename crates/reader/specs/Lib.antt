@@ -4,8 +4,8 @@
 pub mod State
 pub mod Good
 pub mod Rules
-pub mod Line
 pub mod Counts
+pub mod Line
 pub mod Promises
 pub mod Runs
 pub mod EighthBit
