@@ -8,7 +8,7 @@ use lib.Seq.{take-all, drop-drop, take-append-seam, drop-append-seam, drop-at}
 use borrow.Rule.Slice.PartMut.{putMid}
 use Rattle.fold.specs.Fold.{Machine, Ran, ran, behind, filled, written, run}
 use Rattle.fold.specs.Parts.{Part}
-use Rattle.fold.proofs.Laws.{written-append, join, within}
+use Rattle.fold.proofs.Laws.{Takes, written-append, within}
 
 -- a list from a place on, as the code lends it; and the list, when that part is back
 module _ {X : Type 0} where
@@ -22,15 +22,13 @@ module _ {X : Type 0} where
   back l last a = rw (none-after l a, append-nil last)
 
 module _ {S A X : Type 0} (m : Machine S A X) where
-  -- nothing is taken yet; and words that a run took, whatever follows them
+  -- nothing is taken yet; and one word
   pub none : (s : S) (words : List ℕ) (out : List X) → Part m s words out [] s out
   none s words out = let z : length out - 0 ≡ length out = omega arith in record { wrote = refl; is = rw z }
 
-  pub of-run : (p q : List ℕ) (s : S) (out : List X) → let f = run m s p (length out) in length (f .answers) ≡ length p
-      → Part m s (p ++ q) out (f .answers) (f .next) (filled (written m (f .answers)) out)
-  of-run p q s out h =
-      let f = run m s p (length out) in
-      record { wrote = refl; is = rw (drop-at p q (length (f .answers)) (sym h)) (join m q p s (length out) h) }
+  pub one : (s : S) (w : ℕ) (words : List ℕ) (out : List X) → Takes m s w (length out)
+      → Part m s (w ∷ words) out (m .answer s w ∷ []) (m .next s w) (filled (written m (m .answer s w ∷ [])) out)
+  one s w words out t = record { wrote = refl; is = rw append-nil (t .is words) }
 
   module _ {s t : S} {words : List ℕ} {before mid : List X} {l : List A} (p : Part m s words before l t mid) where
     abbrev n : ℕ

@@ -28,7 +28,7 @@ use Rattle.numbers.proofs.Choices.{neither}
 use Rattle.numbers.proofs.Tested.{holds}
 use Rattle.reader.proofs.Word.{dropping-reports, by-word, word-format}
 use Rattle.reader.proofs.Keeps.{word-good}
-use Rattle.reader.proofs.Counted.{reports-first, five-each}
+use Rattle.reader.proofs.Counted.{empty, reports-first, five-each}
 use Rattle.reader.proofs.Permitted.{steps-are}
 use Rattle.reader.proofs.Goodness.{step-word, read-line, fresh-is-good}
 
@@ -57,10 +57,6 @@ next-waits r w h n =
     record { is-good = word-good r (h .is-good) w; unmarked = rw (word-format r w) (h .unmarked); awaiting = word-waits r w h n .still }
 
 -- over steps
-empty : {A : Type 0} (l : List A) → length l ≡ 0 → l ≡ []
-empty [] e = refl
-empty (x ∷ l) e = absurd (omega arith)
-
 steps-wait : (words : List ℕ) (r : Reader) → Waits r → hasSilence words ≡ false → handedOut (answers (stepsOf r words)) ≡ []
 unfolding stepsOf hasSilence
 steps-wait [] r h n = refl

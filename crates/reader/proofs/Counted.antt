@@ -15,6 +15,10 @@ use Rattle.reader.specs.declared.Reader.{Reader}
 use Rattle.reader.specs.declared.Answer.{Answer}
 use Rattle.reader.specs.declared.Answer.the-variants as answer
 
+pub empty : {A : Type 0} (l : List A) → length l ≡ 0 → l ≡ []
+empty [] e = refl
+empty (x ∷ l) e = absurd (omega arith)
+
 -- an answer, and then those behind it
 pub reports-first : (a : Answer) (l : List Answer) → length (handedOut (a ∷ l)) ≡ reportsIn a + length (handedOut l)
 reports-first answer.Nothing l = omega arith

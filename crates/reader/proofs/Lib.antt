@@ -7,13 +7,13 @@ pub mod Parts
 pub mod Entered
 pub mod Word
 pub mod Keeps
-pub mod Turn
 pub mod Counted
-pub mod Loop
-pub mod Bounds
 pub mod Permitted
 pub mod Goodness
 pub mod Counting
+pub mod Bounds
+pub mod Loop
+pub mod Turn
 pub mod Refusals
 pub mod Joining
 pub mod Room

@@ -6,6 +6,7 @@ pub mod Good
 pub mod Rules
 pub mod Counts
 pub mod Line
+pub mod Parts
 pub mod Promises
 pub mod Runs
 pub mod EighthBit

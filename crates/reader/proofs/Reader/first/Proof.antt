@@ -20,7 +20,7 @@ returns : tie.Need-returns
 returns c = let b = c .before in
     let s = b .before .before .before .before .before in
     rw (c .reading .ensures)
-    (refused (s .args .self) (now (s .args .words)) (now (s .args .out)) (b .before .before .word .result) (s .pre .3) (b .before .before .word .ensures) (b .if1 .taken))
+    (refused _ _ (s .args .self) (now (s .args .words)) (now (s .args .out)) (b .before .before .word .result) (s .pre .0) (s .pre .1) (b .before .before .word .ensures) (b .if1 .taken))
 
 enum-told : tie.Need-enum-told
 enum-told c = search needs
@@ -47,7 +47,7 @@ returns-2 : tie.Need-returns-2
 returns-2 c = let b = c .before .before .before .before .before .before in
     let s = b .before .before .before .before .before in
     rw (c .reading4 .ensures)
-    (no-room (s .args .self) (now (s .args .words)) (now (s .args .out)) (b .before .before .word .result) (s .pre .3) (b .before .before .word .ensures) (c .before .before .before .answer2 .given .0 .0) (b .if1 .left) (c .before .before .before .answer2 .given .1) (c .before .if2 .taken))
+    (no-room _ _ (s .args .self) (now (s .args .words)) (now (s .args .out)) (b .before .before .word .result) (s .pre .0) (s .pre .1) (b .before .before .word .ensures) (c .before .before .before .answer2 .given .0 .0) (b .if1 .left) (c .before .before .before .answer2 .given .1) (c .before .if2 .taken))
 
 put-requires : tie.Need-put-requires
 put-requires c κs = search needs
@@ -59,13 +59,13 @@ returns-3 : tie.Need-returns-3
 returns-3 c = let b = c .before .before .before .before in
     let s = b .before .before .before .before .before in
     rw (c .reading2 .ensures)
-    (nothing (s .args .self) (now (s .args .words)) (now (s .args .out)) (b .before .before .word .result) (s .pre .3) (b .before .before .word .ensures) (b .if1 .left) (c .before .enum-told .given .1))
+    (nothing _ _ (s .args .self) (now (s .args .words)) (now (s .args .out)) (b .before .before .word .result) (s .pre .0) (s .pre .1) (b .before .before .word .ensures) (b .if1 .left) (c .before .enum-told .given .1))
 
 returns-4 : tie.Need-returns-4
 returns-4 c = let b = c .before .before .before .before .before in
     let s = b .before .before .before .before .before in
     rw (c .reading3 .ensures)
-    (dropped (s .args .self) (now (s .args .words)) (now (s .args .out)) (b .before .before .word .result) (s .pre .3) (b .before .before .word .ensures) (c .before .before .answer .given .0 .0) (b .if1 .left) (c .before .before .answer .given .1))
+    (dropped _ _ (s .args .self) (now (s .args .words)) (now (s .args .out)) (b .before .before .word .result) (s .pre .0) (s .pre .1) (b .before .before .word .ensures) (c .before .before .answer .given .0 .0) (b .if1 .left) (c .before .before .answer .given .1))
 
 same-length : tie.Need-same-length
 same-length c = search needs
@@ -74,9 +74,8 @@ returns-5 : tie.Need-returns-5
 returns-5 c = let b = c .before .before .before .before .before .before .before .before .before in
     let s = b .before .before .before .before .before in
     let a = c .before .before .before .before .before .before .answer2 .given in
-    rw (c .reading5 .ensures)
-    (ap (whole _) (c .before .before .put .ensures)
-    ∙ report (s .args .self) (now (s .args .words)) (now (s .args .out)) (b .before .before .word .result) (s .pre .3) (b .before .before .word .ensures) (a .0 .0) (b .if1 .left) (a .1) (c .before .before .before .before .if2 .left))
+    rw (c .reading5 .ensures, c .before .before .put .ensures)
+    (report _ _ (s .args .self) (now (s .args .words)) (now (s .args .out)) (b .before .before .word .result) (s .pre .0) (s .pre .1) (b .before .before .word .ensures) (a .0 .0) (b .if1 .left) (a .1) (c .before .before .before .before .if2 .left))
 
 pub first-spec : {M : Type 1} → statement M
 first-spec =

@@ -2,12 +2,14 @@
 use Prim.Native.Nat.{_-_, _+_, _*_}
 use mathlib.Core.Path.{_∙_, ap}
 use native.Mathlib.Omega.{arith}
-use lib.ListN.{length}
+use lib.ListN.{length, length-drop}
 use borrow.Author.Needs.{needs}
 use borrow.Rule.Slice.PartMut.{putMid}
+use Rattle.fold.proofs.Parts.{rest-is}
 use Rattle.wire.proofs.Letters.{at-most-five}
 use Rattle.reader.specs.Line.{whole}
-use Rattle.reader.proofs.Loop.{Stands, Sized, Far, starts, far, some, unchanged, ends-before, again, still, ends-all}
+use Rattle.reader.specs.Parts.{Stands, Sized}
+use Rattle.reader.proofs.Loop.{Far, starts, far, more, unchanged, ends-before, ends-all}
 use Rattle.reader.proofs.Reader.line.Statement.{statement}
 use Rattle.reader.proofs.Reader.line.Tie as tie
 
@@ -22,9 +24,8 @@ abbrev μ-loop : tie.MeasureT-loop
 
 loop-holds : tie.Need-loop-holds Inv-loop μ-loop
 loop-holds c = let a = c .before .args in
-    let p = c .before .pre in
     let s = starts (a .self) (a .words .now) (a .out .now) in
-    (s, record { below = p .0; sized = p .1; mark = p .2 }, far s)
+    (s, c .before .pre, far s)
 
 mul-first : tie.Need-mul-first Inv-loop μ-loop
 mul-first c = omega arith
@@ -51,53 +52,45 @@ part-first-end-2 : tie.Need-part-first-end-2 Inv-loop μ-loop
 part-first-end-2 c = search needs
 
 first-requires : tie.Need-first-requires Inv-loop μ-loop
-first-requires c κs = let h = c .before .before in
-    let l = h .before .loop in
-    (l .inv .1 .below, l .inv .1 .sized, l .inv .1 .mark, some (l .inv .0) (h .loop-test .taken))
+first-requires c κs = let h = c .before .before in (h .before .loop .inv .1, rw (rest-is (h .before .before .before .args .words .now) (h .before .loop .at), length-drop) (omega arith))
 
 reading-requires : tie.Need-reading-requires Inv-loop μ-loop
 reading-requires c κs = search needs
 
 same-length : tie.Need-same-length Inv-loop μ-loop
 same-length c = let f = c .before .before .before .before in
-    let h = f .before .before .before in
-    ap length (unchanged (h .before .loop .inv .0) (h .loop-test .taken) (f .first .result) _ (f .first .ensures) (c .before .if1 .taken)) ∙ h .before .loop .inv .2 .long
+    let i = f .before .before .before .before .loop .inv in
+    ap length (unchanged (i .0) (f .first .ensures) (c .before .if1 .taken)) ∙ i .2 .long
 
 returns : tie.Need-returns Inv-loop μ-loop
 returns c = let f = c .before .before .before .before in
-    let h = f .before .before .before in
-    let s = h .before .loop .inv .0 in
-    rw (c .reading .ensures)
-    (ap (whole _) (unchanged s (h .loop-test .taken) (f .first .result) _ (f .first .ensures) (c .before .if1 .taken))
-    ∙ ends-before s (h .loop-test .taken) (f .first .result) _ (f .first .ensures) (c .before .if1 .taken))
+    let s = f .before .before .before .before .loop .inv .0 in
+    rw (c .reading .ensures) (ap (whole _) (unchanged s (f .first .ensures) (c .before .if1 .taken)) ∙ ends-before s (f .first .ensures) (c .before .if1 .taken))
 
 -- where it stands when a word was taken
-turn : (c : tie.Else1 Inv-loop μ-loop)
-    → let f = c .before .before .before in
-    let h = f .before .before .before in
-    let l = h .before .loop in
-    let a = h .before .before .before .args in
+turn : (c : tie.After-next Inv-loop μ-loop)
+    → let f = c .before .before .before .before in
+    let l = f .before .before .before .before .loop in
+    let a = f .before .before .before .before .before .before .args in
     let t = f .first .result in
-    Stands (a .self) (a .words .now) (a .out .now) (t .next) (l .at + 1) (l .used + 5 * t .reports) (l .reports + t .reports) (l .dropped + t .dropped)
+    Stands (a .self) (a .words .now) (a .out .now) (t .next) (l .at + t .taken) (l .used + 5 * t .reports) (l .reports + t .reports) (l .dropped + t .dropped)
     (putMid (l .used) (length (l .out) - l .used) (l .out) (f .first .last .1 .1 .1 .1 .0))
-turn c = let f = c .before .before .before in
-    let h = f .before .before .before in
-    again (h .before .loop .inv .0) (h .loop-test .taken) (f .first .result) _ (f .first .ensures) (c .if1 .left)
+turn c = let f = c .before .before .before .before in more (f .before .before .before .before .loop .inv .0) (f .first .ensures)
 
 add-at : tie.Need-add-at Inv-loop μ-loop
-add-at c = omega arith
+add-at c = let start = c .before .before .before .before .before .before .before .before .before .before .before in omega (arith, far (turn (c .before)), start .good .1 .1 .1 .0 .1)
 
 mul-used : tie.Need-mul-used Inv-loop μ-loop
-mul-used c = let start = c .before .before .before .before .before .before .before .before .before .before .before in omega (arith, far (turn (c .before .before)), start .good .1 .1 .1 .1 .0 .1)
+mul-used c = let start = c .before .before .before .before .before .before .before .before .before .before .before .before in omega (arith, far (turn (c .before .before)), start .good .1 .1 .1 .1 .0 .1)
 
 add-used : tie.Need-add-used Inv-loop μ-loop
-add-used c = let start = c .before .before .before .before .before .before .before .before .before .before .before in omega (arith, far (turn (c .before .before)), start .good .1 .1 .1 .1 .0 .1)
+add-used c = let start = c .before .before .before .before .before .before .before .before .before .before .before .before in omega (arith, far (turn (c .before .before)), start .good .1 .1 .1 .1 .0 .1)
 
 add-reports : tie.Need-add-reports Inv-loop μ-loop
-add-reports c = let start = c .before .before .before .before .before .before .before .before .before .before .before .before in omega (arith, far (turn (c .before .before .before)), start .good .1 .1 .1 .1 .0 .1)
+add-reports c = let start = c .before .before .before .before .before .before .before .before .before .before .before .before .before in omega (arith, far (turn (c .before .before .before)), start .good .1 .1 .1 .1 .0 .1)
 
 add-dropped : tie.Need-add-dropped Inv-loop μ-loop
-add-dropped c = let start = c .before .before .before .before .before .before .before .before .before .before .before .before .before in
+add-dropped c = let start = c .before .before .before .before .before .before .before .before .before .before .before .before .before .before in
     omega (arith, far (turn (c .before .before .before .before)), at-most-five (start .args .self .format))
 
 loop-less : tie.Need-loop-less Inv-loop μ-loop
@@ -105,10 +98,8 @@ loop-less c = omega arith
 
 loop-again : tie.Need-loop-again Inv-loop μ-loop
 loop-again c = let e = c .before .before .before .before in
-    let f = e .before .before .before in
-    let h = f .before .before .before in
-    let i = h .before .loop .inv in
-    (turn e, still (i .0) (h .loop-test .taken) (f .first .result) _ (f .first .ensures) _ _ (i .1), far (turn e))
+    let f = e .before .before .before .before in
+    (turn e, f .first .ensures .sized, far (turn e))
 
 reading-requires-2 : tie.Need-reading-requires-2 Inv-loop μ-loop
 reading-requires-2 c κs = search needs
