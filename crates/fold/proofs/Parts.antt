@@ -1,14 +1,15 @@
 -- Parts of a line, one behind the other.
 use Prim.Native.Nat.{ℕ, _+_, _-_, _≤_}
 use mathlib.Core.Path.{_≡_, refl, sym, _∙_, ap}
+use mathlib.Core.Bool.{true}
 use mathlib.Core.List.{List, [], _∷_, _++_, append-assoc, append-nil}
 use native.Mathlib.Omega.{arith}
 use lib.ListN.{length, take, drop, length-append, length-drop, drop-of-length-le}
 use lib.Seq.{take-all, drop-drop, take-append-seam, drop-append-seam, drop-at}
 use borrow.Rule.Slice.PartMut.{putMid}
-use Rattle.fold.specs.Fold.{Machine, Ran, ran, behind, filled, written, run}
+use Rattle.fold.specs.Fold.{Machine, ran, behind, filled, written, takes, run}
 use Rattle.fold.specs.Parts.{Part}
-use Rattle.fold.proofs.Laws.{Takes, written-append, within}
+use Rattle.fold.proofs.Laws.{written-append, within}
 
 -- a list from a place on, as the code lends it; and the list, when that part is back
 module _ {X : Type 0} where
@@ -26,9 +27,10 @@ module _ {S A X : Type 0} (m : Machine S A X) where
   pub none : (s : S) (words : List ℕ) (out : List X) → Part m s words out [] s out
   none s words out = let z : length out - 0 ≡ length out = omega arith in record { wrote = refl; is = rw z }
 
-  pub one : (s : S) (w : ℕ) (words : List ℕ) (out : List X) → Takes m s w (length out)
+  pub one : (s : S) (w : ℕ) (words : List ℕ) (out : List X) → takes m s w (length out) ≡ true
       → Part m s (w ∷ words) out (m .answer s w ∷ []) (m .next s w) (filled (written m (m .answer s w ∷ [])) out)
-  one s w words out t = record { wrote = refl; is = rw append-nil (t .is words) }
+  unfolding run
+  one s w words out e = record { wrote = refl; is = rw (e, append-nil) }
 
   module _ {s t : S} {words : List ℕ} {before mid : List X} {l : List A} (p : Part m s words before l t mid) where
     abbrev n : ℕ

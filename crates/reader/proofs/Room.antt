@@ -25,19 +25,19 @@ use Rattle.reader.proofs.Goodness.{step-word, read-line, step-stays-goo
 -- a word in front of a line that is taken, and one that is not
 pub word-more : (r : Reader) (w : ℕ) (q : List ℕ) (out : List ℤ) (s : Read) → s ≡ wordOf r w → s .refusal ≡ success → 5 * reportsIn (s .answer) ≤ length out
     → lineOf r (w ∷ q) out ≡ joined 1 (reportsIn (s .answer)) (droppedIn (s .answer)) (writtenIn (s .answer)) (lineOf (s .next) q (drop (5 * reportsIn (s .answer)) out))
-unfolding lineOf
+unfolding lineOf run
 word-more r w q out s is z h =
     let fits : length (writtenIn (s .answer)) ≤ length out = omega (arith, five-in (s .answer)) in
     let a = wordOf r w .answer in
     rw (length-drop (5 * reportsIn (s .answer)) out, is)
-    (rw (taken reads r w (length out) (rw is at z) (rw is at fits) .is q, five-in a) (counted-first a (run reads (wordOf r w .next) q (length out - 5 * reportsIn a)) out))
+    (rw (taken reads r w (length out) (rw is at z) (rw is at fits), five-in a) (counted-first a (run reads (wordOf r w .next) q (length out - 5 * reportsIn a)) out))
 
 word-stops : (r : Reader) (w : ℕ) (q : List ℕ) (out : List ℤ) (s : Read) → s ≡ wordOf r w → (s .refusal ≡ success → length out < 5 * reportsIn (s .answer))
     → lineOf r (w ∷ q) out ≡ stopped (s .refusal) r out
-unfolding lineOf droppedAmong
+unfolding lineOf run droppedAmong
 word-stops r w q out s is h =
     let full : s .refusal ≡ success → length out < length (writtenIn (s .answer)) = λ z. omega (arith, h z, five-in (s .answer)) in
-    rw (is, stops reads r w (length out) (rw is at full) .is q)
+    rw (is, stops reads r w (length out) (rw is at full))
 
 module _ (r : Reader) (w : ℕ) (q : List ℕ) (out : List ℤ) (s : Read) (a : Reading) (x : List ℤ) (g : good r ≡ true) (e : StepPromise r w s) (f : ReadPromise r (w ∷ q) out a x) where
   word : s ≡ wordOf r w

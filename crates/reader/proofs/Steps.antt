@@ -52,9 +52,8 @@ line-done (w ∷ words) r room g l h =
     let later = answers (stepsOf (s .next) words) in
     let k : 5 * (reportsIn (s .answer) + length (handedOut later)) ≤ room = rw (step-word r w g, reports-first (s .answer) later) at h in
     let n = five-in (s .answer) in
-    rw (step-word r w g)
-    (taken reads r w room (word-taken r w (leb-true w silence (left (leb w silence) (lineWords words) l))) (omega (arith, k, n)) .is words
-    ∙ ap (behind (s .answer ∷ [])) (line-done words (s .next) (room - length (writtenIn (s .answer))) (word-good r g w) (right (leb w silence) (lineWords words) l) (omega (arith, k, n))))
+    rw (step-word r w g, taken reads r w room (word-taken r w (leb-true w silence (left (leb w silence) (lineWords words) l))) (omega (arith, k, n)))
+    (ap (behind (s .answer ∷ [])) (line-done words (s .next) (room - length (writtenIn (s .answer))) (word-good r g w) (right (leb w silence) (lineWords words) l) (omega (arith, k, n))))
 
 pub word-by-word : (r : Reader) (words : List ℕ) (out written : List ℤ) (steps : List Read) (a : Reading)
     → good r ≡ true

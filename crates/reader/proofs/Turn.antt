@@ -8,7 +8,7 @@ use native.Mathlib.Omega.{arith}
 use lib.ListN.{length, getD, drop, set}
 use lib.Seq.{sets-eq, drop-cons}
 use lib.IntN.{ℤ, pos}
-use Rattle.fold.specs.Fold.{filled, written}
+use Rattle.fold.specs.Fold.{filled, written, run}
 use Rattle.fold.proofs.Laws.{taken, stops}
 use Rattle.fold.proofs.Parts.{one}
 use Rattle.wire.specs.declared.Report.{Report}
@@ -40,10 +40,11 @@ module _ (size : ℕ) (marked : Bool) (r : Reader) (words : List ℕ) (out : Lis
 
   -- the word stops the read, or is taken
   stopping : (s .refusal ≡ 0 → length out < length (writtenIn (s .answer))) → Begins size marked r words out (record { refusal = s .refusal; next = r; taken = 0; reports = 0; dropped = 0 }) out
+  unfolding run
   stopping h =
       record {
         stands = starts r words out;
-        stops = λ _. rw (drop-cons words 0 0 some, is) (stops reads r w (length out) (rw is at h) .is (drop 1 words));
+        stops = λ _. rw (drop-cons words 0 0 some, is, stops reads r w (length out) (rw is at h));
         sized = kept;
       }
 
