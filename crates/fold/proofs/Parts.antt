@@ -1,13 +1,13 @@
 -- Parts of a line, one behind the other.
-use Prim.Native.Nat.{ℕ, _+_, _-_, _≤_}
+use Prim.Native.Nat.{ℕ, suc, _+_, _-_, _<_, _≤_}
 use mathlib.Core.Path.{_≡_, refl, sym, _∙_, ap}
-use mathlib.Core.Bool.{true}
+use mathlib.Core.Bool.{true, false}
 use mathlib.Core.List.{List, [], _∷_, _++_, append-assoc, append-nil}
 use native.Mathlib.Omega.{arith}
-use lib.ListN.{length, take, drop, length-append, length-drop, drop-of-length-le}
-use lib.Seq.{take-all, drop-drop, take-append-seam, drop-append-seam, drop-at}
+use lib.ListN.{length, getD, take, drop, length-append, length-drop, drop-of-length-le}
+use lib.Seq.{take-all, drop-cons, drop-drop, take-at, drop-at}
 use borrow.Rule.Slice.PartMut.{putMid}
-use Rattle.fold.specs.Fold.{Machine, ran, behind, filled, written, takes, run}
+use Rattle.fold.specs.Fold.{Machine, ran, behind, filled, written, places, takes, run}
 use Rattle.fold.specs.Parts.{Part}
 use Rattle.fold.proofs.Laws.{written-append, within}
 
@@ -24,53 +24,78 @@ module _ {X : Type 0} where
 
 module _ {S A X : Type 0} (m : Machine S A X) where
   -- nothing is taken yet; and one word
-  pub none : (s : S) (words : List ℕ) (out : List X) → Part m s words out [] s out
-  none s words out = let z : length out - 0 ≡ length out = omega arith in record { wrote = refl; is = rw z }
+  pub none : (s : S) (words : List ℕ) (out : List X) → Part m s words out [] 0 0 s out
+  none s words out = let z : length out - 0 ≡ length out = omega arith in record { words-are = refl; places-are = refl; wrote = refl; is = rw z }
 
   pub one : (s : S) (w : ℕ) (words : List ℕ) (out : List X) → takes m s w (length out) ≡ true
-      → Part m s (w ∷ words) out (m .answer s w ∷ []) (m .next s w) (filled (written m (m .answer s w ∷ [])) out)
+      → Part m s (w ∷ words) out (m .answer s w ∷ []) 1 (places m s w) (m .next s w) (filled (m .writes (m .answer s w)) out)
   unfolding run
-  one s w words out e = record { wrote = refl; is = rw (e, append-nil) }
+  one s w words out e = record { words-are = refl; places-are = rw append-nil; wrote = rw append-nil; is = rw e }
 
-  module _ {s t : S} {words : List ℕ} {before mid : List X} {l : List A} (p : Part m s words before l t mid) where
-    abbrev n : ℕ
-    n = length (written m l)
+  none-written : (l : List A) → length l ≡ 0 → written m l ≡ []
+  none-written [] e = refl
+  none-written (a ∷ l) e = absurd (omega arith)
 
+  module _ {s t : S} {words : List ℕ} {before mid : List X} {l : List A} {at used : ℕ} (p : Part m s words before l at used t mid) where
     abbrev later : List A
-    later = run m t (drop (length l) words) (length before - n) .answers
+    later = run m t (drop at words) (length before - used) .answers
 
     bounds : (length (l ++ later) ≤ length words) × (length (written m (l ++ later)) ≤ length before)
     bounds = rw (p .is) at (within m words s (length before))
 
     -- no more words than there are, and no more places
-    pub part-within : length l ≤ length words
-    part-within = omega (arith, bounds .0, length-append l later)
+    pub part-within : at ≤ length words
+    part-within = omega (arith, p .words-are, bounds .0, length-append l later)
 
-    pub part-room : n ≤ length before
-    part-room = omega (arith, bounds .1, ap length (written-append m l later), length-append (written m l) (written m later))
+    pub part-room : used ≤ length before
+    part-room = omega (arith, p .places-are, bounds .1, ap length (written-append m l later), length-append (written m l) (written m later))
+
+    pub part-used : take used mid ≡ written m l
+    part-used = ap (take used) (p .wrote) ∙ take-at (written m l) (drop used before) used (sym (p .places-are))
+
+    pub part-left : drop used mid ≡ drop used before
+    part-left = ap (drop used) (p .wrote) ∙ drop-at (written m l) (drop used before) used (sym (p .places-are))
 
     pub part-long : length mid ≡ length before
-    part-long = rw (p .wrote) (length-append (written m l) (drop n before) ∙ omega (arith, part-room, length-drop n before))
+    part-long = ap length (p .wrote) ∙ length-append (written m l) (drop used before) ∙ omega (arith, p .places-are, part-room, length-drop used before)
 
-    pub part-used : take n mid ≡ written m l
-    part-used = rw (p .wrote) (take-append-seam (written m l) (drop n before))
-
-    pub part-left : drop n mid ≡ drop n before
-    part-left = rw (p .wrote) (drop-append-seam (written m l) (drop n before))
+    -- where no word is taken the slice is as it was
+    pub part-none : at ≡ 0 → mid ≡ before
+    part-none z =
+        let e = none-written l (sym (p .words-are) ∙ z) in
+        let u : used ≡ 0 = p .places-are ∙ ap length e in
+        p .wrote ∙ rw (e, u)
 
     -- a part, and then a part of the rest
-    pub joins : {u : S} {last : List X} {k : List A} → Part m t (drop (length l) words) (drop n mid) k u last → Part m s words before (l ++ k) u (take n mid ++ last)
-    joins {u} {last} {k} q = 
-        let both = length-append (written m l) (written m k) in
-        let room : length (drop n mid) - length (written m k) ≡ length before - length (written m l ++ written m k) =
-        omega (arith, ap length part-left, length-drop n before, both) in
+    pub joins : {k : List A} {at′ used′ : ℕ} {u : S} {last : List X} → Part m t (drop at words) (drop used mid) k at′ used′ u last
+        → Part m s words before (l ++ k) (at + at′) (used + used′) u (take used mid ++ last)
+    joins {k} {at′} {used′} q =
+        let room : length (drop used mid) - used′ ≡ length before - (used + used′) = omega (arith, ap length part-left, length-drop used before) in
         record {
-          wrote = rw (part-used, q .wrote, part-left, written-append m l k, both, drop-drop (length (written m k)) n before, append-assoc);
-          is = p .is
-              ∙ ap (behind l) (rw (ap length part-left, length-drop n before) at (q .is))
-              ∙ rw (written-append m l k, length-append l k, ← drop-drop (length k) (length l) words, ← room, part-left, length-drop n before, append-assoc);
+          words-are = omega (arith, p .words-are, q .words-are, length-append l k);
+          places-are = rw (written-append m l k) (omega (arith, p .places-are, q .places-are, length-append (written m l) (written m k)));
+          wrote = rw (part-used, q .wrote, part-left, drop-drop used′ used before, written-append m l k, append-assoc);
+          is = p .is ∙ ap (behind l) (rw (ap length part-left, length-drop used before) at (q .is)) ∙ rw (drop-drop at′ at words, append-assoc, ← room, ap length part-left, length-drop used before);
         }
 
     -- the run ends here
-    pub part-ends : (number : ℕ) → run m t (drop (length l) words) (length before - n) ≡ ran number t [] → run m s words (length before) ≡ ran number t l
+    pub part-ends : (number : ℕ) → run m t (drop at words) (length before - used) ≡ ran number t [] → run m s words (length before) ≡ ran number t l
     part-ends number e = p .is ∙ rw (e, append-nil)
+
+    pub part-all : length words ≤ at → run m s words (length before) ≡ ran 0 t l
+    unfolding run
+    part-all h = part-ends 0 (rw (drop-of-length-le words h))
+
+    -- one word more: it stops the run, or is taken and its answer stands behind what was written
+    module _ (left : at < length words) where
+      abbrev w : ℕ
+      w = getD words at 0
+
+      pub part-stops : takes m t w (length before - used) ≡ false → run m s words (length before) ≡ ran (m .refusal t w) t l
+      unfolding run
+      part-stops e = part-ends (m .refusal t w) (rw (drop-cons words at 0 left, e))
+
+      pub one-more : takes m t w (length before - used) ≡ true → Part m s words before (l ++ (m .answer t w ∷ [])) (at + 1) (used + places m t w) (m .next t w) (take used mid ++ m .writes (m .answer t w) ++ drop (used + places m t w) mid)
+      one-more e =
+          let q = one t w (drop (suc at) words) (drop used mid) (rw (part-left, length-drop used before) e) in
+          rw append-assoc (joins (rw (← drop-cons words at 0 left, drop-drop) at q))

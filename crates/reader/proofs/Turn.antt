@@ -3,26 +3,24 @@ use mathlib.Core.Path.{_≡_, refl, sym, _∙_}
 use mathlib.Core.Bool.{Bool}
 use mathlib.Core.List.{List, [], _∷_, _++_}
 use Prim.Native.Nat.{ℕ, _<_, _≤_}
-use native.Mathlib.Nat.{add-zero}
 use native.Mathlib.Omega.{arith}
 use lib.ListN.{length, getD, drop, set}
 use lib.Seq.{sets-eq, drop-cons}
 use lib.IntN.{ℤ, pos}
-use Rattle.fold.specs.Fold.{filled, written, run}
+use Rattle.fold.specs.Fold.{filled, run}
 use Rattle.fold.proofs.Laws.{taken, stops}
 use Rattle.fold.proofs.Parts.{one}
 use Rattle.wire.specs.declared.Report.{Report}
 use Rattle.reader.specs.State.{fiveOf}
 use Rattle.reader.specs.Rules.{wordOf}
-use Rattle.reader.specs.Counts.{writtenIn, handedOut, droppedAmong}
+use Rattle.reader.specs.Counts.{reportsIn, droppedIn, writtenIn, droppedAmong}
 use Rattle.reader.specs.Line.{reads}
 use Rattle.reader.specs.Parts.{Begins, Sized}
 use Rattle.reader.specs.declared.Reader.{Reader}
 use Rattle.reader.specs.declared.Read.{Read}
-use Rattle.reader.specs.declared.Answer.{Answer}
 use Rattle.reader.specs.declared.Answer.the-variants as answer
 use Rattle.reader.proofs.Word.{word-format, word-below}
-use Rattle.reader.proofs.Counted.{five-each}
+use Rattle.reader.proofs.Counted.{five-in, reports-first}
 use Rattle.reader.proofs.Loop.{starts}
 
 -- five stores at the front
@@ -48,15 +46,13 @@ module _ (size : ℕ) (marked : Bool) (r : Reader) (words : List ℕ) (out : Lis
         sized = kept;
       }
 
-  abbrev all : List Answer
-  all = s .answer ∷ []
-
   taking : s .refusal ≡ 0 → length (writtenIn (s .answer)) ≤ length out
-      → Begins size marked r words out (record { refusal = 0; next = s .next; taken = 1; reports = length (handedOut all); dropped = droppedAmong all }) (filled (written reads all) out)
+      → Begins size marked r words out (record { refusal = 0; next = s .next; taken = 1; reports = reportsIn (s .answer); dropped = droppedIn (s .answer) }) (filled (writtenIn (s .answer)) out)
+  unfolding droppedAmong
   taking z h =
       let p = one reads r w (drop 1 words) out (taken reads r w (length out) (rw is at z) (rw is at h)) in
       record {
-        stands = record { answers = all; part = rw (drop-cons words 0 0 some, is) p; words-are = refl; places-are = sym (five-each all); reports-are = refl; dropped-are = refl };
+        stands = record { answers = s .answer ∷ []; part = rw (drop-cons words 0 0 some, is, ← five-in (wordOf r w .answer)) p; reports-are = omega (arith, reports-first (s .answer) []); dropped-are = omega arith };
         stops = λ e. absurd (omega arith);
         sized = rw is (stays-sized size marked r w kept);
       }
@@ -68,13 +64,10 @@ module _ (size : ℕ) (marked : Bool) (r : Reader) (words : List ℕ) (out : Lis
   no-room p z a few = rw z at (stopping (λ _. rw a few))
 
   pub nothing : s .refusal ≡ 0 → s .answer ≡ answer.Nothing → Begins size marked r words out (record { refusal = 0; next = s .next; taken = 1; reports = 0; dropped = 0 }) out
-  unfolding droppedAmong
   nothing z a = rw a at (taking z (rw a (omega arith)))
 
   pub dropped : (k : ℕ) → s .refusal ≡ 0 → s .answer ≡ answer.Dropped k → Begins size marked r words out (record { refusal = 0; next = s .next; taken = 1; reports = 0; dropped = k }) out
-  unfolding droppedAmong
-  dropped k z a = rw (a, add-zero k) at (taking z (rw a (omega arith)))
+  dropped k z a = rw a at (taking z (rw a (omega arith)))
 
   pub report : (p : Report) → s .refusal ≡ 0 → s .answer ≡ answer.Report p → 5 ≤ length out → Begins size marked r words out (record { refusal = 0; next = s .next; taken = 1; reports = 1; dropped = 0 }) (fiveOf p ++ drop 5 out)
-  unfolding droppedAmong
   report p z a room = rw a at (taking z (rw a room))

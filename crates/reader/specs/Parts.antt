@@ -5,7 +5,7 @@ use mathlib.Core.Bool.{Bool}
 use mathlib.Core.List.{List, []}
 use lib.ListN.{length}
 use lib.IntN.{ℤ}
-use Rattle.fold.specs.Fold.{ran, written, run}
+use Rattle.fold.specs.Fold.{ran, run}
 use Rattle.fold.specs.Parts.{Part}
 use Rattle.wire.specs.Line.{sizeBy, markedBy}
 use Rattle.reader.specs.Counts.{handedOut, droppedAmong}
@@ -14,12 +14,10 @@ use Rattle.reader.specs.declared.Reader.{Reader}
 use Rattle.reader.specs.declared.Reading.{Reading}
 use Rattle.reader.specs.declared.Answer.{Answer}
 
--- words at the front of a line are taken: the reader behind them, their answers, counted, and the slice
+-- words at the front of a line are taken: the reader behind them, the reports among their answers, the bytes dropped, and the slice
 pub record Stands (r : Reader) (words : List ℕ) (before : List ℤ) (next : Reader) (taken used reports dropped : ℕ) (after : List ℤ) : Type 0 where
   pub answers : List Answer
-  pub part : Part reads r words before answers next after
-  pub words-are : taken ≡ length answers
-  pub places-are : used ≡ length (written reads answers)
+  pub part : Part reads r words before answers taken used next after
   pub reports-are : reports ≡ length (handedOut answers)
   pub dropped-are : dropped ≡ droppedAmong answers
 
