@@ -33,9 +33,7 @@ five-in (answer.Dropped k) = refl
 
 pub five-each : (l : List Answer) → length (written reads l) ≡ 5 * length (handedOut l)
 five-each [] = refl
-five-each (answer.Nothing ∷ l) = five-each l
-five-each (answer.Report p ∷ l) = omega (arith, five-each l)
-five-each (answer.Dropped k ∷ l) = five-each l
+five-each (a ∷ l) = omega (arith, length-append (writtenIn a) (written reads l), five-in a, reports-first a l, five-each l)
 
 pub numbers-written : (l : List Answer) → written reads l ≡ numbers (handedOut l)
 numbers-written [] = refl

@@ -13,7 +13,6 @@ pub mod Goodness
 pub mod Counting
 pub mod Bounds
 pub mod Loop
-pub mod Turn
 pub mod Refusals
 pub mod Joining
 pub mod Room
@@ -26,7 +25,6 @@ pub mod Sentences
 pub mod Nowhere
 pub mod Framed
 pub mod AsSent
-pub mod Took
 pub mod Lines
 pub mod EighthBit
 pub mod Handed

@@ -1,25 +1,64 @@
--- Where the long read's loop stands, and a turn of it.
-use mathlib.Core.Path.{_≡_, refl}
+-- The long read's loop: where it stands, the first word of what is left, and how it goes on and ends.
+use mathlib.Core.Path.{_≡_, refl, _∙_}
 use mathlib.Core.Bool.{Bool}
-use mathlib.Core.List.{List, [], _++_}
-use Prim.Native.Nat.{ℕ, _+_, _-_, _*_, _≤_}
+use mathlib.Core.List.{List, [], _∷_, _++_}
+use Prim.Native.Nat.{ℕ, _+_, _-_, _*_, _<_, _≤_}
 use native.Mathlib.Omega.{arith}
-use lib.ListN.{length, take, drop, length-append, length-drop, take-append-drop, drop-of-length-le}
-use lib.IntN.{ℤ}
+use lib.ListN.{length, getD, take, drop, set, length-drop, take-append-drop}
+use lib.Seq.{sets-eq, drop-cons}
+use lib.IntN.{ℤ, pos}
 use borrow.Rule.Slice.PartMut.{putMid}
-use Rattle.fold.specs.Fold.{ran, run}
-use Rattle.fold.proofs.Parts.{rest-is, back, none, joins, part-within, part-room, part-long, part-left, part-none, part-all, part-ends}
-use Rattle.reader.specs.Counts.{droppedAmong}
+use Rattle.fold.specs.Fold.{ran, filled, run}
+use Rattle.fold.proofs.Laws.{taken, stops}
+use Rattle.fold.proofs.Parts.{rest-is, back, none, one, joins, part-within, part-room, part-long, part-left, part-none, part-all, part-ends}
+use Rattle.wire.specs.declared.Report.{Report}
+use Rattle.reader.specs.State.{fiveOf}
+use Rattle.reader.specs.Rules.{wordOf}
+use Rattle.reader.specs.Counts.{reportsIn, droppedIn, writtenIn, droppedAmong}
 use Rattle.reader.specs.Line.{whole, reads, lineOf}
-use Rattle.reader.specs.Parts.{Stands, Begins}
+use Rattle.reader.specs.Parts.{Stands, Begins, Sized}
 use Rattle.reader.specs.declared.Reader.{Reader}
+use Rattle.reader.specs.declared.Read.{Read}
 use Rattle.reader.specs.declared.Reading.{Reading}
-use Rattle.reader.proofs.Counted.{five-each, reports-both, dropped-both}
+use Rattle.reader.proofs.Word.{word-format, word-below}
+use Rattle.reader.proofs.Counted.{five-in, five-each, reports-first, reports-both, dropped-both}
 use Rattle.reader.proofs.Bounds.{line-within}
+
+-- five stores at the front
+pub put-is : (l : List ℤ) (p : Report) (a b c d e : ℤ) → 5 ≤ length l → a ≡ pos (p .buttons) → b ≡ p .x1 → c ≡ p .y1 → d ≡ p .x2 → e ≡ p .y2 → set (set (set (set (set l 0 a) 1 b) 2 c) 3 d) 4 e ≡ fiveOf p ++ drop 5 l
+put-is l p a b c d e h ea eb ec ed ee = sets-eq (a ∷ b ∷ c ∷ d ∷ e ∷ []) l 0 h ∙ rw (ea, eb, ec, ed, ee)
+
+-- what is kept stays below the size, and the format stays
+stays-sized : (size : ℕ) (marked : Bool) (r : Reader) (w : ℕ) → Sized size marked r → Sized size marked (wordOf r w .next)
+stays-sized size marked r w s =
+    record { below = rw (s .sized) (word-below r w (rw (s .sized) at (s .below))); sized = rw (word-format r w) (s .sized); mark = rw (word-format r w) (s .mark) }
 
 pub starts : (r : Reader) (words : List ℕ) (out : List ℤ) → Stands r words out r 0 0 0 0 out
 unfolding droppedAmong
 starts r words out = record { answers = []; part = none reads r words out; reports-are = refl; dropped-are = refl }
+
+module _ {size : ℕ} {marked : Bool} {r : Reader} (words : List ℕ) (out : List ℤ) {s : Read} (kept : Sized size marked r) (some : 0 < length words) (is : s ≡ wordOf r (getD words 0 0)) where
+  -- its first word stops the read, or is taken
+  pub stopping : (s .refusal ≡ 0 → length out < length (writtenIn (s .answer))) → Begins size marked r words out (record { refusal = s .refusal; next = r; taken = 0; reports = 0; dropped = 0 }) out
+  unfolding run
+  stopping h = record { stands = starts r words out; stops = λ _. rw (drop-cons words 0 0 some, is, stops reads r (getD words 0 0) (length out) (rw is at h)); sized = kept }
+
+  pub taking : s .refusal ≡ 0 → length (writtenIn (s .answer)) ≤ length out
+      → Begins size marked r words out (record { refusal = 0; next = s .next; taken = 1; reports = reportsIn (s .answer); dropped = droppedIn (s .answer) }) (filled (writtenIn (s .answer)) out)
+  unfolding droppedAmong
+  taking z h =
+      let w = getD words 0 0 in
+      let p = one reads r w (drop 1 words) out (taken reads r w (length out) (rw is at z) (rw is at h)) in
+      record {
+        stands = record {
+          answers = s .answer ∷ [];
+          part = rw (drop-cons words 0 0 some, is, ← five-in (wordOf r w .answer)) p;
+          reports-are = omega (arith, reports-first (s .answer) []);
+          dropped-are = omega arith;
+        };
+        stops = λ e. absurd (omega arith);
+        sized = rw is (stays-sized size marked r w kept);
+      }
 
 -- how far it has come
 pub record Far (r : Reader) (words : List ℕ) (before : List ℤ) (taken used reports dropped : ℕ) (after : List ℤ) : Type 0 where

@@ -1,5 +1,5 @@
 -- A long read does exactly what the words one by one would do: it takes all line words where the slice has room for their reports.
-use Prim.Native.Nat.{ℕ, _+_, _-_, _*_, _≤_}
+use Prim.Native.Nat.{ℕ, suc, _+_, _-_, _*_, _≤_}
 use mathlib.Core.Path.{_≡_, refl, _∙_, ap}
 use mathlib.Core.Bool.{true}
 use mathlib.Core.List.{List, [], _∷_, _++_}
@@ -18,6 +18,7 @@ use Rattle.reader.specs.Rules.{wordOf}
 use Rattle.reader.specs.Line.{Long, whole, reads, counted, lineOf}
 use Rattle.reader.specs.Counts.{reportsIn, writtenIn, handedOut, numbers, droppedAmong}
 use Rattle.reader.specs.Promises.{ReadPromise}
+use Rattle.reader.specs.DamagedLines.{Took}
 use Rattle.reader.specs.Runs.{stepsOf, StepsPromise, answers, readerAfter}
 use Rattle.reader.specs.declared.Reader.{Reader}
 use Rattle.reader.specs.declared.Read.{Read}
@@ -67,3 +68,25 @@ word-by-word r words out written steps a g l p room e =
     let i = steps-are r words steps p in
     let all = answers (stepsOf r words) in
     rw (i, ← numbers-written all, ← five-each all, ← length-map (stepsOf r words) (λ (s : Read). s .answer)) (e ∙ read-line r words out g ∙ ap (λ (f : Ran Reader Answer). counted f out) (line-done words r (length out) g l (rw i at room)))
+
+-- a step for each word
+step-each : (r : Reader) (words : List ℕ) → length (stepsOf r words) ≡ length words
+unfolding stepsOf
+step-each r [] = refl
+step-each r (w ∷ words) = ap suc (step-each _ words)
+
+pub took : (r : Reader) (words : List ℕ) (steps : List Read) (out after : List ℤ) (b : Reading)
+    → good r ≡ true
+    → lineWords words ≡ true
+    → StepsPromise r words steps
+    → 5 * length (handedOut (answers steps)) ≤ length out
+    → ReadPromise r words out b after
+    → Took words (handedOut (answers steps)) out b after
+took r words steps out after b g l p room q =
+    let is = word-by-word r words out after steps b g l p room q in
+    record {
+      refusal = ap (λ (x : Long). x .reading .refusal) is;
+      taken = ap (λ (x : Long). x .reading .taken) is ∙ ap length (steps-are r words steps p) ∙ step-each r words;
+      reports = ap (λ (x : Long). x .reading .reports) is;
+      written = ap (λ (x : Long). x .out) is;
+    }
