@@ -1,6 +1,7 @@
 -- A machine over a line: it takes word after word, answers each, and writes what the answers give to a lent slice. It stops before a word that it refuses,
 -- and before one whose answer has no room.
 use Prim.Native.Nat.{ℕ, _-_}
+use mathlib.Core.Path.{_≡_}
 use mathlib.Core.Bool.{Bool, cond, _&&_}
 use mathlib.Core.List.{List, [], _∷_, _++_}
 use lib.ListN.{length, drop}
@@ -26,10 +27,6 @@ ran n s answers = record { refusal = n; next = s; answers = answers }
 abbrev pub behind : {S A : Type 0} → List A → Ran S A → Ran S A
 behind answers later = ran (later .refusal) (later .next) (answers ++ later .answers)
 
--- a text at the front of a slice, and behind it what was there
-abbrev pub filled : {X : Type 0} → List X → List X → List X
-filled text out = text ++ drop (length text) out
-
 module _ {S A X : Type 0} (m : Machine S A X) where
   -- what answers write, one behind the other
   abbrev pub written : List A → List X
@@ -48,3 +45,11 @@ module _ {S A X : Type 0} (m : Machine S A X) where
   run s [] room = ran 0 s []
   run s (w ∷ words) room =
       cond (takes s w room) (behind (m .answer s w ∷ []) (run (m .next s w) words (room - places s w))) (ran (m .refusal s w) s [])
+
+-- so many words at the front of a line are taken, with these answers, and so many places used: the state behind them, and the slice; what the rest of
+-- the line gives makes up the run
+pub record Part {S A X : Type 0} (m : Machine S A X) (s : S) (words : List ℕ) (before : List X) (answers : List A) (taken used : ℕ) (next : S) (after : List X) : Type 0 where
+  pub words-are : taken ≡ length answers
+  pub places-are : used ≡ length (written m answers)
+  pub wrote : after ≡ written m answers ++ drop used before
+  pub is : run m s words (length before) ≡ behind answers (run m next (drop taken words) (length before - used))

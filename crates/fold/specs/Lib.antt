@@ -1,3 +1,2 @@
--- A machine over a line of words, and what it does with the line and a lent slice (Fold); and a part of the line that it took (Parts).
+-- A machine over a line of words, and a part of the line that it took.
 pub mod Fold
-pub mod Parts

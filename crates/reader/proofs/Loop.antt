@@ -8,7 +8,7 @@ use lib.ListN.{length, getD, take, drop, set, length-drop, take-append-drop}
 use lib.Seq.{sets-eq, drop-cons}
 use lib.IntN.{ℤ, pos}
 use borrow.Rule.Slice.PartMut.{putMid}
-use Rattle.fold.specs.Fold.{ran, filled, run}
+use Rattle.fold.specs.Fold.{ran, run}
 use Rattle.fold.proofs.Laws.{taken, stops}
 use Rattle.fold.proofs.Parts.{rest-is, back, none, one, joins, part-within, part-room, part-long, part-left, part-none, part-all, part-ends}
 use Rattle.wire.specs.declared.Report.{Report}
@@ -44,7 +44,7 @@ module _ {size : ℕ} {marked : Bool} {r : Reader} (words : List ℕ) (out : Lis
   stopping h = record { stands = starts r words out; stops = λ _. rw (drop-cons words 0 0 some, is, stops reads r (getD words 0 0) (length out) (rw is at h)); sized = kept }
 
   pub taking : s .refusal ≡ 0 → length (writtenIn (s .answer)) ≤ length out
-      → Begins size marked r words out (record { refusal = 0; next = s .next; taken = 1; reports = reportsIn (s .answer); dropped = droppedIn (s .answer) }) (filled (writtenIn (s .answer)) out)
+      → Begins size marked r words out (record { refusal = 0; next = s .next; taken = 1; reports = reportsIn (s .answer); dropped = droppedIn (s .answer) }) (writtenIn (s .answer) ++ drop (length (writtenIn (s .answer))) out)
   unfolding droppedAmong
   taking z h =
       let w = getD words 0 0 in

@@ -1,11 +1,11 @@
 -- Refusals: 6 before 4, the old reader, no answer, counts of 0 and an unchanged slice; and 4 in a long read.
-use Prim.Native.Nat.{ℕ, _<_, _≤_, _*_}
+use Prim.Native.Nat.{ℕ, _<_, _≤_}
 use mathlib.Core.Path.{_≡_, refl, sym, _∙_, ap, subst}
 use mathlib.Core.Bool.{Bool, true, false}
 use mathlib.Core.Logic.{_⊎_, inl, inr, ⊎-elim}
 use mathlib.Core.List.{List, _∷_, _++_, List·Memᴰ·head, List·Memᴰ·tail}
 use native.Mathlib.Omega.{arith}
-use lib.ListN.{length, getD, take, drop}
+use lib.ListN.{length, getD, take}
 use lib.IntN.{ℤ}
 use borrow.Author.Tests.{lt-leb, ne-eqb}
 use Rattle.fold.specs.Fold.{Ran, run}

@@ -1,23 +1,22 @@
 -- A long read is its steps, one by one, as long as there is room.
 use Prim.Native.Nat.{ℕ, _-_, _*_, _<_, _≤_}
-use mathlib.Core.Path.{_≡_, refl, sym, _∙_, ap}
+use mathlib.Core.Path.{_≡_, sym, _∙_, ap}
 use mathlib.Core.Bool.{true}
 use mathlib.Core.List.{List, [], _∷_}
 use native.Mathlib.Omega.{arith}
 use lib.ListN.{length, drop, length-drop}
 use lib.IntN.{ℤ}
-use Rattle.fold.specs.Fold.{Ran, run}
+use Rattle.fold.specs.Fold.{run}
 use Rattle.fold.proofs.Laws.{taken, stops}
 use Rattle.wire.specs.Numbers.{success}
 use Rattle.reader.specs.Good.{good}
 use Rattle.reader.specs.Rules.{wordOf}
-use Rattle.reader.specs.Line.{whole, stopped, joined, reads, counted, lineOf}
+use Rattle.reader.specs.Line.{whole, stopped, joined, reads, lineOf}
 use Rattle.reader.specs.Counts.{reportsIn, droppedIn, writtenIn, droppedAmong}
 use Rattle.reader.specs.Promises.{StepPromise, ReadPromise}
 use Rattle.reader.specs.declared.Reader.{Reader}
 use Rattle.reader.specs.declared.Read.{Read}
 use Rattle.reader.specs.declared.Reading.{Reading}
-use Rattle.reader.specs.declared.Answer.{Answer}
 use Rattle.reader.proofs.Counted.{five-in, counted-first}
 use Rattle.reader.proofs.Permitted.{step-is}
 use Rattle.reader.proofs.Goodness.{step-word, read-line, step-stays-good}

@@ -24,7 +24,6 @@ use Rattle.reader.specs.declared.Reader.{Reader}
 use Rattle.reader.specs.declared.Read.{Read}
 use Rattle.reader.specs.declared.Reading.{Reading}
 use Rattle.reader.specs.declared.Answer.{Answer}
-use Rattle.reader.specs.declared.Answer.the-variants as answer
 use Rattle.reader.proofs.Counted.{reports-first, five-in, five-each, numbers-written}
 use Rattle.reader.proofs.Keeps.{word-good}
 use Rattle.reader.proofs.Permitted.{steps-are}

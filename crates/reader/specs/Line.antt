@@ -3,7 +3,7 @@ use Prim.Native.Nat.{ℕ, _+_, _*_}
 use mathlib.Core.List.{List, _++_}
 use lib.ListN.{length, take, drop}
 use lib.IntN.{ℤ}
-use Rattle.fold.specs.Fold.{Machine, Ran, filled, written, run}
+use Rattle.fold.specs.Fold.{Machine, Ran, written, run}
 use Rattle.reader.specs.Rules.{wordOf}
 use Rattle.reader.specs.Counts.{writtenIn, handedOut, droppedAmong}
 use Rattle.reader.specs.declared.Reader.{Reader}
@@ -80,7 +80,7 @@ counted f out =
       reports = length (handedOut (f .answers));
       dropped = droppedAmong (f .answers);
     })
-    (filled (written reads (f .answers)) out)
+    (written reads (f .answers) ++ drop (length (written reads (f .answers))) out)
 
 -- the words of a line, one after the other. "It stops, with answer 0, before a word that would finish a report when fewer than five places are left."
 unfoldable pub lineOf : Reader → List ℕ → List ℤ → Long

@@ -5,8 +5,7 @@ use mathlib.Core.Bool.{Bool}
 use mathlib.Core.List.{List, []}
 use lib.ListN.{length}
 use lib.IntN.{ℤ}
-use Rattle.fold.specs.Fold.{ran, run}
-use Rattle.fold.specs.Parts.{Part}
+use Rattle.fold.specs.Fold.{ran, run, Part}
 use Rattle.wire.specs.Line.{sizeBy, markedBy}
 use Rattle.reader.specs.Counts.{handedOut, droppedAmong}
 use Rattle.reader.specs.Line.{reads}
