@@ -61,13 +61,7 @@ asOne reading out later = joined (reading .taken) (reading .reports) (reading .d
 
 -- the reader as a machine over the words of a line: what one word does, and the numbers that an answer writes
 abbrev pub reads : Machine Reader Answer ℤ
-reads =
-    record {
-      refusal = λ r w. wordOf r w .refusal;
-      next = λ r w. wordOf r w .next;
-      answer = λ r w. wordOf r w .answer;
-      writes = writtenIn;
-    }
+reads = record { refusal = λ r w. wordOf r w .refusal; next = λ r w. wordOf r w .next; answer = λ r w. wordOf r w .answer; writes = writtenIn }
 
 -- the answers to the words taken, counted, and their numbers at the front of the slice
 abbrev pub counted : Ran Reader Answer → List ℤ → Long

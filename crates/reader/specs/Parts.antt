@@ -13,6 +13,12 @@ use Rattle.reader.specs.declared.Reader.{Reader}
 use Rattle.reader.specs.declared.Reading.{Reading}
 use Rattle.reader.specs.declared.Answer.{Answer}
 
+-- what a reader keeps over a line: its format, and fewer bytes than a report of it has
+pub record Sized (size : ℕ) (marked : Bool) (r : Reader) : Type 0 where
+  pub below : r .count < size
+  pub sized : size ≡ sizeBy (r .format)
+  pub mark : marked ≡ markedBy (r .format)
+
 -- words at the front of a line are taken: the reader behind them, the reports among their answers, the bytes dropped, and the slice
 pub record Stands (r : Reader) (words : List ℕ) (before : List ℤ) (next : Reader) (taken used reports dropped : ℕ) (after : List ℤ) : Type 0 where
   pub answers : List Answer
@@ -20,13 +26,7 @@ pub record Stands (r : Reader) (words : List ℕ) (before : List ℤ) (next : Re
   pub reports-are : reports ≡ length (handedOut answers)
   pub dropped-are : dropped ≡ droppedAmong answers
 
--- what a reader keeps over a line: its format, and fewer bytes than a report of it has
-pub record Sized (size : ℕ) (marked : Bool) (r : Reader) : Type 0 where
-  pub below : r .count < size
-  pub sized : size ≡ sizeBy (r .format)
-  pub mark : marked ≡ markedBy (r .format)
-
--- what is given back for them; where no word is taken the line ends there
+-- what is given back for them, by a reader that stays sized; where no word is taken the line ends there
 pub record Begins (size : ℕ) (marked : Bool) (r : Reader) (words : List ℕ) (before : List ℤ) (t : Reading) (after : List ℤ) : Type 0 where
   pub stands : Stands r words before (t .next) (t .taken) (5 * t .reports) (t .reports) (t .dropped) after
   pub stops : t .taken ≡ 0 → run reads r words (length before) ≡ ran (t .refusal) r []
