@@ -1,4 +1,4 @@
--- The buffers have room for each other.
+-- A block has room, and the last lines follow only where all went well.
 use borrow.Author.Needs.{needs}
 use Rattle.mlist.proofs.main.Statement.{statement}
 use Rattle.mlist.proofs.main.Tie as tie
