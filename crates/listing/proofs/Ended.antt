@@ -1,18 +1,19 @@
 -- A lister ends: a sixth byte that is no newline makes its line bad at once, each byte brings it nearer to its end, and behind that it is quiet.
-use Prim.Native.Nat.{ℕ, _+_, _-_, _≤_, _<_}
+use Prim.Native.Nat.{ℕ, _+_, _≤_, _<_}
 use mathlib.Core.Path.{_≡_, refl, _∙_, ap}
 use mathlib.Core.Bool.{Bool, true, false, cond}
 use mathlib.Core.Logic.{_⊎_, inl, inr, ⊎-elim}
 use mathlib.Core.List.{List, [], _∷_}
 use native.Mathlib.Omega.{arith}
-use lib.Dec.{leb, ltb, eqb}
+use lib.Dec.{leb, eqb}
 use lib.ListN.{length}
 use borrow.Author.Tests.{ne-eqb, le-leb, leb-false}
 use Rattle.numbers.proofs.Choices.{cases}
+use Rattle.fold.proofs.Laws.{over-taken, stays}
 use Rattle.listing.specs.Lines.{newline, saidBy}
 use Rattle.listing.specs.Scanning.{mostLines, lineIn, ends, scan, unfinished, takenOf, scannedByte, closedOf, endOf, passed, mostBytes}
 use Rattle.listing.specs.Items.{itemsFrom}
-use Rattle.listing.specs.Feeding.{Feed, fedByte, lastOf, feedIn}
+use Rattle.listing.specs.Feeding.{fedByte, lastOf, feeds, feedIn}
 use Rattle.listing.specs.declared.Line.{Line}
 use Rattle.listing.specs.declared.Line.the-variants as line
 use Rattle.listing.specs.declared.Found.the-variants.{Nothing}
@@ -53,10 +54,7 @@ ended-stays m c h = byte-over (m .scanner) c h .0
 
 pub stays-ended : (input : List ℕ) (m : Lister) (room : ℕ) → m .scanner .ended ≡ true → feedIn m input room .next .scanner .ended ≡ true
 unfolding feedIn
-stays-ended [] m room h = h
-stays-ended (c ∷ cs) m room h =
-    cases (λ (f : Feed). f .next .scanner .ended ≡ true) (ltb room (length (fedByte m c .text))) (λ _. h)
-    (λ _. stays-ended cs (fedByte m c .next) (room - length (fedByte m c .text)) (ended-stays m c h))
+stays-ended = stays feeds (λ (m : Lister). m .scanner .ended ≡ true) ended-stays
 
 -- a byte ends the recording or brings the scanner on, and it stays within the lines
 abbrev pub Within : Scanner → Type 0
@@ -80,19 +78,20 @@ byte-on s c h =
     cases P (eqb c newline) (λ _. line-on s (saidBy (unfinished s)) h)
     (λ _. cases P (leb 5 (s .count)) (λ _. line-on s line.Bad h) (λ e. let k = leb-false 5 (s .count) e in inr (omega arith, (h .0, omega arith))))
 
--- a piece ends the listing, or brings the lister on by the bytes that were taken
-abbrev Brought : Lister → Feed → Type 0
-Brought m f = (f .next .scanner .ended ≡ true) ⊎ ((passed (m .scanner) + f .taken ≤ passed (f .next .scanner)) × Within (f .next .scanner))
+-- what bytes do to the scanner: one that has ended stays so, and another ends or is brought on by their number
+abbrev Brought : Scanner → ℕ → Scanner → Type 0
+Brought s taken next = (s .ended ≡ true → next .ended ≡ true) × (Within s → (next .ended ≡ true) ⊎ ((passed s + taken ≤ passed next) × Within next))
 
-pub piece-on : (input : List ℕ) (m : Lister) (room : ℕ) → Within (m .scanner) → Brought m (feedIn m input room)
+pub piece-on : (input : List ℕ) (m : Lister) (room : ℕ) → let f = feedIn m input room in
+    Within (m .scanner) → (f .next .scanner .ended ≡ true) ⊎ ((passed (m .scanner) + f .taken ≤ passed (f .next .scanner)) × Within (f .next .scanner))
 unfolding feedIn fedByte
-piece-on [] m room h = inr (omega arith, h)
-piece-on (c ∷ cs) m room h =
-    let left = room - length (fedByte m c .text) in
-    cases (Brought m) (ltb room (length (fedByte m c .text))) (λ _. inr (omega arith, h))
-    (λ _. ⊎-elim (λ e. inl (stays-ended cs (fedByte m c .next) left e))
-    (λ q. ⊎-elim (λ e. inl e) (λ k. inr (omega (arith, k .0, q .0), k .1)) (piece-on cs (fedByte m c .next) left (q .1)))
-    (byte-on (m .scanner) c h))
+piece-on input m room =
+    over-taken feeds (λ m input texts next. Brought (m .scanner) (length texts) (next .scanner)) (λ m. (λ e. e, λ h. inr (omega arith, h)))
+    (λ m c input texts next z ih. (
+      λ e. ih .0 (ended-stays m c e),
+      λ h. ⊎-elim (λ e. inl (ih .0 e)) (λ q. ⊎-elim inl (λ k. inr (omega (arith, k .0, q .0), k .1)) (ih .1 (q .1))) (byte-on (m .scanner) c h),
+    ))
+    input m room .1
 
 -- so many bytes no scanner has passed
 pub never-passed : (s : Scanner) → Within s → passed s < mostBytes

@@ -1,14 +1,15 @@
 -- Good listers: a fresh one is good, and every call of a good one gives a good one.
-use Prim.Native.Nat.{ℕ, _+_, _-_, _≤_, _<_}
+use Prim.Native.Nat.{ℕ, _+_, _≤_, _<_}
 use mathlib.Core.Path.{_≡_, refl}
 use mathlib.Core.Bool.{Bool, true, false, cond}
-use mathlib.Core.List.{List, [], _∷_}
+use mathlib.Core.List.{List}
 use native.Mathlib.Omega.{arith}
 use lib.Dec.{leb, ltb, eqb}
 use lib.ListN.{length}
 use borrow.Author.Tests.{leb-true, leb-false, le-leb}
 use Rattle.numbers.proofs.Tested.{left, right}
 use Rattle.numbers.proofs.Choices.{cases, both}
+use Rattle.fold.proofs.Laws.{stays}
 use Rattle.wire.specs.Line.{namedBy, known}
 use Rattle.reader.specs.Good as reader
 use Rattle.reader.specs.Promises.{freshOf, stepOf}
@@ -18,7 +19,7 @@ use Rattle.listing.specs.Lines.{newline, saidBy}
 use Rattle.listing.specs.Scanning as scanner
 use Rattle.listing.specs.Scanning.{mostLines, lineIn, ends, unfinished, takenOf, scannedByte, closedOf, endOf}
 use Rattle.listing.specs.Items.{gaveOf}
-use Rattle.listing.specs.Feeding.{Feed, fresh, closed, fedByte, lastOf, feedIn, finishIn, good}
+use Rattle.listing.specs.Feeding.{Feed, fresh, closed, fedByte, lastOf, feeds, feedIn, finishIn, good}
 use Rattle.listing.specs.declared.Line.{Line}
 use Rattle.listing.specs.declared.Line.the-variants as line
 use Rattle.listing.specs.declared.Found.{Found}
@@ -88,10 +89,7 @@ byte-stays-good m c g = both _ _ (made _ (byte-within (m .scanner) c (kept m g))
 
 pub feed-stays-good : (input : List ℕ) (m : Lister) (room : ℕ) → good m ≡ true → good (feedIn m input room .next) ≡ true
 unfolding feedIn
-feed-stays-good [] m room g = g
-feed-stays-good (c ∷ cs) m room g =
-    cases (λ (f : Feed). good (f .next) ≡ true) (ltb room (length (fedByte m c .text))) (λ _. g)
-    (λ _. feed-stays-good cs (fedByte m c .next) (room - length (fedByte m c .text)) (byte-stays-good m c g))
+feed-stays-good = stays feeds (λ (m : Lister). good m ≡ true) byte-stays-good
 
 pub closed-reads : (m : Lister) → good m ≡ true → reader.good (closed m .reader) ≡ true
 closed-reads m g = gave-good (m .reader) (closedOf (m .scanner) .found) (reads m g)

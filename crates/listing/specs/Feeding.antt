@@ -1,9 +1,10 @@
 -- The lister: the scanner and the reader behind it, fed byte by byte, with the text of each byte; and a piece of the input, which stops for room.
-use Prim.Native.Nat.{ℕ, _+_, _-_}
+use Prim.Native.Nat.{ℕ}
 use mathlib.Core.Bool.{Bool, not, cond, _&&_}
-use mathlib.Core.List.{List, [], _∷_, _++_}
+use mathlib.Core.List.{List, [], _++_}
 use lib.ListN.{length}
 use lib.Dec.{ltb, eqb}
+use Rattle.fold.specs.Fold.{Machine, Ran, written, run}
 use Rattle.reader.specs.Good as reader
 use Rattle.text.specs.Growth.{grownBy, textOf}
 use Rattle.text.specs.declared.Text.{Text}
@@ -70,15 +71,16 @@ pub record Feed : Type 0 where
 abbrev pub stopped : Lister → Feed
 stopped m = record { next = m; taken = 0; text = [] }
 
-abbrev pub joined : ℕ → List ℕ → Feed → Feed
-joined n text f = record { next = f .next; taken = n + f .taken; text = text ++ f .text }
+-- the lister as a machine over the bytes of the input: a byte's answer is the text that it writes
+abbrev pub feeds : Machine Lister (List ℕ) ℕ
+feeds = record { refusal = λ m c. 0; next = λ m c. fedByte m c .next; answer = λ m c. fedByte m c .text; writes = λ text. text }
+
+abbrev pub fed : Ran Lister (List ℕ) → Feed
+fed f = record { next = f .next; taken = length (f .answers); text = written feeds (f .answers) }
 
 -- it stops before a byte whose text has no room
 unfoldable pub feedIn : Lister → List ℕ → ℕ → Feed
-feedIn m [] room = stopped m
-feedIn m (c ∷ cs) room =
-    cond (ltb room (length (fedByte m c .text))) (stopped m)
-    (joined 1 (fedByte m c .text) (feedIn (fedByte m c .next) cs (room - length (fedByte m c .text))))
+feedIn m input room = fed (run feeds m input room)
 
 -- the end: all of it, or nothing where it has no room
 unfoldable pub finishIn : Lister → ℕ → Feed
