@@ -1,6 +1,7 @@
-// figures: runs the figures of the paper, presses on a busy line, reports latched earlier than sent, the worked examples of the manuals, and lines of reports in each format.
+// figures: runs the figures of the paper, presses on a busy line, reports latched earlier than sent, what the limit threw away, the worked examples of the manuals, and lines of reports in each format.
 mod apart;
 mod box_runs;
+mod lag;
 mod lines;
 mod manuals;
 mod passes;
@@ -13,6 +14,7 @@ fn main() {
     box_runs::figures();
     presses::runs();
     apart::runs();
+    lag::runs();
     manuals::examples();
     lines::formats();
 }

@@ -25,9 +25,18 @@ fn front(bytes: &[u8], count: usize) {
 }
 
 pub(crate) fn signed(v: i16) {
-    let decimal = Text::none().signed(4, v as i32);
+    let decimal = Text::none().signed(5, v as i32);
     let bytes = decimal.bytes;
     front(&bytes, decimal.len);
+}
+
+// A sum of 64 bits, as far as 16 hold it.
+pub(crate) fn long(v: i64) {
+    if (v < -32768) | (32767 < v) {
+        say(b"far");
+    } else {
+        signed(v as i16);
+    }
 }
 
 fn digit(n: u8) -> u8

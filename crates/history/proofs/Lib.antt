@@ -1,6 +1,6 @@
 -- The box as a sender: what is going in it (Carries), its latching and sending (Sending) and host bytes (Hosts), and the bridge from its words to its passages
 -- (Bridge); that a box asked only for reports sends sound passages (Asking), that a letter sets one to its format (Setting), and that the
--- answers of the rules are permitted (Permitted). What Slot was (Slots). Presses: one step (Showing), every run (Presses), within so many slots (Within), and again behind
+-- answers of the rules are permitted (Permitted). What Slot was (Slots), the sums of a run (Sums). Presses: one step (Showing), every run (Presses), within so many slots (Within), and again behind
 -- a break (Again).
 pub mod Carries
 pub mod Sending
@@ -10,6 +10,7 @@ pub mod Asking
 pub mod Setting
 pub mod Permitted
 pub mod Slots
+pub mod Sums
 pub mod Showing
 pub mod Presses
 pub mod Within
