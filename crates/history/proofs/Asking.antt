@@ -101,7 +101,7 @@ ready-alike : (b : BallBox) → Alike b (withByteReady b)
 unfolding withByteReady secondLatched
 ready-alike b = cases (Alike b) (secondNow b) (λ _. (record { format = refl; dormant = refl })) (λ _. alike b)
 
-sending-alike : (b : BallBox) → Alike b (sending b .next)
+pub sending-alike : (b : BallBox) → Alike b (sending b .next)
 unfolding sending nextByte
 sending-alike b = go (bytesLeft b) refl
   where

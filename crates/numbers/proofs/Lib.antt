@@ -5,4 +5,5 @@ pub mod Rows
 pub mod Twos
 pub mod Machine
 pub mod Held
+pub mod Sums
 pub mod Ones
