@@ -3,19 +3,16 @@
 use mathlib.Core.Path.{_≡_, refl, _∙_, ap}
 use mathlib.Core.Bool.{true, false}
 use mathlib.Core.List.{List, [], _∷_}
-use native.Mathlib.Omega.{arith}
 use lib.IntN.{ℤ, pos, _+ℤ_, +ℤ-idl}
-use Rattle.frames.specs.Passages.{UnderWay, nothing, passageWords}
+use Rattle.frames.specs.Passages.{nothing}
 use Rattle.wire.specs.Line.{letterOf}
 use Rattle.wire.specs.declared.Format.the-variants.{Absolute, ThreeByte}
 use Rattle.ballbox.specs.Box.{freshBox, modeO}
-use Rattle.ballbox.specs.Good.{good}
 use Rattle.ballbox.specs.Promises.{FreshPromise}
 use Rattle.ballbox.specs.declared.BallBox.{BallBox}
 use Rattle.ballbox.specs.declared.Event.{Event}
 use Rattle.ballbox.specs.declared.Event.the-variants.{Motion, Host, Latch}
 use Rattle.ballbox.specs.declared.Stepped.{Stepped}
-use Rattle.ballbox.proofs.Goodness.{fresh-is-good}
 use Rattle.ballbox.proofs.Throwing.{fresh-sums}
 use Rattle.history.specs.Runs.{RunPromise}
 use Rattle.history.specs.History.{passagesOf, goingAfter}
