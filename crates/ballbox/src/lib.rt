@@ -45,12 +45,14 @@ const BAD_BUTTONS: u8 = 3;
 pub(crate) const MOST_BUTTONS: u8 = 7;
 
 // A movement or a place, x and y.
+#[repr(C)]
 pub struct Pair {
     pub x: i16,
     pub y: i16,
 }
 
 // What is set: the format's letter, the mode's letter, and the buttons as 4L+2M+R.
+#[repr(C)]
 pub struct Settings {
     pub format: u8,
     pub mode: u8,
@@ -58,6 +60,7 @@ pub struct Settings {
 }
 
 // What is counted: the counters, the position, and the position last reported.
+#[repr(C)]
 pub struct Track {
     pub counter: Pair,
     pub position: Pair,
@@ -65,6 +68,7 @@ pub struct Track {
 }
 
 // What is going: the bytes of a report or a reply, how many they are, and how many of them are sent.
+#[repr(C)]
 pub struct Going {
     pub length: u8,
     pub sent: u8,

@@ -1,0 +1,24 @@
+use borrow.Author.Needs.{needs}
+use Rattle.istrolf.proofs.Marks.{as-number}
+use Rattle.istrolf.proofs.boxes.packed.Lts as lts
+use Rattle.istrolf.proofs.boxes.packed.Reads as reads
+use Rattle.istrolf.proofs.boxes.packed_memory.Reads as packed-memory-reads
+use Rattle.istrolf.proofs.boxes.packed.Statement.{statement}
+use Rattle.istrolf.proofs.boxes.packed.Tie as tie
+
+packed-memory-requires : tie.Need-packed-memory-requires
+packed-memory-requires c κs = search needs
+
+cast-t6 : tie.Need-cast-t6
+cast-t6 c = search needs
+
+cast-t7 : tie.Need-cast-t7
+cast-t7 c = search needs
+
+returns : tie.Need-returns
+returns c = let m = c .before .before in
+    let b = m .before .before .before .before .args .b in
+    simp (m .packed-memory .ensures, as-number (b .due), as-number (b .dormant))
+
+pub packed-spec : {M : Type 1} → statement M
+packed-spec = tie.close (tie.spec packed-memory-requires cast-t6 cast-t7 returns)

@@ -1,0 +1,6 @@
+pub mod Marks
+pub mod Readers
+pub mod Boxes
+pub mod Listers
+pub mod Promises
+pub mod Runs
