@@ -1,5 +1,5 @@
 -- A fresh box is good, and a step of a good box gives a good box.
-use Prim.Native.Nat.{ℕ, _+_, _-_, _≤_}
+use Prim.Native.Nat.{ℕ, _≤_}
 use mathlib.Core.Path.{_≡_, refl, sym, ap, _∙_}
 use mathlib.Core.List.{List}
 use mathlib.Core.Bool.{Bool, true, false, not, _&&_, _||_, or-true, or-false}
@@ -13,7 +13,7 @@ use Rattle.numbers.proofs.Held.{held-inside}
 use Rattle.numbers.proofs.Tested.{left, right}
 use Rattle.wire.specs.Line.{letterOf, known, namedBy}
 use Rattle.wire.specs.declared.Format.the-variants.{FiveByte}
-use Rattle.ballbox.specs.Box.{modeD, goingFrom, nothing, freshBox, withTrack, withGoing, withMemory, withDue, withFormat, withMode, withButtons, Step}
+use Rattle.ballbox.specs.Box.{modeD, goingFrom, nothing, freshBox, withTrack, withGoing, withMemory, withSums, withDue, withFormat, withMode, withButtons, Step}
 use Rattle.ballbox.specs.Presses.{anyRemembered, none}
 use Rattle.ballbox.specs.Motion.{placedAt, placed, movedBy}
 use Rattle.ballbox.specs.Latching.{cleared, latchedReport, latched, withSecond, secondLatched}
@@ -25,6 +25,7 @@ use Rattle.ballbox.specs.declared.Pair.{Pair}
 use Rattle.ballbox.specs.declared.Track.{Track}
 use Rattle.ballbox.specs.declared.Going.{Going}
 use Rattle.ballbox.specs.declared.Memory.{Memory}
+use Rattle.ballbox.specs.declared.Sums.{Sums}
 use Rattle.ballbox.specs.declared.BallBox.{BallBox}
 use Rattle.ballbox.specs.declared.Command.{Command}
 use Rattle.ballbox.specs.declared.Command.the-variants.{SetFormat, SetStream, SetPrompt, AskReport, AskAck, AskCode, AskLetters, AskButtons, Sleep, Ignored}
@@ -89,6 +90,9 @@ settled b a = record { settings = a .settings; track = a .track; going = idle-go
 module _ {G : ℕ → Going → Type 0} (b : BallBox) (a : Awake G b) where
   with-track : (t : Track) → goodTrack t ≡ true → Awake G (withTrack t b)
   with-track t h = record { settings = a .settings; track = h; going = a .going; memory = a .memory; up = a .up }
+
+  with-sums : (s : Sums) → Awake G (withSums s b)
+  with-sums s = record { settings = a .settings; track = a .track; going = a .going; memory = a .memory; up = a .up }
 
   with-due : (d : Bool) → Awake G (withDue d b)
   with-due d = record { settings = a .settings; track = a .track; going = a .going; memory = a .memory; up = a .up }
@@ -159,7 +163,7 @@ ready-good b l a =
     let h = ltb-true (b .going .sent) (b .going .length) l in
     let m = a .memory in
     cases (Awake Sendable) (secondNow b)
-    (λ e. with-track (withGoing _ b) (with-going b a _ (b .memory) (second-sendable f _ (b .going) (a .going) h (eqb-true _ _ (left u third e)) (eqb-true _ _ (right u third e))) (record { good = m .good; stream = m .stream; shows = m .shows })) _ (cleared-good (b .track) (a .track)))
+    (λ e. with-track _ (with-sums _ (with-going b a _ (b .memory) (second-sendable f _ (b .going) (a .going) h (eqb-true _ _ (left u third e)) (eqb-true _ _ (right u third e))) (record { good = m .good; stream = m .stream; shows = m .shows })) _) _ (cleared-good (b .track) (a .track)))
     (λ e. with-going b a (b .going) (b .memory) (going-sendable f (b .going) (a .going) h) m)
 
 latched-good : (b : BallBox) → Awake GoodGoing b → Awake GoodGoing (latched b)
@@ -168,7 +172,7 @@ latched-good b a =
     let f = b .settings .format in
     let s = latched-going b (letter-known (b .settings) (a .settings)) in
     let m = showing-remembers (b .settings .mode) f (b .going) (b .memory) (a .memory) (latched b .going) (bytes-by-length f (latchedReport b)) in
-    with-due _ (with-track _ (with-going b a _ _ s m) _ (cleared-good (b .track) (a .track))) false
+    with-due _ (with-track _ (with-sums _ (with-going b a _ _ s m) _) _ (cleared-good (b .track) (a .track))) false
 
 -- the first byte of what is latched is there to be sent
 pub latched-left : (b : BallBox) → Good b → bytesLeft (latched b) ≡ true
@@ -222,7 +226,7 @@ obeyed-good Ignored h b a = again _ (settled b a)
 -- an event, awake or dormant
 awake-good : (b : BallBox) (e : Event) → aboveSeven e ≡ false → Awake GoodGoing b → Good (awake b e .next)
 unfolding awake onPeriod onHost
-awake-good b (Motion dx dy) l a = again _ (with-track b a _ (moved-good (b .track) dx dy (a .track)))
+awake-good b (Motion dx dy) l a = again _ (with-sums _ (with-track b a _ (moved-good (b .track) dx dy (a .track))) _)
 awake-good b (Buttons n) l a = again _ (buttons-good b n l a)
 awake-good b (Host n) l a = obeyed-good (commandOf n) (lettering n) (dropped b) (dropped-idle b a)
 awake-good b Latch l a = again _ (latching-good b a)

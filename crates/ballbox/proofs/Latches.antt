@@ -73,7 +73,7 @@ send-first b w ws = begins (withGoing (goingFrom (w ∷ ws)) b) (lt-ltb 0 (lengt
 pub first-sent : (b : BallBox) (r : Stepped) (w : ℕ) (ws : List ℕ) → good b ≡ true → b .dormant ≡ false → b .going ≡ goingFrom (w ∷ ws) → StepPromise b Send r → sentWords (r .sent) ≡ w ∷ []
 unfolding awake
 first-sent b r w ws g d e s =
-    let same : b ≡ withGoing (goingFrom (w ∷ ws)) b = λ i. record { settings = b .settings; track = b .track; going = e i; memory = b .memory; due = b .due; dormant = b .dormant } in
+    let same : b ≡ withGoing (goingFrom (w ∷ ws)) b = λ i. record { settings = b .settings; track = b .track; going = e i; memory = b .memory; sums = b .sums; due = b .due; dormant = b .dormant } in
     ap (λ (a : Step). a .words) (awake-step b Send r s g refl d) ∙ (ap (λ (x : BallBox). sending x .words) same ∙ send-first b w ws)
 
 -- a report that is wanted is latched by Latch, and its first byte goes out with Send

@@ -1,5 +1,5 @@
 -- The laws of the ball box: its one answer (Answers), the refusals and else the rules (Refusals), good boxes (Goodness), the words (Words),
--- what moved means (Moving), what is latched (Latches), the host's bytes (Obeying), what is remembered (Pressing), the dormant box (Dormancy), the useless box (Useless)
+-- what moved means (Moving), what is latched (Latches), the host's bytes (Obeying), what is remembered (Pressing), what the limits throw away (Throwing), the dormant box (Dormancy), the useless box (Useless)
 -- and wrong answers (Wrong).
 -- What these and the functions' proofs share: the letters (Letters), that what is latched is accepted (Accepting), what is going (Outgoing), what
 -- is remembered (Remembering, Beside), a good box part by part (Parts), and latching, sending and breaking off case by case (Cases).
@@ -16,6 +16,7 @@ pub mod Refusals
 pub mod Moving
 pub mod Latches
 pub mod Obeying
+pub mod Throwing
 pub mod Words
 pub mod Pressing
 pub mod Dormancy

@@ -3,22 +3,26 @@ use mathlib.Core.Path.{_≡_, sym, ap, subst, _∙_}
 use mathlib.Core.Bool.{true}
 use native.Mathlib.Omega.{arith}
 use lib.Dec.{T}
+use lib.IntN.{pos, natAbs}
 use lib.ListN.{length}
+use Rattle.numbers.specs.Signed.{most, held, excess, sumExcess, heldLong}
 use Rattle.frames.specs.Words.{silence}
 use Rattle.wire.specs.Line.{namedBy, sizeBy, known}
 use Rattle.wire.specs.Reading.{at}
 use Rattle.wire.specs.Numbers.{success, badState}
-use Rattle.ballbox.specs.Box.{modeD, freshBox, withMemory, withMode, withButtons, withDue, Step}
+use Rattle.ballbox.specs.Box.{modeD, pair, zeros, freshBox, withTrack, withMemory, withMode, withButtons, withDue, Step}
 use Rattle.ballbox.specs.Presses.{none, remembering, showingFirst}
-use Rattle.ballbox.specs.Motion.{apart, hasMoved}
+use Rattle.ballbox.specs.Thrown.{noSums, added}
+use Rattle.ballbox.specs.Motion.{countedOver, apart, hasMoved}
 use Rattle.ballbox.specs.Latching.{latched}
 use Rattle.ballbox.specs.Commands.{letterP, commandOf, obeyed}
 use Rattle.ballbox.specs.Events.{onButtons, latching, sending, dropped, onHost, awake}
 use Rattle.ballbox.specs.Good.{good, goodSettings, goodTrack, goodGoing, goodMemory}
 use Rattle.ballbox.specs.Promises.{stepOf, FreshPromise, StepPromise}
 use Rattle.ballbox.specs.declared.BallBox.{BallBox}
-use Rattle.ballbox.specs.declared.Event.the-variants.{Buttons, Host, Latch, Send}
+use Rattle.ballbox.specs.declared.Event.the-variants.{Motion, Buttons, Host, Latch, Send}
 use Rattle.ballbox.specs.declared.Memory.{Memory}
+use Rattle.ballbox.specs.declared.Sums.{Sums}
 use Rattle.ballbox.specs.declared.Sent.the-variants.{Nothing, Word}
 use Rattle.ballbox.specs.declared.Stepped.{Stepped}
 
@@ -69,6 +73,14 @@ press-forgotten e = omega (arith, ap (λ (s : Step). s .next .memory .count) e)
 pub prompt-remembers : StepPromise pressed (Host modeD) (silently (withMode modeD pressed)) → ⊥
 unfolding stepOf freshBox good goodSettings goodTrack goodGoing goodMemory awake onHost dropped commandOf obeyed remembering namedBy sizeBy known
 prompt-remembers e = omega (arith, ap (λ (s : Step). s .next .memory .count) e)
+
+-- a counter at its end that throws away what it is given, and adds up none of it
+abbrev full : BallBox
+full = withTrack (record { counter = pair most (pos 0); position = zeros; last = zeros }) freshBox
+
+pub excess-forgotten : (b : BallBox) → b .sums ≡ noSums → StepPromise full (Motion (pos 5) (pos 0)) (silently b) → ⊥
+unfolding stepOf freshBox good goodSettings goodTrack goodGoing goodMemory awake countedOver sumExcess excess added heldLong held namedBy sizeBy known
+excess-forgotten b f e = omega (arith, sym (ap (λ (s : Sums). natAbs (s .counter .x)) f) ∙ ap (λ (s : Step). natAbs (s .next .sums .counter .x)) e)
 
 -- a report that removes the state when it is latched; and Send that latches one
 pub removed-early : (b : BallBox) → b .memory ≡ none → StepPromise pressed Latch (silently b) → ⊥

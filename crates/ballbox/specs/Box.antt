@@ -9,30 +9,36 @@ use Rattle.wire.specs.Line.{letterOf}
 use Rattle.wire.specs.Table.{five}
 use Rattle.wire.specs.declared.Format.the-variants.{FiveByte}
 use Rattle.ballbox.specs.Presses.{none}
+use Rattle.ballbox.specs.Thrown.{sums, noSums, added}
 use Rattle.ballbox.specs.declared.Pair.{Pair}
 use Rattle.ballbox.specs.declared.Settings.{Settings}
 use Rattle.ballbox.specs.declared.Track.{Track}
 use Rattle.ballbox.specs.declared.Going.{Going}
 use Rattle.ballbox.specs.declared.Memory.{Memory}
+use Rattle.ballbox.specs.declared.Excess.{Excess}
+use Rattle.ballbox.specs.declared.Sums.{Sums}
 use Rattle.ballbox.specs.declared.BallBox.{BallBox}
 
 abbrev pub withSettings : Settings → BallBox → BallBox
-withSettings s b = record { settings = s; track = b .track; going = b .going; memory = b .memory; due = b .due; dormant = b .dormant }
+withSettings s b = record { settings = s; track = b .track; going = b .going; memory = b .memory; sums = b .sums; due = b .due; dormant = b .dormant }
 
 abbrev pub withTrack : Track → BallBox → BallBox
-withTrack t b = record { settings = b .settings; track = t; going = b .going; memory = b .memory; due = b .due; dormant = b .dormant }
+withTrack t b = record { settings = b .settings; track = t; going = b .going; memory = b .memory; sums = b .sums; due = b .due; dormant = b .dormant }
 
 abbrev pub withGoing : Going → BallBox → BallBox
-withGoing g b = record { settings = b .settings; track = b .track; going = g; memory = b .memory; due = b .due; dormant = b .dormant }
+withGoing g b = record { settings = b .settings; track = b .track; going = g; memory = b .memory; sums = b .sums; due = b .due; dormant = b .dormant }
 
 abbrev pub withMemory : Memory → BallBox → BallBox
-withMemory m b = record { settings = b .settings; track = b .track; going = b .going; memory = m; due = b .due; dormant = b .dormant }
+withMemory m b = record { settings = b .settings; track = b .track; going = b .going; memory = m; sums = b .sums; due = b .due; dormant = b .dormant }
+
+abbrev pub withSums : Sums → BallBox → BallBox
+withSums s b = record { settings = b .settings; track = b .track; going = b .going; memory = b .memory; sums = s; due = b .due; dormant = b .dormant }
 
 abbrev pub withDue : Bool → BallBox → BallBox
-withDue d b = record { settings = b .settings; track = b .track; going = b .going; memory = b .memory; due = d; dormant = b .dormant }
+withDue d b = record { settings = b .settings; track = b .track; going = b .going; memory = b .memory; sums = b .sums; due = d; dormant = b .dormant }
 
 abbrev pub withDormant : Bool → BallBox → BallBox
-withDormant d b = record { settings = b .settings; track = b .track; going = b .going; memory = b .memory; due = b .due; dormant = d }
+withDormant d b = record { settings = b .settings; track = b .track; going = b .going; memory = b .memory; sums = b .sums; due = b .due; dormant = d }
 
 abbrev pub withFormat : ℕ → BallBox → BallBox
 withFormat f b = withSettings (record { format = f; mode = b .settings .mode; buttons = b .settings .buttons }) b
@@ -42,6 +48,13 @@ withMode m b = withSettings (record { format = b .settings .format; mode = m; bu
 
 abbrev pub withButtons : ℕ → BallBox → BallBox
 withButtons n b = withSettings (record { format = b .settings .format; mode = b .settings .mode; buttons = n }) b
+
+-- "The box adds up the two kinds apart": an excess over the report's limit, and one over the counter's 16 bits
+abbrev pub overLimit : Excess → BallBox → BallBox
+overLimit e b = withSums (sums (added (b .sums .limit) e) (b .sums .counter)) b
+
+abbrev pub overCounter : Excess → BallBox → BallBox
+overCounter e b = withSums (sums (b .sums .limit) (added (b .sums .counter) e)) b
 
 abbrev pub pair : ℤ → ℤ → Pair
 pair x y = record { x = x; y = y }
@@ -75,7 +88,7 @@ abbrev pub modeD : ℕ
 modeD = 0x44
 
 -- "Fresh: format U, mode O, buttons 0, position, last position and counters 0, nothing going, nothing due, awake."
--- None is remembered.
+-- None is remembered, and nothing was thrown away.
 unfoldable pub freshBox : BallBox
 freshBox =
     record {
@@ -83,6 +96,7 @@ freshBox =
       track = record { counter = zeros; position = zeros; last = zeros };
       going = nothing;
       memory = none;
+      sums = noSums;
       due = false;
       dormant = false;
     }

@@ -10,9 +10,9 @@ use Rattle.wire.specs.Line.{letterOf}
 use Rattle.wire.specs.Numbers.{success}
 use Rattle.wire.specs.Reading.{at}
 use Rattle.wire.specs.declared.Format.the-variants.{FiveByte}
-use Rattle.ballbox.specs.Box.{modeO, nothing, withButtons, withTrack, withGoing, withMemory, withDue, withDormant, Step}
+use Rattle.ballbox.specs.Box.{modeO, nothing, withButtons, withTrack, withGoing, withMemory, withDue, withDormant, overCounter, Step}
 use Rattle.ballbox.specs.Presses.{anyRemembered, remembering, shown, hidden}
-use Rattle.ballbox.specs.Motion.{movedBy, hasMoved}
+use Rattle.ballbox.specs.Motion.{countedOver, movedBy, hasMoved}
 use Rattle.ballbox.specs.Latching.{latched, secondLatched}
 use Rattle.ballbox.specs.Commands.{isTimed, isStream, commandOf, obeyed, replying, ack}
 use Rattle.ballbox.specs.declared.Going.{Going}
@@ -34,7 +34,7 @@ moved b = hasMoved (b .settings .format) (b .track)
 
 -- Motion: "Each counter takes the sum", and the position
 abbrev pub onMotion : ℤ → ℤ → BallBox → BallBox
-onMotion dx dy b = withTrack (movedBy dx dy (b .track)) b
+onMotion dx dy b = overCounter (countedOver (b .track .counter) dx dy) (withTrack (movedBy dx dy (b .track)) b)
 
 -- Buttons: "A change is kept"; "In stream modes the box shall remember button states", "prompt mode remembers nothing"; "Buttons no longer
 -- sets due itself"

@@ -4,7 +4,7 @@ use mathlib.Core.Bool.{false, cond}
 use lib.Dec.{eqb}
 use lib.IntN.{ℤ, pos}
 use lib.ListN.{set}
-use Rattle.numbers.specs.Signed.{minus, held}
+use Rattle.numbers.specs.Signed.{minus, held, excess}
 use Rattle.wire.specs.Line.{letterOf}
 use Rattle.wire.specs.Table.{bytesOf, bytesBy}
 use Rattle.wire.specs.Holds.{_to_}
@@ -12,12 +12,14 @@ use Rattle.wire.specs.Reading.{report, at}
 use Rattle.wire.specs.declared.Report.{Report}
 use Rattle.wire.specs.declared.Range.{Range}
 use Rattle.wire.specs.declared.Format.the-variants.{Relative, FiveByte}
-use Rattle.ballbox.specs.Box.{pair, zeros, goingFrom, withTrack, withGoing, withMemory, withDue}
+use Rattle.ballbox.specs.Thrown.{excesses}
+use Rattle.ballbox.specs.Box.{pair, zeros, goingFrom, withTrack, withGoing, withMemory, withDue, overLimit}
 use Rattle.ballbox.specs.Presses.{toShow, showingFirst}
 use Rattle.ballbox.specs.Motion.{isA}
 use Rattle.ballbox.specs.declared.Pair.{Pair}
 use Rattle.ballbox.specs.declared.Track.{Track}
 use Rattle.ballbox.specs.declared.Going.{Going}
+use Rattle.ballbox.specs.declared.Excess.{Excess}
 use Rattle.ballbox.specs.declared.BallBox.{BallBox}
 
 -- "Movement is held to -127..127 in the eight-bit formats (000 section 10) and to -2048..2047 in B; the excess is lost."
@@ -31,6 +33,10 @@ limits letter =
 unfoldable pub limited : ℕ → ℤ → ℤ
 limited letter v = held (limits letter .low) (limits letter .high) v
 
+-- "Whatever limits a movement shall also give back the excess, with its sign"
+unfoldable pub limitExcess : ℕ → ℤ → ℤ
+limitExcess letter v = excess (limits letter .low) (limits letter .high) v
+
 -- "Latching takes buttons and movement (in A the position, otherwise the counters)"
 unfoldable pub movement : ℕ → Track → Pair
 movement letter t = cond (isA letter) (t .position) (t .counter)
@@ -38,9 +44,16 @@ movement letter t = cond (isA letter) (t .position) (t .counter)
 unfoldable pub taken : ℕ → Track → Pair
 taken letter t = pair (limited letter (movement letter t .x)) (limited letter (movement letter t .y))
 
+unfoldable pub takenOver : ℕ → Track → Excess
+takenOver letter t = excesses (limitExcess letter (movement letter t .x)) (limitExcess letter (movement letter t .y))
+
 -- "clears the counters and sets last position to position"
 unfoldable pub cleared : Track → Track
 cleared t = record { counter = zeros; position = t .position; last = t .position }
+
+-- the movement is taken out of the box, and its excess added up; "the excess is lost" to the reports
+abbrev pub movementTaken : BallBox → BallBox
+movementTaken b = overLimit (takenOver (b .settings .format) (b .track)) (withTrack (cleared (b .track)) b)
 
 -- the report that is latched, with the buttons that it is to show; in U its second pair is zero: "bytes 4 and 5 are held as 0 until then"
 unfoldable pub latchedReport : BallBox → Report
@@ -51,9 +64,8 @@ latchedReport b =
 unfoldable pub latched : BallBox → BallBox
 latched b =
     withDue false
-    (withTrack (cleared (b .track))
     (withMemory (showingFirst (b .memory))
-    (withGoing (goingFrom (bytesBy (b .settings .format) (latchedReport b))) b)))
+    (withGoing (goingFrom (bytesBy (b .settings .format) (latchedReport b))) (movementTaken b)))
 
 -- a report of U that has nothing but its second pair
 abbrev pub secondOnly : Pair → Report
@@ -70,5 +82,4 @@ withSecond p g =
 
 -- "In U, the second pair is latched the same way, without buttons"; "due stays"
 unfoldable pub secondLatched : BallBox → BallBox
-secondLatched b =
-    withTrack (cleared (b .track)) (withGoing (withSecond (taken (b .settings .format) (b .track)) (b .going)) b)
+secondLatched b = withGoing (withSecond (taken (b .settings .format) (b .track)) (b .going)) (movementTaken b)

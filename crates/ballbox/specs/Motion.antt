@@ -4,16 +4,22 @@ use mathlib.Core.Bool.{Bool, cond, _||_}
 use lib.Dec.{eqb}
 use lib.IntN.{ℤ, pos, _+ℤ_}
 use lib.Signed.{ltZ}
-use Rattle.numbers.specs.Signed.{held, heldSum}
+use Rattle.numbers.specs.Signed.{held, heldSum, sumExcess}
 use Rattle.wire.specs.Line.{letterOf}
 use Rattle.wire.specs.declared.Format.the-variants.{Absolute}
+use Rattle.ballbox.specs.Thrown.{excesses}
 use Rattle.ballbox.specs.Box.{pair, zeros}
 use Rattle.ballbox.specs.declared.Pair.{Pair}
 use Rattle.ballbox.specs.declared.Track.{Track}
+use Rattle.ballbox.specs.declared.Excess.{Excess}
 
 -- "Each counter takes the sum, held at -32768 and 32767."
 unfoldable pub counted : Pair → ℤ → ℤ → Pair
 counted c dx dy = pair (heldSum (c .x) dx) (heldSum (c .y) dy)
+
+-- "and whatever holds the counter at 16 bits likewise"
+unfoldable pub countedOver : Pair → ℤ → ℤ → Excess
+countedOver c dx dy = excesses (sumExcess (c .x) dx) (sumExcess (c .y) dy)
 
 -- "The position takes it too, held in 0 to 4095."
 unfoldable pub placedAt : ℤ → ℤ → ℤ

@@ -18,6 +18,7 @@ use crate::SILENCE;
 use crate::SUCCESS;
 use crate::Sent;
 use crate::Stepped;
+use crate::Track;
 use crate::commands::ACK;
 use crate::commands::heard;
 use crate::commands::is_stream;
@@ -89,12 +90,24 @@ impl BallBox {
         track.has_moved(self.settings.format)
     }
 
-    // Each counter takes the sum, and so does the position.
+    // Each counter takes the sum, and so does the position; the counters' excess is added up.
     fn on_motion(mut self, dx: i16, dy: i16) -> BallBox
         ensures { λ r. ⌜ r ≡ onMotion dx dy self ⌝ }
     {
         let track = self.track;
-        self.track = track.moved_by(dx, dy);
+        let counter = track.counter;
+        let position = track.position;
+        let last = track.last;
+        let counted = counter.counted(dx, dy);
+        let held = counted.value;
+        let moved = Track {
+            counter: held,
+            position: position.placed(dx, dy),
+            last: last,
+        };
+        let sums = self.sums;
+        self.track = moved;
+        self.sums = sums.over_counter(counted.excess);
         self
     }
 

@@ -5,8 +5,10 @@ ghost use Prim.Native.Nat.{_≤_};
 ghost use Rattle.wire.specs.Holds.{acceptedBy};
 ghost use Rattle.wire.specs.Table.{five, bytesBy};
 ghost use Rattle.ballbox.specs.Presses.{toShow};
-ghost use Rattle.ballbox.specs.Latching.{limits, limited, movement, taken, cleared, latched, secondLatched};
+ghost use Rattle.ballbox.specs.Latching.{limits, limited, limitExcess, movement, taken, takenOver, cleared, latched, secondLatched};
 use crate::BallBox;
+use crate::Bounded;
+use crate::BoundedPair;
 use crate::FORMAT_A;
 use crate::FORMAT_B;
 use crate::FORMAT_U;
@@ -14,6 +16,7 @@ use crate::Going;
 use crate::Pair;
 use crate::Track;
 use crate::motion::held;
+use crate::thrown::both;
 use wire::Range;
 use wire::Report;
 
@@ -34,9 +37,9 @@ fn limits(letter: u8) -> Range
     }
 }
 
-// A movement held to the limits; the excess is lost.
-fn limited(letter: u8, v: i16) -> i16
-    ensures { λ r. ⌜ r ≡ limited letter v ⌝ }
+// A movement held to the limits, and the excess.
+fn limited(letter: u8, v: i16) -> Bounded
+    ensures { λ r. ⌜ r ≡ record { value = limited letter v; excess = limitExcess letter v } ⌝ }
 {
     let range = limits(letter);
     held(v as i32, range.low, range.high)
@@ -76,13 +79,13 @@ impl Track {
         }
     }
 
-    fn taken(self, letter: u8) -> Pair
-        ensures { λ r. ⌜ r ≡ taken letter self ⌝ }
+    fn taken(self, letter: u8) -> BoundedPair
+        ensures { λ r. ⌜ r ≡ record { value = taken letter self; excess = takenOver letter self } ⌝ }
     {
         let movement = self.movement(letter);
         let x = limited(letter, movement.x);
         let y = limited(letter, movement.y);
-        Pair { x, y }
+        both(x, y)
     }
 }
 
@@ -94,7 +97,8 @@ impl BallBox {
     {
         let letter = self.settings.format;
         let track = self.track;
-        let pair = track.taken(letter);
+        let taken = track.taken(letter);
+        let pair = taken.value;
         let report = Report {
             buttons: self.to_show(),
             x1: pair.x,
@@ -108,8 +112,10 @@ impl BallBox {
             bytes: encoded(letter, report),
         };
         let memory = self.memory;
+        let sums = self.sums;
         self.going = going;
         self.memory = memory.showing_first();
+        self.sums = sums.over_limit(taken.excess);
         self.track = track.cleared();
         self.due = false;
         self
@@ -121,7 +127,8 @@ impl BallBox {
         ensures { λ r. ⌜ r ≡ secondLatched self ⌝ }
     {
         let track = self.track;
-        let pair = track.taken(self.settings.format);
+        let taken = track.taken(self.settings.format);
+        let pair = taken.value;
         let report = Report {
             buttons: 0,
             x1: 0,
@@ -130,10 +137,12 @@ impl BallBox {
             y2: pair.y,
         };
         let second = encoded(FORMAT_U, report);
+        let sums = self.sums;
         let mut going = self.going;
         going.bytes[3] = second[3];
         going.bytes[4] = second[4];
         self.going = going;
+        self.sums = sums.over_limit(taken.excess);
         self.track = track.cleared();
         self
     }

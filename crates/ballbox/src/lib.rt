@@ -9,6 +9,7 @@ mod good;
 mod latching;
 mod motion;
 mod presses;
+mod thrown;
 
 // The letters of the formats and of the modes.
 pub(crate) const FORMAT_A: u8 = b'A';
@@ -83,12 +84,37 @@ pub struct Memory {
     pub showing: bool,
 }
 
-// What is set, counted, going and remembered; whether a report is due; whether the box is dormant.
+// A number held between two ends, and the excess, with its sign.
+pub struct Bounded {
+    pub value: i16,
+    pub excess: i64,
+}
+
+// An excess, or a sum of excesses, x and y.
+pub struct Excess {
+    pub x: i64,
+    pub y: i64,
+}
+
+// Two numbers held, and the excess of either.
+pub struct BoundedPair {
+    pub value: Pair,
+    pub excess: Excess,
+}
+
+// What was thrown away, added up: over the report's limit, and over the counter's 16 bits.
+pub struct Sums {
+    pub limit: Excess,
+    pub counter: Excess,
+}
+
+// What is set, counted, going, remembered and thrown away; whether a report is due; whether the box is dormant.
 pub struct BallBox {
     pub settings: Settings,
     pub track: Track,
     pub going: Going,
     pub memory: Memory,
+    pub sums: Sums,
     pub due: bool,
     pub dormant: bool,
 }
@@ -160,11 +186,12 @@ pub(crate) fn nothing() -> Going
 }
 
 impl BallBox {
-    // Format U, mode O, nothing pressed, moved, going, remembered or due, awake.
+    // Format U, mode O, nothing pressed, moved, going, remembered, thrown away or due, awake.
     pub fn fresh() -> BallBox
         ensures { λ r. ⌜ FreshPromise r ⌝ }
     {
         let zeros = Pair { x: 0, y: 0 };
+        let none = Excess { x: 0, y: 0 };
         BallBox {
             settings: Settings {
                 format: FORMAT_U,
@@ -178,6 +205,10 @@ impl BallBox {
             },
             going: nothing(),
             memory: presses::none(),
+            sums: Sums {
+                limit: none,
+                counter: none,
+            },
             due: false,
             dormant: false,
         }

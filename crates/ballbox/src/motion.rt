@@ -1,25 +1,45 @@
 // Motion: held sums, the track, and whether the box has moved.
 ghost use mathlib.Core.Path.{_≡_};
-ghost use lib.IntN.{_+ℤ_};
-ghost use Rattle.numbers.specs.Signed.{held, heldSum};
-ghost use Rattle.ballbox.specs.Motion.{placedAt, counted, placed, movedBy, apart, hasMoved};
+ghost use lib.IntN.{_+ℤ_, _-ℤ_};
+ghost use Rattle.numbers.specs.Signed.{heldSum, sumExcess};
+ghost use Rattle.ballbox.specs.Thrown.{bounded};
+ghost use Rattle.ballbox.specs.Motion.{placedAt, counted, countedOver, placed, apart, hasMoved};
+use crate::Bounded;
+use crate::BoundedPair;
 use crate::FORMAT_A;
 use crate::Pair;
 use crate::Track;
+use crate::thrown::both;
 
-// x held at lo and hi.
-pub(crate) fn held(x: i32, lo: i16, hi: i16) -> i16
-    ensures { λ r. ⌜ r ≡ held lo hi x ⌝ }
+// How far x lies from an end.
+fn beyond(x: i32, end: i16) -> i64
+    ensures { λ r. ⌜ r ≡ x -ℤ end ⌝ }
+{
+    (x as i64) - (end as i64)
+}
+
+// x held at lo and hi, and the excess.
+pub(crate) fn held(x: i32, lo: i16, hi: i16) -> Bounded
+    ensures { λ r. ⌜ r ≡ bounded lo hi x ⌝ }
 {
     let low = lo as i32;
     let high = hi as i32;
     if x < low {
-        return lo;
+        return Bounded {
+            value: lo,
+            excess: beyond(x, lo),
+        };
     }
     if high < x {
-        return hi;
+        return Bounded {
+            value: hi,
+            excess: beyond(x, hi),
+        };
     }
-    x as i16
+    Bounded {
+        value: x as i16,
+        excess: 0,
+    }
 }
 
 // The sum of two, which 32 bits hold.
@@ -29,9 +49,9 @@ fn total(a: i16, b: i16) -> i32
     (a as i32) + (b as i32)
 }
 
-// The sum of two, held at the ends of 16 bits.
-fn held_sum(a: i16, b: i16) -> i16
-    ensures { λ r. ⌜ r ≡ heldSum a b ⌝ }
+// The sum of two, held at the ends of 16 bits, and the excess.
+fn held_sum(a: i16, b: i16) -> Bounded
+    ensures { λ r. ⌜ r ≡ record { value = heldSum a b; excess = sumExcess a b } ⌝ }
 {
     held(total(a, b), -32768, 32767)
 }
@@ -40,19 +60,21 @@ fn held_sum(a: i16, b: i16) -> i16
 fn placed_at(a: i16, b: i16) -> i16
     ensures { λ r. ⌜ r ≡ placedAt a b ⌝ }
 {
-    held(total(a, b), 0, 4095)
+    let place = held(total(a, b), 0, 4095);
+    place.value
 }
 
 impl Pair {
-    fn counted(self, dx: i16, dy: i16) -> Pair
-        ensures { λ r. ⌜ r ≡ counted self dx dy ⌝ }
+    // The counters' sums, and what 16 bits do not hold of them.
+    pub(crate) fn counted(self, dx: i16, dy: i16) -> BoundedPair
+        ensures { λ r. ⌜ r ≡ record { value = counted self dx dy; excess = countedOver self dx dy } ⌝ }
     {
         let x = held_sum(self.x, dx);
         let y = held_sum(self.y, dy);
-        Pair { x, y }
+        both(x, y)
     }
 
-    fn placed(self, dx: i16, dy: i16) -> Pair
+    pub(crate) fn placed(self, dx: i16, dy: i16) -> Pair
         ensures { λ r. ⌜ r ≡ placed self dx dy ⌝ }
     {
         let x = placed_at(self.x, dx);
@@ -69,19 +91,6 @@ impl Pair {
 }
 
 impl Track {
-    pub(crate) fn moved_by(self, dx: i16, dy: i16) -> Track
-        ensures { λ r. ⌜ r ≡ movedBy dx dy self ⌝ }
-    {
-        let counter = self.counter;
-        let position = self.position;
-        let last = self.last;
-        Track {
-            counter: counter.counted(dx, dy),
-            position: position.placed(dx, dy),
-            last: last,
-        }
-    }
-
     // In A the position differs from the last; else a counter is not 0.
     pub(crate) fn has_moved(self, letter: u8) -> bool
         ensures { λ r. ⌜ r ≡ hasMoved letter self ⌝ }

@@ -1,16 +1,17 @@
 -- Numbers held between two ends, and the sums that are held at 16 bits.
-use Prim.Native.Nat.{ℕ, suc, _+_, _-_, _≤_, _<_, _^_}
-use mathlib.Core.Path.{_≡_, refl, subst}
-use mathlib.Core.Bool.{Bool, true, false, cond, _&&_}
+use Prim.Native.Nat.{ℕ, zero, suc, _+_, _-_, _≤_, _<_, _^_}
+use mathlib.Core.Path.{_≡_, refl, sym, ap, subst, _∙_}
+use mathlib.Core.Bool.{Bool, true, false, not, cond, _&&_}
 use native.Mathlib.Omega.{arith}
-use lib.IntN.{ℤ, pos, negsuc, _+ℤ_, subℕ}
-use lib.Dec.{T, ltb}
-use lib.Signed.{mag, ltZ, leZ}
-use mir.Syntax.{Width, w16, w32}
+use lib.IntN.{ℤ, pos, negsuc, negℤ, _+ℤ_, _-ℤ_, subℕ, +ℤ-idr, +ℤ-comm, +ℤ-assoc, negℤ-+ℤ, +ℤ-negℤ-cancel, -ℤ-+ℤ-cancel}
+use lib.Dec.{T, ltb, leb·suc-suc}
+use lib.Signed.{mag, ltZ, leZ, nonNeg}
+use mir.Syntax.{Width, w16, w32, w64}
 use mir.Val.{SFits, hbits}
-use borrow.Author.Tests.{ltb-false, leb-true, le-ltb, le-leb}
-use Rattle.numbers.specs.Signed.{held}
+use borrow.Author.Tests.{ltb-false, leb-true, lt-ltb, le-ltb, le-leb}
+use Rattle.numbers.specs.Signed.{held, excess}
 use Rattle.numbers.proofs.Tested.{left, right, holds}
+use Rattle.numbers.proofs.Machine.{neg-near}
 
 -- what lies between two numbers of a width is a number of the width
 near-between : (m : ℕ) (lo hi x : ℤ) → mag lo < m → mag hi < m → ltZ x lo ≡ false → ltZ hi x ≡ false → mag x < m
@@ -71,6 +72,84 @@ pub held-same : (lo hi x : ℤ) → leZ lo x && leZ x hi ≡ true → held lo hi
 unfolding held
 held-same lo hi x e = rw (leZ-ltZ x lo (left (leZ lo x) (leZ x hi) e), leZ-ltZ hi x (right (leZ lo x) (leZ x hi) e))
 
+-- what is held, and the excess, make up the number
+made-up : (lo hi x : ℤ) (s t : Bool) → cond s lo (cond t hi x) +ℤ cond s (x -ℤ lo) (cond t (x -ℤ hi) (pos 0)) ≡ x
+made-up lo hi x true t = +ℤ-comm lo (x -ℤ lo) ∙ -ℤ-+ℤ-cancel x lo
+made-up lo hi x false true = +ℤ-comm hi (x -ℤ hi) ∙ -ℤ-+ℤ-cancel x hi
+made-up lo hi x false false = +ℤ-idr x
+
+pub held-excess : (lo hi x : ℤ) → held lo hi x +ℤ excess lo hi x ≡ x
+unfolding held excess
+held-excess lo hi x = made-up lo hi x (ltZ x lo) (ltZ hi x)
+
+-- what lies between the ends has no excess
+pub excess-none : (lo hi x : ℤ) → leZ lo x && leZ x hi ≡ true → excess lo hi x ≡ pos 0
+unfolding excess
+excess-none lo hi x e = rw (leZ-ltZ x lo (left (leZ lo x) (leZ x hi) e), leZ-ltZ hi x (right (leZ lo x) (leZ x hi) e))
+
+-- a number is below another where their difference is below 0: adding to both changes nothing
+sub-sign : (a b : ℕ) → ltb a b ≡ not (nonNeg (subℕ a b))
+sub-sign a b = go (ltb a b) (b - suc a) (a - b)
+  where
+    go : (t : Bool) (x y : ℕ) → t ≡ not (nonNeg (cond t (negsuc x) (pos y)))
+    go true x y = refl
+    go false x y = refl
+
+difference : (x y : ℤ) → ltZ x y ≡ not (nonNeg (x -ℤ y))
+difference (pos a) (pos zero) = le-ltb a 0 (omega arith)
+difference (pos a) (pos (suc b)) = sub-sign a (suc b)
+difference (pos a) (negsuc b) = refl
+difference (negsuc a) (pos zero) = sym (lt-ltb 0 (suc a) (omega arith)) ∙ sub-sign 0 (suc a)
+difference (negsuc a) (pos (suc b)) = refl
+difference (negsuc a) (negsuc b) = sym (leb·suc-suc (suc b) a) ∙ sub-sign (suc b) (suc a)
+
+plus-both : (x y c : ℤ) → (x +ℤ c) -ℤ (y +ℤ c) ≡ x -ℤ y
+plus-both x y c =
+    ap (λ (z : ℤ). x +ℤ c +ℤ z) (negℤ-+ℤ y c ∙ +ℤ-comm (negℤ y) (negℤ c)) ∙
+    (sym (+ℤ-assoc (x +ℤ c) (negℤ c) (negℤ y)) ∙ ap (λ (z : ℤ). z +ℤ negℤ y) (+ℤ-negℤ-cancel x c))
+
+pub ltZ-plus : (x y c : ℤ) → ltZ (x +ℤ c) (y +ℤ c) ≡ ltZ x y
+ltZ-plus x y c = difference (x +ℤ c) (y +ℤ c) ∙ (ap (λ (z : ℤ). not (nonNeg z)) (plus-both x y c) ∙ sym (difference x y))
+
+-- so a sum is compared without being made: with an end, less one of the two
+pub below-less : (a b lo : ℤ) → ltZ a (lo -ℤ b) ≡ ltZ (a +ℤ b) lo
+below-less a b lo = sym (ltZ-plus a (lo -ℤ b) b) ∙ ap (ltZ (a +ℤ b)) (-ℤ-+ℤ-cancel lo b)
+
+pub above-less : (a b hi : ℤ) → ltZ (hi -ℤ b) a ≡ ltZ hi (a +ℤ b)
+above-less a b hi = sym (ltZ-plus (hi -ℤ b) a b) ∙ ap (λ (z : ℤ). ltZ z (a +ℤ b)) (-ℤ-+ℤ-cancel hi b)
+
+-- a number below 0 takes nothing over the upper end, and another nothing under the lower
+not-cond : (t : Bool) (x y : ℤ) → ltZ x y ≡ false → (z : ℤ) → ltZ x z ≡ false → ltZ x (cond t y z) ≡ false
+not-cond true x y h z k = h
+not-cond false x y h z k = k
+
+cond-not : (t : Bool) (x y : ℤ) → ltZ y x ≡ false → (z : ℤ) → ltZ z x ≡ false → ltZ (cond t y z) x ≡ false
+cond-not true x y h z k = h
+cond-not false x y h z k = k
+
+pub not-over : (m : ℕ) (a b : ℤ) → mag a < suc m → ltZ b (pos 0) ≡ true → ltZ (pos m) (a +ℤ b) ≡ false
+not-over m a (pos b) h e = absurd (holds (sym (le-ltb b 0 (omega arith)) ∙ e))
+not-over m (pos a) (negsuc b) h e = not-cond (ltb a (suc b)) (pos m) _ refl (pos (a - suc b)) (le-ltb m (a - suc b) (omega arith))
+not-over m (negsuc a) (negsuc b) h e = refl
+
+pub not-under : (m : ℕ) (a b : ℤ) → mag a < suc m → ltZ b (pos 0) ≡ false → ltZ (a +ℤ b) (negsuc m) ≡ false
+not-under m a (negsuc b) h e = absurd (subst T e tt)
+not-under m (pos a) (pos b) h e = refl
+not-under m (negsuc a) (pos b) h e = cond-not (ltb b (suc a)) (negsuc m) (negsuc (suc a - suc b)) (le-ltb m (suc a - suc b) (omega arith)) _ refl
+
+-- what is held and lies at neither end is the number itself
+not-self : (a : ℤ) → ltZ a a ≡ false
+not-self a = leZ-ltZ a a (leZ-self a)
+
+not-held : (lo hi x : ℤ) (s t : Bool) → ltZ lo (cond s lo (cond t hi x)) && ltZ (cond s lo (cond t hi x)) hi ≡ true → cond s lo (cond t hi x) ≡ x
+not-held lo hi x true t e = absurd (holds (sym (not-self lo) ∙ left (ltZ lo lo) (ltZ lo hi) e))
+not-held lo hi x false true e = absurd (holds (sym (not-self hi) ∙ right (ltZ lo hi) (ltZ hi hi) e))
+not-held lo hi x false false e = refl
+
+pub held-plain : (lo hi x : ℤ) → ltZ lo (held lo hi x) && ltZ (held lo hi x) hi ≡ true → held lo hi x ≡ x
+unfolding held
+held-plain lo hi x e = not-held lo hi x (ltZ x lo) (ltZ hi x) e
+
 -- the sum of two 16-bit numbers fits 32 bits, and held it fits 16
 mag-cond : (t : Bool) {x y m : ℕ} → x ≤ m → y ≤ m → mag (cond t (negsuc x) (pos y)) ≤ m
 mag-cond true h k = h
@@ -90,3 +169,23 @@ mag-sum (negsuc a) (negsuc b) = omega arith
 
 pub sum-fits : {a b : ℤ} → SFits w16 a → SFits w16 b → SFits w32 (a +ℤ b)
 sum-fits {a} {b} h k = record { sfits = omega (arith, mag-sum a b, h .sfits, k .sfits) }
+
+-- and an end, less a number of its own side, is in the range
+pub room-below : (m : ℕ) (b : ℤ) → mag b < suc m → ltZ b (pos 0) ≡ true → mag (negsuc m -ℤ b) < suc m
+room-below m (pos b) h e = absurd (holds (sym (le-ltb b 0 (omega arith)) ∙ e))
+room-below m (negsuc b) h e =
+    let x : suc m - suc (suc b) ≤ m = omega arith in
+    let y : suc b - suc m ≤ m = omega arith in
+    omega (arith, mag-cond (ltb (suc b) (suc m)) x y)
+
+pub room-above : (m : ℕ) (b : ℤ) → mag b < suc m → ltZ b (pos 0) ≡ false → mag (pos m -ℤ b) < suc m
+room-above m (negsuc b) h e = absurd (subst T e tt)
+room-above m (pos zero) h e = omega arith
+room-above m (pos (suc b)) h e =
+    let x : suc b - suc m ≤ m = omega arith in
+    let y : m - suc b ≤ m = omega arith in
+    omega (arith, mag-cond (ltb m (suc b)) x y)
+
+-- and the difference of two of 32 bits fits 64
+pub difference-fits : {a b : ℤ} → SFits w32 a → SFits w32 b → SFits w64 (a -ℤ b)
+difference-fits {a} {b} h k = record { sfits = omega (arith, mag-sum a (negℤ b), neg-near b, h .sfits, k .sfits) }

@@ -3,6 +3,6 @@ pub mod Tested
 pub mod Choices
 pub mod Rows
 pub mod Twos
+pub mod Machine
 pub mod Held
 pub mod Ones
-pub mod Machine

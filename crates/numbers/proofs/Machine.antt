@@ -17,7 +17,7 @@ pub passed : {X : Type 0} (f : ℤ → ℤ → X) (w : Width) {a b : ℤ} {z : X
 passed f w h k e = e ∙ ap₂ f (toZ-ofZ h) (toZ-ofZ k)
 
 -- a negation, which a program writes as 0 - z, fits and is what it says, but for the lowest number of the width
-neg-near : (z : ℤ) → mag (negℤ z) ≤ suc (mag z)
+pub neg-near : (z : ℤ) → mag (negℤ z) ≤ suc (mag z)
 neg-near (pos zero) = omega arith
 neg-near (pos (suc n)) = omega arith
 neg-near (negsuc n) = omega arith

@@ -2,7 +2,7 @@
 use Prim.Native.Nat.{ℕ, suc, _+_, _-_}
 use mathlib.Core.Bool.{Bool, cond}
 use lib.Dec.{ltb}
-use lib.IntN.{ℤ, pos, negsuc, negℤ, _+ℤ_}
+use lib.IntN.{ℤ, pos, negsuc, negℤ, _+ℤ_, _-ℤ_}
 use lib.Signed.{ltZ}
 
 -- -n, as the papers write it
@@ -27,6 +27,10 @@ signed positive m = cond positive (pos m) (negℤ (pos m))
 unfoldable pub held : ℤ → ℤ → ℤ → ℤ
 held lo hi x = cond (ltZ x lo) lo (cond (ltZ hi x) hi x)
 
+-- the excess of x over lo and hi, with its sign: below 0 for what is below lo, above 0 for what is above hi
+unfoldable pub excess : ℤ → ℤ → ℤ → ℤ
+excess lo hi x = cond (ltZ x lo) (x -ℤ lo) (cond (ltZ hi x) (x -ℤ hi) (pos 0))
+
 -- the ends of a 16-bit signed number
 abbrev pub least : ℤ
 least = negsuc 32767
@@ -37,3 +41,18 @@ most = pos 32767
 -- the sum of two, held at -32768 and 32767
 unfoldable pub heldSum : ℤ → ℤ → ℤ
 heldSum a b = held least most (a +ℤ b)
+
+-- and the excess of the sum
+unfoldable pub sumExcess : ℤ → ℤ → ℤ
+sumExcess a b = excess least most (a +ℤ b)
+
+-- the ends of a 64-bit signed number
+abbrev pub leastLong : ℤ
+leastLong = negsuc 9223372036854775807
+
+abbrev pub mostLong : ℤ
+mostLong = pos 9223372036854775807
+
+-- the sum of two, held at them
+unfoldable pub heldLong : ℤ → ℤ → ℤ
+heldLong a b = held leastLong mostLong (a +ℤ b)

@@ -3,10 +3,12 @@ use borrow.Author.Needs.{needs}
 use lib.Signed.{ltZ}
 use mathlib.Core.Path.{_≡_, sym, _∙_}
 use mir.Facts.{sfits-widen, toZ-ofZ}
-use mir.Syntax.{w16, w32}
+use mir.Syntax.{w16, w32, w64}
 use mir.Val.{SFits, toZ, ofZ}
+use Rattle.ballbox.specs.Thrown.{bounded}
 use Rattle.numbers.proofs.Held.{between-fits}
-use Rattle.numbers.specs.Signed.{held}
+use Rattle.numbers.proofs.Machine.{kept}
+use Rattle.numbers.specs.Signed.{held, excess}
 use Rattle.ballbox.proofs.motion.held.Statement.{statement}
 use Rattle.ballbox.proofs.motion.held.Tie as tie
 
@@ -23,23 +25,37 @@ between c =
     (sym (high-test (c .before .before)) ∙ c .if2 .left)
 
 returns : tie.Need-returns
-unfolding held
-returns c = simp (sym (low-test (c .before)) ∙ c .if1 .taken, toZ-ofZ (c .before .fits .lo))
+unfolding bounded held excess
+returns c =
+    let s = c .before .before in
+    let e = simp (toZ-ofZ (s .fits .x), toZ-ofZ (s .fits .lo)) at (c .beyond .ensures) in
+    simp (sym (low-test s) ∙ c .before .if1 .taken, toZ-ofZ (s .fits .lo), kept w64 (c .beyond .ok) e)
 
 returns-2 : tie.Need-returns-2
-unfolding held
+unfolding bounded held excess
 returns-2 c =
-    simp
-    (sym (low-test (c .before .before)) ∙ c .before .if1 .left, sym (high-test (c .before .before)) ∙ c .if2 .taken, toZ-ofZ (c .before .before .fits .hi))
+    let s = c .before .before .before in
+    let e = simp (toZ-ofZ (s .fits .x), toZ-ofZ (s .fits .hi)) at (c .beyond2 .ensures) in
+    simp (sym (low-test s) ∙ c .before .before .if1 .left, sym (high-test s) ∙ c .before .if2 .taken, toZ-ofZ (s .fits .hi), kept w64 (c .beyond2 .ok) e)
 
-cast-result : tie.Need-cast-result
-cast-result c = let f = between c in search needs
+cast-value : tie.Need-cast-t9
+cast-value c = let f = between c in search needs
 
 returns-3 : tie.Need-returns-3
-unfolding held
+unfolding bounded held excess
 returns-3 c =
     simp
     (sym (low-test (c .before .before)) ∙ c .before .if1 .left, sym (high-test (c .before .before)) ∙ c .if2 .left, toZ-ofZ (c .before .before .fits .x), toZ-ofZ (between c))
 
 pub held-spec : {M : Type 1} → statement M
-held-spec = tie.close (tie.spec (λ c. search (needs, sfits-widen)) (λ c. search (needs, sfits-widen)) returns returns-2 cast-result returns-3)
+held-spec =
+    tie.close
+    (tie.spec
+    (λ c. search (needs, sfits-widen))
+    (λ c. search (needs, sfits-widen))
+    (λ c κs. search needs)
+    returns
+    (λ c κs. search needs)
+    returns-2
+    cast-value
+    returns-3)
