@@ -91,6 +91,7 @@ pub struct Bounded {
 }
 
 // An excess, or a sum of excesses, x and y.
+#[repr(C)]
 pub struct Excess {
     pub x: i64,
     pub y: i64,
@@ -103,6 +104,7 @@ pub struct BoundedPair {
 }
 
 // What was thrown away, added up: over the report's limit, and over the counter's 16 bits.
+#[repr(C)]
 pub struct Sums {
     pub limit: Excess,
     pub counter: Excess,

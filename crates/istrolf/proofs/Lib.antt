@@ -4,3 +4,5 @@ pub mod Marks
 pub mod RoundTrip
 pub mod Answers
 pub mod Below
+pub mod Demand3
+pub mod Presses

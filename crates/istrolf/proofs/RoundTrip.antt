@@ -32,6 +32,7 @@ box-there b = λ i.
       track = b .track;
       going = b .going;
       memory = record { states = b .memory .states; count = b .memory .count; showing = mark-back (b .memory .showing) i };
+      sums = b .sums;
       due = mark-back (b .due) i;
       dormant = mark-back (b .dormant) i;
     }
@@ -48,6 +49,7 @@ box-back h s =
       track = h .track;
       going = h .going;
       memory = record { states = h .memory .states; count = h .memory .count; showing = showing i };
+      sums = h .sums;
       due = due i;
       dormant = dormant i;
     }

@@ -24,6 +24,7 @@ packed b =
       track = b .track;
       going = b .going;
       memory = packedMemory (b .memory);
+      sums = b .sums;
       due = mark (b .due);
       dormant = mark (b .dormant);
     }
@@ -35,6 +36,7 @@ unpacked h =
       track = h .track;
       going = h .going;
       memory = unpackedMemory (h .memory);
+      sums = h .sums;
       due = marked (h .due);
       dormant = marked (h .dormant);
     }

@@ -4,3 +4,5 @@ pub mod Boxes
 pub mod Listers
 pub mod Promises
 pub mod Runs
+pub mod Demand3
+pub mod Presses

@@ -43,11 +43,13 @@ fn packed(b: BallBox) -> HeldBox
     let track = b.track;
     let going = b.going;
     let memory = packed_memory(b.memory);
+    let sums = b.sums;
     HeldBox {
         settings: settings,
         track: track,
         going: going,
         memory: memory,
+        sums: sums,
         due: b.due as u8,
         dormant: b.dormant as u8,
     }
@@ -60,11 +62,13 @@ fn unpacked(held: HeldBox) -> BallBox
     let track = held.track;
     let going = held.going;
     let memory = unpacked_memory(held.memory);
+    let sums = held.sums;
     BallBox {
         settings: settings,
         track: track,
         going: going,
         memory: memory,
+        sums: sums,
         due: held.due == 1,
         dormant: held.dormant == 1,
     }

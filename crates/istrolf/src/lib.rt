@@ -1,6 +1,7 @@
 // The library's face for C: its states and answers as structs of plain numbers, its functions under plain names.
 use ballbox::Going;
 use ballbox::Settings;
+use ballbox::Sums;
 use ballbox::Track;
 use wire::Report;
 
@@ -70,6 +71,7 @@ pub struct HeldBox {
     pub track: Track,
     pub going: Going,
     pub memory: HeldMemory,
+    pub sums: Sums,
     pub due: u8,
     pub dormant: u8,
 }
