@@ -1,5 +1,5 @@
 -- Runs of the C functions are runs of the functions below them.
-use Prim.Native.Nat.{ℕ, zero, suc, _*_, _≤_}
+use Prim.Native.Nat.{ℕ, zero, suc, _*_}
 use mathlib.Core.Path.{_≡_, refl, sym, _∙_, ap, ap₂, subst}
 use mathlib.Core.List.{List, [], _∷_, _++_, map}
 use native.Mathlib.Omega.{arith}
@@ -8,12 +8,10 @@ use lib.ListN.{length, take, drop, getD}
 use Rattle.wire.specs.Line.{letterOf}
 use Rattle.wire.specs.declared.Report.{Report}
 use Rattle.wire.specs.declared.Format.{Format}
-use Rattle.reader.specs.Line.{Long}
 use Rattle.reader.specs.Counts as counts
 use Rattle.reader.specs.DamagedLines as lines
 use Rattle.reader.specs.Promises as reader
 use Rattle.reader.specs.Runs.{stepsOf, answers}
-use Rattle.reader.specs.State.{fiveOf}
 use Rattle.reader.specs.declared.Answer.{Answer}
 use Rattle.reader.specs.declared.Answer.the-variants as answer
 use Rattle.reader.specs.declared.Read.{Read}
@@ -26,7 +24,7 @@ use Rattle.history.specs.Presses as history
 use Rattle.history.specs.Runs.{sentAs, answerTo, answersTo}
 use Rattle.history.specs.Runs as history-runs
 use Rattle.istrolf.specs.Boxes as boxes
-use Rattle.istrolf.specs.Readers.{packed, packedFresh, answered, packedRead, Whole, packedLong}
+use Rattle.istrolf.specs.Readers.{packed, answered, packedRead, Whole, packedLong}
 use Rattle.istrolf.specs.Promises.{FreshReaderPromise, readerStepOf, readOf, ReadPromise, boxStepOf}
 use Rattle.istrolf.specs.Runs.{RunPromise, sentWords, wordsGiven, lastBox, StepsPromise, handedOut, handedOutAt, Took, HandsOutBy, HandsOut, HandsOutAt}
 use Rattle.istrolf.specs.declared.HeldReader.{HeldReader}

@@ -11,7 +11,6 @@ use Rattle.wire.specs.Holds.{carried}
 use Rattle.wire.specs.Messages.{Latched, Message, report, messageBytes, finishedReports}
 use Rattle.wire.specs.declared.Format.{Format}
 use Rattle.reader.specs.DamagedLines.{Within, EndsAt}
-use Rattle.ballbox.specs.Promises as ballbox
 use Rattle.ballbox.specs.declared.BallBox.{BallBox}
 use Rattle.ballbox.specs.declared.Stepped.{Stepped}
 use Rattle.ballbox.specs.declared.Event.{Event}
@@ -23,7 +22,7 @@ use Rattle.demands.specs.Demand3 as demand
 use Rattle.istrolf.specs.Marks.{marked}
 use Rattle.istrolf.specs.Boxes.{packed, unpacked}
 use Rattle.istrolf.specs.Promises.{boxStepOf}
-use Rattle.istrolf.specs.Runs.{RunPromise, sentWords, wordsGiven, HandsOut, HandsOutAt}
+use Rattle.istrolf.specs.Runs.{RunPromise, wordsGiven, HandsOut, HandsOutAt}
 use Rattle.istrolf.specs.Demand3.{Run, sent, stillGoing, Front, from-then-on, from-the-letter-on}
 use Rattle.istrolf.specs.declared.HeldBox.{HeldBox}
 use Rattle.istrolf.specs.declared.SteppedBox.{SteppedBox}

@@ -1,9 +1,8 @@
 -- The press theorem over the C functions.
-use Prim.Native.Nat.{ℕ}
 use mathlib.Core.Path.{_≡_, sym, _∙_, ap, subst}
-use mathlib.Core.Bool.{true}
-use mathlib.Core.List.{List, _++_, map}
-use Rattle.frames.specs.Passages.{UnderWay, nothing, Unbroken, Sub}
+use mathlib.Core.Bool.{true, false}
+use mathlib.Core.List.{List, _∷_, _++_, map}
+use Rattle.frames.specs.Passages.{Passage, silent, UnderWay, nothing, Unbroken, Unpaused, Sub}
 use Rattle.wire.specs.Line.{letterOf, markedOf}
 use Rattle.wire.specs.Messages.{Message, finishedReports}
 use Rattle.wire.specs.declared.Report.{Report}
@@ -83,6 +82,18 @@ module _ {h : HeldBox} {events : List Event} {answers : List SteppedBox} (run : 
       rw (words-below run)
       (hands-out f (history.wordsGiven (history.answersTo (unpacked h) events)) (finishedReports f (sent h nothing events))
       (demand.fresh-seen-marked (run-below run) f set hosts m))
+
+  -- in U, T and W from the first silence on
+  pub fresh-seen-in-c : (front rest : List (Passage Message))
+      → sent h nothing events ≡ front ++ (silent ∷ rest)
+      → markedOf f ≡ false
+      → Unpaused front
+      → Unbroken rest
+      → HandsOut f (wordsGiven answers) (finishedReports f rest)
+  fresh-seen-in-c front rest is m p u =
+      rw (words-below run)
+      (hands-out f (history.wordsGiven (history.answersTo (unpacked h) events)) (finishedReports f rest)
+      (demand.fresh-seen (run-below run) f set hosts front rest is m p u))
 
   pub each-seen-in-c : (f ≡ Microsoft → ⊥)
       → Sub (shownBy (sent h nothing events)) (map (λ (r : Report). r .buttons) (finishedReports f (sent h nothing events)))

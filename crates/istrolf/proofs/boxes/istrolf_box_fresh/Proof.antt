@@ -1,8 +1,5 @@
+-- The fresh box packed.
 use borrow.Author.Needs.{needs}
-use Rattle.ballbox.proofs.BallBox.fresh.Reads as fresh-reads
-use Rattle.istrolf.proofs.boxes.istrolf_box_fresh.Lts as lts
-use Rattle.istrolf.proofs.boxes.istrolf_box_fresh.Reads as reads
-use Rattle.istrolf.proofs.boxes.packed.Reads as packed-reads
 use Rattle.istrolf.proofs.boxes.istrolf_box_fresh.Statement.{statement}
 use Rattle.istrolf.proofs.boxes.istrolf_box_fresh.Tie as tie
 

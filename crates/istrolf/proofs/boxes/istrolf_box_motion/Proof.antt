@@ -1,11 +1,9 @@
+-- The motion as it was handed in.
 use borrow.Author.Needs.{needs}
 use mir.Syntax.{w16}
 use Rattle.ballbox.specs.declared.Event.the-variants.{Motion}
 use Rattle.numbers.proofs.Machine.{passed}
 use Rattle.istrolf.specs.Promises.{boxStepOf}
-use Rattle.istrolf.proofs.boxes.istrolf_box_motion.Lts as lts
-use Rattle.istrolf.proofs.boxes.istrolf_box_motion.Reads as reads
-use Rattle.istrolf.proofs.boxes.step.Reads as step-reads
 use Rattle.istrolf.proofs.boxes.istrolf_box_motion.Statement.{statement}
 use Rattle.istrolf.proofs.boxes.istrolf_box_motion.Tie as tie
 

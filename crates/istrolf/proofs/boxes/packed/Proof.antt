@@ -1,8 +1,6 @@
+-- The marks as numbers.
 use borrow.Author.Needs.{needs}
 use Rattle.istrolf.proofs.Marks.{as-number}
-use Rattle.istrolf.proofs.boxes.packed.Lts as lts
-use Rattle.istrolf.proofs.boxes.packed.Reads as reads
-use Rattle.istrolf.proofs.boxes.packed_memory.Reads as packed-memory-reads
 use Rattle.istrolf.proofs.boxes.packed.Statement.{statement}
 use Rattle.istrolf.proofs.boxes.packed.Tie as tie
 

@@ -1,9 +1,8 @@
+-- The mark as a number.
 use borrow.Author.Needs.{needs}
 use Prim.Native.Nat.{ℕ}
 use mathlib.Core.Path.{ap}
 use Rattle.istrolf.proofs.Marks.{as-number}
-use Rattle.istrolf.proofs.boxes.packed_memory.Lts as lts
-use Rattle.istrolf.proofs.boxes.packed_memory.Reads as reads
 use Rattle.istrolf.proofs.boxes.packed_memory.Statement.{statement}
 use Rattle.istrolf.proofs.boxes.packed_memory.Tie as tie
 

@@ -1,7 +1,5 @@
+-- By whether a word is sent.
 use borrow.Author.Needs.{needs}
-use Rattle.istrolf.proofs.boxes.packed.Reads as packed-reads
-use Rattle.istrolf.proofs.boxes.packed_step.Lts as lts
-use Rattle.istrolf.proofs.boxes.packed_step.Reads as reads
 use Rattle.istrolf.proofs.boxes.packed_step.Statement.{statement}
 use Rattle.istrolf.proofs.boxes.packed_step.Tie as tie
 

@@ -1,17 +1,11 @@
+-- 6 for what stands for no box, and then the step below.
 use borrow.Author.Needs.{needs}
 use mathlib.Core.Path.{ap, sym, _∙_}
 use borrow.Author.Tests.{not-true, not-false}
-use Rattle.ballbox.proofs.BallBox.step.Reads as step-reads
 use Rattle.ballbox.specs.Promises.{stepOf}
 use Rattle.ballbox.specs.declared.BallBox.{BallBox}
 use Rattle.istrolf.specs.Boxes.{packedStep}
 use Rattle.istrolf.specs.Promises.{boxStepOf}
-use Rattle.istrolf.proofs.boxes.packed_step.Reads as packed-step-reads
-use Rattle.istrolf.proofs.boxes.refused_step.Reads as refused-step-reads
-use Rattle.istrolf.proofs.boxes.stands.Reads as stands-reads
-use Rattle.istrolf.proofs.boxes.step.Lts as lts
-use Rattle.istrolf.proofs.boxes.step.Reads as reads
-use Rattle.istrolf.proofs.boxes.unpacked.Reads as unpacked-reads
 use Rattle.istrolf.proofs.boxes.step.Statement.{statement}
 use Rattle.istrolf.proofs.boxes.step.Tie as tie
 

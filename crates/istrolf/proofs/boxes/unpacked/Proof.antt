@@ -1,7 +1,5 @@
+-- The memory unpacked.
 use borrow.Author.Needs.{needs}
-use Rattle.istrolf.proofs.boxes.unpacked.Lts as lts
-use Rattle.istrolf.proofs.boxes.unpacked.Reads as reads
-use Rattle.istrolf.proofs.boxes.unpacked_memory.Reads as unpacked-memory-reads
 use Rattle.istrolf.proofs.boxes.unpacked.Statement.{statement}
 use Rattle.istrolf.proofs.boxes.unpacked.Tie as tie
 

@@ -1,3 +1,4 @@
+-- The answer's two numbers.
 use borrow.Author.Needs.{needs}
 use Rattle.istrolf.proofs.encoder.istrolf_encode.Statement.{statement}
 use Rattle.istrolf.proofs.encoder.istrolf_encode.Tie as tie

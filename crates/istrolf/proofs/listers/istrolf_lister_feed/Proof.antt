@@ -1,18 +1,12 @@
+-- 6 for what stands for no lister, and then the feed below.
 use borrow.Author.Needs.{needs}
 use mathlib.Core.Path.{ap, sym, _∙_}
 use borrow.Author.Tests.{not-true, not-false}
-use Rattle.listing.proofs.Lister.feed.Reads as feed-reads
 use Rattle.listing.specs.Promises as listing
 use Rattle.listing.specs.declared.Lister.{Lister}
 use Rattle.istrolf.specs.Listers.{whole, packedWhole}
 use Rattle.istrolf.specs.Promises.{feedOf}
 use Rattle.istrolf.specs.declared.ListedBytes.{ListedBytes}
-use Rattle.istrolf.proofs.listers.istrolf_lister_feed.Lts as lts
-use Rattle.istrolf.proofs.listers.istrolf_lister_feed.Reads as reads
-use Rattle.istrolf.proofs.listers.packed_listed.Reads as packed-listed-reads
-use Rattle.istrolf.proofs.listers.refused_listed.Reads as refused-listed-reads
-use Rattle.istrolf.proofs.listers.stands.Reads as stands-reads
-use Rattle.istrolf.proofs.listers.unpacked.Reads as unpacked-reads
 use Rattle.istrolf.proofs.listers.istrolf_lister_feed.Statement.{statement}
 use Rattle.istrolf.proofs.listers.istrolf_lister_feed.Tie as tie
 

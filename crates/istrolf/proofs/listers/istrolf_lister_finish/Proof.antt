@@ -1,18 +1,12 @@
+-- 6 for what stands for no lister, and then the end below.
 use borrow.Author.Needs.{needs}
 use mathlib.Core.Path.{ap, sym, _∙_}
 use borrow.Author.Tests.{not-true, not-false}
-use Rattle.listing.proofs.Lister.finish.Reads as finish-reads
 use Rattle.listing.specs.Promises as listing
 use Rattle.listing.specs.declared.Lister.{Lister}
 use Rattle.istrolf.specs.Listers.{whole, packedWhole}
 use Rattle.istrolf.specs.Promises.{finishOf}
 use Rattle.istrolf.specs.declared.ListedBytes.{ListedBytes}
-use Rattle.istrolf.proofs.listers.istrolf_lister_finish.Lts as lts
-use Rattle.istrolf.proofs.listers.istrolf_lister_finish.Reads as reads
-use Rattle.istrolf.proofs.listers.packed_listed.Reads as packed-listed-reads
-use Rattle.istrolf.proofs.listers.refused_listed.Reads as refused-listed-reads
-use Rattle.istrolf.proofs.listers.stands.Reads as stands-reads
-use Rattle.istrolf.proofs.listers.unpacked.Reads as unpacked-reads
 use Rattle.istrolf.proofs.listers.istrolf_lister_finish.Statement.{statement}
 use Rattle.istrolf.proofs.listers.istrolf_lister_finish.Tie as tie
 

@@ -1,8 +1,5 @@
+-- The fresh lister packed.
 use borrow.Author.Needs.{needs}
-use Rattle.listing.proofs.Lister.fresh.Reads as fresh-reads
-use Rattle.istrolf.proofs.listers.istrolf_lister_fresh.Lts as lts
-use Rattle.istrolf.proofs.listers.istrolf_lister_fresh.Reads as reads
-use Rattle.istrolf.proofs.listers.packed.Reads as packed-reads
 use Rattle.istrolf.proofs.listers.istrolf_lister_fresh.Statement.{statement}
 use Rattle.istrolf.proofs.listers.istrolf_lister_fresh.Tie as tie
 

@@ -1,8 +1,6 @@
+-- The marks as numbers.
 use borrow.Author.Needs.{needs}
 use Rattle.istrolf.proofs.Marks.{as-number}
-use Rattle.istrolf.proofs.listers.packed.Lts as lts
-use Rattle.istrolf.proofs.listers.packed.Reads as reads
-use Rattle.istrolf.proofs.readers.packed.Reads as packed-reads
 use Rattle.istrolf.proofs.listers.packed.Statement.{statement}
 use Rattle.istrolf.proofs.listers.packed.Tie as tie
 

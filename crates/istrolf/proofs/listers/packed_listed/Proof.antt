@@ -1,8 +1,6 @@
+-- The mark as a number, and the next lister packed.
 use borrow.Author.Needs.{needs}
 use Rattle.istrolf.proofs.Marks.{as-number}
-use Rattle.istrolf.proofs.listers.packed.Reads as packed-reads
-use Rattle.istrolf.proofs.listers.packed_listed.Lts as lts
-use Rattle.istrolf.proofs.listers.packed_listed.Reads as reads
 use Rattle.istrolf.proofs.listers.packed_listed.Statement.{statement}
 use Rattle.istrolf.proofs.listers.packed_listed.Tie as tie
 

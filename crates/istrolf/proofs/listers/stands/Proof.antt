@@ -1,7 +1,5 @@
+-- The reader's mark too.
 use borrow.Author.Needs.{needs}
-use Rattle.istrolf.proofs.listers.stands.Lts as lts
-use Rattle.istrolf.proofs.listers.stands.Reads as reads
-use Rattle.istrolf.proofs.readers.stands.Reads as stands-reads
 use Rattle.istrolf.proofs.listers.stands.Statement.{statement}
 use Rattle.istrolf.proofs.listers.stands.Tie as tie
 

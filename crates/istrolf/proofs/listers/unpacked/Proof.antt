@@ -1,7 +1,5 @@
+-- The reader unpacked.
 use borrow.Author.Needs.{needs}
-use Rattle.istrolf.proofs.listers.unpacked.Lts as lts
-use Rattle.istrolf.proofs.listers.unpacked.Reads as reads
-use Rattle.istrolf.proofs.readers.unpacked.Reads as unpacked-reads
 use Rattle.istrolf.proofs.listers.unpacked.Statement.{statement}
 use Rattle.istrolf.proofs.listers.unpacked.Tie as tie
 

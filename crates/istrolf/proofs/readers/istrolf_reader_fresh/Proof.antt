@@ -1,3 +1,4 @@
+-- The fresh reader packed.
 use borrow.Author.Needs.{needs}
 use Rattle.istrolf.proofs.readers.istrolf_reader_fresh.Statement.{statement}
 use Rattle.istrolf.proofs.readers.istrolf_reader_fresh.Tie as tie

@@ -1,18 +1,12 @@
+-- 6 for what stands for no reader, and then the read below.
 use borrow.Author.Needs.{needs}
 use mathlib.Core.Path.{ap, sym, _∙_}
 use borrow.Author.Tests.{not-true, not-false}
-use Rattle.reader.proofs.Reader.read.Reads as read-reads
 use Rattle.reader.specs.Promises as reader
 use Rattle.reader.specs.declared.Reader.{Reader}
 use Rattle.istrolf.specs.Readers.{whole, packedLong}
 use Rattle.istrolf.specs.Promises.{readOf}
 use Rattle.istrolf.specs.declared.ReadWords.{ReadWords}
-use Rattle.istrolf.proofs.readers.istrolf_reader_read.Lts as lts
-use Rattle.istrolf.proofs.readers.istrolf_reader_read.Reads as reads
-use Rattle.istrolf.proofs.readers.packed_reading.Reads as packed-reading-reads
-use Rattle.istrolf.proofs.readers.refused_reading.Reads as refused-reading-reads
-use Rattle.istrolf.proofs.readers.stands.Reads as stands-reads
-use Rattle.istrolf.proofs.readers.unpacked.Reads as unpacked-reads
 use Rattle.istrolf.proofs.readers.istrolf_reader_read.Statement.{statement}
 use Rattle.istrolf.proofs.readers.istrolf_reader_read.Tie as tie
 

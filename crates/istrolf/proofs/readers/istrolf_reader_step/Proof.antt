@@ -1,18 +1,12 @@
+-- 6 for what stands for no reader, and then the step below.
 use borrow.Author.Needs.{needs}
 use mathlib.Core.Path.{ap, sym, _∙_}
 use borrow.Author.Tests.{not-true, not-false}
 use Rattle.reader.proofs.Permitted.{step-is}
-use Rattle.reader.proofs.Reader.step.Reads as step-reads
 use Rattle.reader.specs.Promises.{stepOf}
 use Rattle.reader.specs.declared.Reader.{Reader}
 use Rattle.istrolf.specs.Readers.{packedRead}
 use Rattle.istrolf.specs.Promises.{readerStepOf}
-use Rattle.istrolf.proofs.readers.istrolf_reader_step.Lts as lts
-use Rattle.istrolf.proofs.readers.istrolf_reader_step.Reads as reads
-use Rattle.istrolf.proofs.readers.packed_read.Reads as packed-read-reads
-use Rattle.istrolf.proofs.readers.refused_read.Reads as refused-read-reads
-use Rattle.istrolf.proofs.readers.stands.Reads as stands-reads
-use Rattle.istrolf.proofs.readers.unpacked.Reads as unpacked-reads
 use Rattle.istrolf.proofs.readers.istrolf_reader_step.Statement.{statement}
 use Rattle.istrolf.proofs.readers.istrolf_reader_step.Tie as tie
 

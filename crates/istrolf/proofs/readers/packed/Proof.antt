@@ -1,3 +1,4 @@
+-- The mark as a number.
 use borrow.Author.Needs.{needs}
 use Prim.Native.Nat.{ℕ}
 use mathlib.Core.Path.{ap}

@@ -1,8 +1,5 @@
+-- By the answer.
 use borrow.Author.Needs.{needs}
-use Rattle.istrolf.proofs.readers.no_report.Reads as no-report-reads
-use Rattle.istrolf.proofs.readers.packed.Reads as packed-reads
-use Rattle.istrolf.proofs.readers.packed_read.Lts as lts
-use Rattle.istrolf.proofs.readers.packed_read.Reads as reads
 use Rattle.istrolf.proofs.readers.packed_read.Statement.{statement}
 use Rattle.istrolf.proofs.readers.packed_read.Tie as tie
 

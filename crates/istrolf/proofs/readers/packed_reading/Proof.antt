@@ -1,3 +1,4 @@
+-- The next reader packed.
 use borrow.Author.Needs.{needs}
 use Rattle.istrolf.proofs.readers.packed_reading.Statement.{statement}
 use Rattle.istrolf.proofs.readers.packed_reading.Tie as tie

@@ -1,7 +1,5 @@
+-- The old reader and no report.
 use borrow.Author.Needs.{needs}
-use Rattle.istrolf.proofs.readers.no_report.Reads as no-report-reads
-use Rattle.istrolf.proofs.readers.refused_read.Lts as lts
-use Rattle.istrolf.proofs.readers.refused_read.Reads as reads
 use Rattle.istrolf.proofs.readers.refused_read.Statement.{statement}
 use Rattle.istrolf.proofs.readers.refused_read.Tie as tie
 
