@@ -17,7 +17,7 @@ use Rattle.wire.specs.Numbers.{badState, badButtons}
 use Rattle.wire.specs.Holds.{_to_, within}
 use Rattle.wire.specs.declared.Format.the-variants.{Absolute}
 use Rattle.ballbox.specs.Thrown.{excesses, noExcess, sums, noSums, added}
-use Rattle.ballbox.specs.Box.{Step, freshBox, refused}
+use Rattle.ballbox.specs.Box.{Step, freshBox, withSums, refused}
 use Rattle.ballbox.specs.Presses.{toShow}
 use Rattle.ballbox.specs.Motion.{counted, countedOver}
 use Rattle.ballbox.specs.Latching.{limits, limited, limitExcess, movement, taken, takenOver, latchedReport, latched, secondLatched}
@@ -29,6 +29,7 @@ use Rattle.ballbox.specs.Excesses.{limitThrows, counterThrows, thrown, a
 use Rattle.ballbox.specs.declared.Pair.{Pair}
 use Rattle.ballbox.specs.declared.Track.{Track}
 use Rattle.ballbox.specs.declared.Excess.{Excess}
+use Rattle.ballbox.specs.declared.Sums.{Sums}
 use Rattle.ballbox.specs.declared.BallBox.{BallBox}
 use Rattle.ballbox.specs.declared.Command.{Command}
 use Rattle.ballbox.specs.declared.Command.the-variants.{SetFormat, SetStream, SetPrompt, AskReport, AskAck, AskCode, AskLetters, AskButtons, Sleep, Ignored}
@@ -89,18 +90,21 @@ dropped-sums : (b : BallBox) → dropped b .sums ≡ b .sums
 unfolding dropped
 dropped-sums b = cases (λ (x : BallBox). x .sums ≡ b .sums) (bytesLeft b) (λ e. refl) (λ e. refl)
 
-obeyed-sums : (c : Command) (b : BallBox) → obeyed c b .sums ≡ b .sums
+obeyed-beside : (s : Sums) (c : Command) (b : BallBox) → obeyed c (withSums s b) ≡ withSums s (obeyed c b)
 unfolding obeyed
-obeyed-sums (SetFormat f) b = refl
-obeyed-sums (SetStream m) b = refl
-obeyed-sums SetPrompt b = refl
-obeyed-sums AskReport b = refl
-obeyed-sums AskAck b = refl
-obeyed-sums AskCode b = refl
-obeyed-sums AskLetters b = refl
-obeyed-sums AskButtons b = refl
-obeyed-sums Sleep b = refl
-obeyed-sums Ignored b = refl
+obeyed-beside s (SetFormat f) b = refl
+obeyed-beside s (SetStream m) b = refl
+obeyed-beside s SetPrompt b = refl
+obeyed-beside s AskReport b = refl
+obeyed-beside s AskAck b = refl
+obeyed-beside s AskCode b = refl
+obeyed-beside s AskLetters b = refl
+obeyed-beside s AskButtons b = refl
+obeyed-beside s Sleep b = refl
+obeyed-beside s Ignored b = refl
+
+obeyed-sums : (c : Command) (b : BallBox) → obeyed c b .sums ≡ b .sums
+obeyed-sums c b = ap (λ (x : BallBox). x .sums) (obeyed-beside (b .sums) c b)
 
 asleep-sums : (b : BallBox) (e : Event) → asleep b e .next .sums ≡ b .sums
 unfolding asleep woken
@@ -175,17 +179,7 @@ either-step true x y x′ y′ p q = p
 either-step false x y x′ y′ p q = q
 
 obeyed-blind : (c : Command) (b : BallBox) → butSums (obeyed c b) ≡ butSums (obeyed c (butSums b))
-unfolding obeyed
-obeyed-blind (SetFormat f) b = refl
-obeyed-blind (SetStream m) b = refl
-obeyed-blind SetPrompt b = refl
-obeyed-blind AskReport b = refl
-obeyed-blind AskAck b = refl
-obeyed-blind AskCode b = refl
-obeyed-blind AskLetters b = refl
-obeyed-blind AskButtons b = refl
-obeyed-blind Sleep b = refl
-obeyed-blind Ignored b = refl
+obeyed-blind c b = ap butSums (sym (obeyed-beside noSums c b))
 
 module _ (b : BallBox) where
   buttons-blind : (n : ℕ) → butSums (onButtons n b) ≡ butSums (onButtons n (butSums b))
