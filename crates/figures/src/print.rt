@@ -25,7 +25,7 @@ fn front(bytes: &[u8], count: usize) {
 }
 
 pub(crate) fn signed(v: i16) {
-    let decimal = Text::none().signed(4, v as i32);
+    let decimal = Text::none().decimal(1, v as i64);
     let bytes = decimal.bytes;
     front(&bytes, decimal.len);
 }

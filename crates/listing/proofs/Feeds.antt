@@ -14,7 +14,7 @@ use Rattle.numbers.proofs.Tested.{left, right}
 use Rattle.text.specs.Growth.{shown, textOf, fitsAt, putOf}
 use Rattle.text.specs.declared.Text.{Text}
 use Rattle.text.proofs.Laws.{text-shows, text-long, put-none}
-use Rattle.listing.specs.Machine.{Feed, stopped, joined, fedByte, lastOf, feedIn, finishIn, good}
+use Rattle.listing.specs.Feeding.{Feed, stopped, joined, fedByte, lastOf, feedIn, finishIn, good}
 use Rattle.listing.specs.Promises.{whole, written, feedOf, finishOf}
 use Rattle.listing.specs.declared.Lister.{Lister}
 use Rattle.listing.specs.declared.Listed.{Listed}
@@ -46,7 +46,7 @@ joined-joined t u a b f = simp (add-assoc, append-assoc)
 
 -- the answer of a lister
 abbrev pub answerOf : ℕ → Lister → ℕ → ℕ → Listed
-answerOf refusal m taken written = record { refusal = refusal; next = m; taken = taken; written = written; ended = m .place .ended }
+answerOf refusal m taken written = record { refusal = refusal; next = m; taken = taken; written = written; ended = m .scanner .ended }
 
 -- where the loop stands: what is done, and what the rest gives
 abbrev pub standing : List ℕ → List ℕ → Lister → ℕ → ℕ → Feed

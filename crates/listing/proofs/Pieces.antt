@@ -9,7 +9,7 @@ use lib.Dec.{ltb}
 use lib.ListN.{length, getD, take, length-append}
 use borrow.Author.Tests.{le-ltb, ltb-true, ltb-false}
 use Rattle.numbers.proofs.Choices.{cases}
-use Rattle.listing.specs.Machine.{fedByte, lastOf, feedIn, finishIn, Feed}
+use Rattle.listing.specs.Feeding.{Feed, fedByte, lastOf, feedIn, finishIn, good}
 use Rattle.listing.specs.Promises.{enough}
 use Rattle.listing.specs.declared.Lister.{Lister}
 use Rattle.listing.proofs.Few.{few-byte, few-last}
@@ -85,6 +85,6 @@ one-taken c p m room h =
     let fits : length (fedByte m c .text) ≤ room = omega arith in
     rw (le-ltb _ _ fits) (omega arith)
 
-pub finished : (m : Lister) (room : ℕ) → enough ≤ room → finishIn m room ≡ record { next = lastOf m .next; taken = 0; text = lastOf m .text }
+pub finished : (m : Lister) (room : ℕ) → good m ≡ true → enough ≤ room → finishIn m room ≡ record { next = lastOf m .next; taken = 0; text = lastOf m .text }
 unfolding finishIn
-finished m room h = let k = few-last m in let fits : length (lastOf m .text) ≤ room = omega arith in rw (le-ltb _ _ fits)
+finished m room g h = let k = few-last m g in let fits : length (lastOf m .text) ≤ room = omega arith in rw (le-ltb _ _ fits)

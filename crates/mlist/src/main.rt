@@ -3,7 +3,7 @@ ghost use mathlib.Core.Path.{_≡_};
 ghost use mathlib.Core.Bool.{true};
 ghost use Prim.Native.Nat.{_*_, _≤_};
 ghost use lib.ListN.{length};
-ghost use Rattle.listing.specs.Machine.{good};
+ghost use Rattle.listing.specs.Feeding.{good};
 ghost use Rattle.listing.specs.Promises.{enough};
 ghost use Rattle.mlist.specs.Blocks.{Fed, Leaves};
 use libc::STDIN_FILENO;

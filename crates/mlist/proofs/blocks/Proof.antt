@@ -5,7 +5,8 @@ use mathlib.Core.Path.{_≡_, refl, _∙_}
 use mathlib.Core.Bool.{true, cond}
 use native.Mathlib.Omega.{arith}
 use lib.ListN.{length}
-use Rattle.listing.specs.Machine.{good, passed, mostBytes}
+use Rattle.listing.specs.Scanning.{passed, mostBytes}
+use Rattle.listing.specs.Feeding.{good}
 use Rattle.listing.proofs.Keeps.{fresh-is-good}
 use Rattle.mlist.proofs.Taken.{stays-good, falls}
 use Rattle.mlist.proofs.blocks.Statement.{statement}
@@ -15,7 +16,7 @@ abbrev Inv-loop : tie.InvT-loop
 Inv-loop input₀ out₀ went₀ input out went = (good (went .next) ≡ true) × (length input ≡ length input₀) × (length out ≡ length out₀)
 
 abbrev μ-loop : tie.MeasureT-loop
-μ-loop input₀ out₀ went₀ input out went = cond (went .on) (mostBytes - passed (went .next)) 0
+μ-loop input₀ out₀ went₀ input out went = cond (went .on) (mostBytes - passed (went .next .scanner)) 0
 
 fresh-requires : tie.Need-fresh-requires Inv-loop μ-loop
 fresh-requires c κs = tt

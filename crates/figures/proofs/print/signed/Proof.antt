@@ -1,4 +1,4 @@
--- `signed`: sixteen bits fit in thirty-two.
+-- `signed`: sixteen bits fit in sixty-four.
 use borrow.Author.Needs.{needs}
 use mir.Facts.{sfits-widen}
 use Rattle.figures.proofs.print.signed.Statement.{statement}
@@ -7,11 +7,11 @@ use Rattle.figures.proofs.print.signed.Tie as tie
 none-requires : tie.Need-none-requires
 none-requires c κs = search needs
 
-cast-signed : tie.Need-cast-signed
-cast-signed c = search (needs, sfits-widen)
+cast-decimal : tie.Need-cast-decimal
+cast-decimal c = search (needs, sfits-widen)
 
-signed-requires : tie.Need-signed-requires
-signed-requires c κs = search needs
+decimal-requires : tie.Need-decimal-requires
+decimal-requires c κs = search needs
 
 slice-aggregate-front : tie.Need-slice-aggregate-front
 slice-aggregate-front c = search needs
@@ -27,8 +27,8 @@ signed-spec =
     tie.close
     (tie.spec
     none-requires
-    cast-signed
-    signed-requires
+    cast-decimal
+    decimal-requires
     slice-aggregate-front
     front-requires
     returns)

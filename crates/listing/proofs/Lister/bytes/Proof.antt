@@ -6,7 +6,7 @@ use Prim.Native.Nat.{_+_, _-_, _<_, _≤_}
 use native.Mathlib.Omega.{arith}
 use lib.ListN.{length, drop, getD}
 use Rattle.text.specs.Growth.{textOf, fitsAt}
-use Rattle.listing.specs.Machine.{fedByte, feedIn}
+use Rattle.listing.specs.Feeding.{fedByte, feedIn}
 use Rattle.listing.specs.Promises.{whole}
 use Rattle.listing.specs.declared.Turn.{Turn}
 use Rattle.listing.specs.declared.Listed.{Listed}
@@ -32,15 +32,6 @@ loop-holds c = let a = c .before .before .args in (omega arith, omega arith, ref
 
 shared-slice-read-byte : tie.Need-shared-slice-read-byte Inv-loop μ-loop
 shared-slice-read-byte c = omega arith
-
-byte-requires : tie.Need-byte-requires Inv-loop μ-loop
-byte-requires c κs = tt
-
-put-requires : tie.Need-put-requires Inv-loop μ-loop
-put-requires c κs = tt
-
-answer-requires : tie.Need-answer-requires Inv-loop μ-loop
-answer-requires c κs = tt
 
 -- the text and the lister that a byte gave, and the room that its text had
 text-is : (c : tie.After-byte Inv-loop μ-loop) → c .byte .result .text ≡ textOf (fedByte (c .before .before .before .loop .m) (getD (c .before .before .before .before .before .before .args .input .now) (c .before .before .before .loop .at) 0) .text)
@@ -108,9 +99,6 @@ loop-again c = let l = c .before .before .before .before .before .before .before
           (again (a .input .now) (l .out) (l .m) (l .at) (l .used) (x .text) (c .before .before .before .before .before .before .before .before .before .loop-test .taken) refl (p .last .1 .0) (t .len) fits s wrote ∙ l .inv .4),
     )
 
-answer-requires-2 : tie.Need-answer-requires-2 Inv-loop μ-loop
-answer-requires-2 c κs = tt
-
 same-length-2 : tie.Need-same-length-2 Inv-loop μ-loop
 same-length-2 c = c .before .before .loop .inv .2
 
@@ -129,15 +117,15 @@ bytes-spec =
     μ-loop
     loop-holds
     shared-slice-read-byte
-    byte-requires
-    put-requires
-    answer-requires
+    (λ c κs. tt)
+    (λ c κs. tt)
+    (λ c κs. tt)
     same-length
     returns
     add-at
     add-used
     loop-less
     loop-again
-    answer-requires-2
+    (λ c κs. tt)
     same-length-2
     returns-2)
