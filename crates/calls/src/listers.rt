@@ -6,7 +6,7 @@ use crate::print;
 use crate::readers;
 use listing::Listed;
 use listing::Lister;
-use listing::Place;
+use listing::Scanner;
 
 // A lister, with its marks as C holds them, and how far in the text it is.
 struct Marked {
@@ -24,9 +24,9 @@ struct Turn {
 }
 
 fn with_marks(lister: Lister, at: usize) -> Marked {
-    let place = lister.place;
-    let reader = place.reader;
-    let ended = place.ended as u8;
+    let scanner = lister.scanner;
+    let reader = lister.reader;
+    let ended = scanner.ended as u8;
     let awaiting = reader.awaiting as u8;
     Marked {
         lister: lister,
@@ -55,13 +55,13 @@ fn any(call: u64) -> Marked {
     }
     Marked {
         lister: Lister {
-            place: Place {
+            scanner: Scanner {
                 line: draws::drawn(call, 105, 10002) as u32,
                 ended: ended == 1,
-                reader: reader,
+                held: held,
+                count: count,
             },
-            held: held,
-            count: count,
+            reader: reader,
         },
         ended: ended,
         awaiting: m.awaiting,
@@ -83,12 +83,12 @@ fn chosen(last: Marked, call: u64) -> Marked {
 
 fn mixed(h: u64, m: Marked) -> u64 {
     let lister = m.lister;
-    let place = lister.place;
-    let held = lister.held;
-    let line = mixes::byte(mixes::number(h, place.line as u64), m.ended);
+    let scanner = lister.scanner;
+    let held = scanner.held;
+    let line = mixes::byte(mixes::number(h, scanner.line as u64), m.ended);
     mixes::reader(
-        mixes::number(mixes::five(line, &held), lister.count as u64),
-        place.reader,
+        mixes::number(mixes::five(line, &held), scanner.count as u64),
+        lister.reader,
         m.awaiting,
     )
 }

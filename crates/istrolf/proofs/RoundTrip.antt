@@ -61,9 +61,8 @@ box-stands b = rw (mark-stands (b .memory .showing), mark-stands (b .due), mark-
 pub lister-there : (m : Lister) → listers.unpacked (listers.packed m) ≡ m
 lister-there m = λ i.
     record {
-      place = record { line = m .place .line; ended = mark-back (m .place .ended) i; reader = reader-there (m .place .reader) i };
-      held = m .held;
-      count = m .count;
+      scanner = record { line = m .scanner .line; ended = mark-back (m .scanner .ended) i; held = m .scanner .held; count = m .scanner .count };
+      reader = reader-there (m .reader) i;
     }
 
 pub lister-back : (h : HeldLister) → listers.stands h ≡ true → listers.packed (listers.unpacked h) ≡ h
@@ -73,4 +72,4 @@ lister-back h s =
     λ i. record { line = h .line; ended = ended i; held = h .held; count = h .count; reader = reader i }
 
 pub lister-stands : (m : Lister) → listers.stands (listers.packed m) ≡ true
-lister-stands m = rw (mark-stands (m .place .ended), mark-stands (m .place .reader .awaiting))
+lister-stands m = rw (mark-stands (m .scanner .ended), mark-stands (m .reader .awaiting))

@@ -14,19 +14,18 @@ use Rattle.istrolf.specs.declared.ListedBytes.{ListedBytes}
 abbrev pub packed : Lister → HeldLister
 packed m =
     record {
-      line = m .place .line;
-      ended = mark (m .place .ended);
-      held = m .held;
-      count = m .count;
-      reader = readers.packed (m .place .reader);
+      line = m .scanner .line;
+      ended = mark (m .scanner .ended);
+      held = m .scanner .held;
+      count = m .scanner .count;
+      reader = readers.packed (m .reader);
     }
 
 abbrev pub unpacked : HeldLister → Lister
 unpacked h =
     record {
-      place = record { line = h .line; ended = marked (h .ended); reader = readers.unpacked (h .reader) };
-      held = h .held;
-      count = h .count;
+      scanner = record { line = h .line; ended = marked (h .ended); held = h .held; count = h .count };
+      reader = readers.unpacked (h .reader);
     }
 
 -- what stands for a lister

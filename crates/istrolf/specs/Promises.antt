@@ -10,7 +10,7 @@ use Rattle.reader.specs.Promises as reader
 use Rattle.ballbox.specs.Box.{freshBox}
 use Rattle.ballbox.specs.Promises as ballbox
 use Rattle.ballbox.specs.declared.Event.{Event}
-use Rattle.listing.specs.Machine as machine
+use Rattle.listing.specs.Feeding as feeding
 use Rattle.listing.specs.Promises as listing
 use Rattle.istrolf.specs.Readers as readers
 use Rattle.istrolf.specs.Boxes as boxes
@@ -62,7 +62,7 @@ BoxStepPromise h e answer = answer ≡ boxStepOf h e
 
 -- `istrolf_lister_fresh()`
 abbrev pub FreshListerPromise : HeldLister → Type 0
-FreshListerPromise answer = answer ≡ listers.packed machine.fresh
+FreshListerPromise answer = answer ≡ listers.packed feeding.fresh
 
 -- `istrolf_lister_feed(lister, input, out)`
 unfoldable pub feedOf : HeldLister → List ℕ → List ℕ → listers.Whole

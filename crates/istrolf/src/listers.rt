@@ -8,19 +8,19 @@ use crate::ListedBytes;
 use crate::readers;
 use listing::Listed;
 use listing::Lister;
-use listing::Place;
+use listing::Scanner;
 
 fn packed(lister: Lister) -> HeldLister
     ensures { λ r. ⌜ r ≡ packed lister ⌝ }
 {
-    let place = lister.place;
-    let held = lister.held;
-    let reader = readers::packed(place.reader);
+    let scanner = lister.scanner;
+    let held = scanner.held;
+    let reader = readers::packed(lister.reader);
     HeldLister {
-        line: place.line,
-        ended: place.ended as u8,
+        line: scanner.line,
+        ended: scanner.ended as u8,
         held: held,
-        count: lister.count,
+        count: scanner.count,
         reader: reader,
     }
 }
@@ -31,13 +31,13 @@ fn unpacked(held: HeldLister) -> Lister
     let reader = readers::unpacked(held.reader);
     let bytes = held.held;
     Lister {
-        place: Place {
+        scanner: Scanner {
             line: held.line,
             ended: held.ended == 1,
-            reader: reader,
+            held: bytes,
+            count: held.count,
         },
-        held: bytes,
-        count: held.count,
+        reader: reader,
     }
 }
 

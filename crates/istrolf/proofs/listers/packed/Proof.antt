@@ -13,7 +13,7 @@ cast-t5 c = search needs
 returns : tie.Need-returns
 returns c = let p = c .before in
     let m = p .before .before .before .args .lister in
-    simp (p .packed .ensures, as-number (m .place .ended))
+    simp (p .packed .ensures, as-number (m .scanner .ended))
 
 pub packed-spec : {M : Type 1} → statement M
 packed-spec = tie.close (tie.spec packed-requires cast-t5 returns)
