@@ -1,4 +1,4 @@
-/* Reads words of MM's format and prints the reports: those of samples/damaged. */
+/* Reads words of MM's format and prints the reports: those of samples/S-mm. */
 #include "istrolf.h"
 #include <stdio.h>
 
