@@ -8,7 +8,6 @@ use lib.IntN.{ℤ, pos, _+ℤ_, +ℤ-assoc, +ℤ-comm, +ℤ-idl}
 
 -- a sum of terms that are told by their places in a list
 infixr 20 _plus_
-
 pub data Sum : Type 0 where
   none : Sum
   term : ℕ → Sum
