@@ -48,7 +48,7 @@ use Rattle.ballbox.specs.declared.Stepped.{Stepped}
 use Rattle.ballbox.proofs.Answers as box-answers
 use Rattle.ballbox.proofs.Refusals as box-refusals
 use Rattle.ballbox.proofs.Goodness as box-goodness
-use Rattle.listing.specs.Machine as listers
+use Rattle.listing.specs.Feeding as listers
 use Rattle.listing.specs.Promises as lister
 use Rattle.listing.specs.Promises.{Whole, FeedPromise, FinishPromise}
 use Rattle.listing.specs.declared.Lister.{Lister}
@@ -56,7 +56,7 @@ use Rattle.listing.specs.declared.Listed.{Listed}
 use Rattle.listing.proofs.Answers as listing
 use Rattle.listing.proofs.Refusals as listing-refusals
 use Rattle.listing.proofs.Calls as calls
-use Rattle.text.specs.Promises.{NonePromise, WithPromise, DigitsPromise, NumberPromise, SignedPromise, PutPromise}
+use Rattle.text.specs.Promises.{NonePromise, WithPromise, DecimalPromise, NumberPromise, PutPromise}
 use Rattle.text.specs.declared.Text.{Text}
 use Rattle.text.proofs.Answers as text
 
@@ -123,21 +123,18 @@ feed-one m input before a b after behind = listing.one-feed m input before
 pub finish-one : (m : Lister) (before : List ℕ) → OneWith (FinishPromise m before)
 finish-one m before a b after behind = listing.one-finish m before
 
--- `Text::none`, `with`, `digits`, `number`, `signed`, `put`
+-- `Text::none`, `with`, `decimal`, `put`, and `Number::read`
 pub no-text-one : One NonePromise
 no-text-one a b = text.one-none
 
 pub with-one : (t : Text) (byte : ℕ) → One (WithPromise t byte)
 with-one t byte a b = text.one-with t byte
 
-pub digits-one : (t : Text) (places n : ℕ) → One (DigitsPromise t places n)
-digits-one t places n a b = text.one-digits t places n
+pub decimal-one : (t : Text) (width : ℕ) (x : ℤ) → One (DecimalPromise t width x)
+decimal-one t width x a b = text.one-decimal t width x
 
-pub number-one : (t : Text) (places n : ℕ) → One (NumberPromise t places n)
-number-one t places n a b = text.one-number t places n
-
-pub signed-one : (t : Text) (places : ℕ) (x : ℤ) → One (SignedPromise t places x)
-signed-one t places x a b = text.one-signed t places x
+pub number-one : (bytes : List ℕ) (width : ℕ) → One (NumberPromise bytes width)
+number-one bytes width a b = text.one-number bytes width
 
 pub put-one : (t : Text) (at : ℕ) (before : List ℕ) → OneWith (PutPromise t at before)
 put-one t at before a b after behind = text.one-put t at before

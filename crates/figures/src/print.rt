@@ -24,19 +24,15 @@ fn front(bytes: &[u8], count: usize) {
     }
 }
 
-pub(crate) fn signed(v: i16) {
-    let decimal = Text::none().signed(5, v as i32);
+// A sum of 64 bits.
+pub(crate) fn long(v: i64) {
+    let decimal = Text::none().decimal(1, v);
     let bytes = decimal.bytes;
     front(&bytes, decimal.len);
 }
 
-// A sum of 64 bits, as far as 16 hold it.
-pub(crate) fn long(v: i64) {
-    if (v < -32768) | (32767 < v) {
-        say(b"far");
-    } else {
-        signed(v as i16);
-    }
+pub(crate) fn signed(v: i16) {
+    long(v as i64);
 }
 
 fn digit(n: u8) -> u8

@@ -10,15 +10,16 @@ use lib.ListN.{length, getD, take, drop, length-append, length-take}
 use lib.Seq.{take-at}
 use Rattle.numbers.proofs.Choices.{cases}
 use Rattle.listing.specs.Listing.{listingOf}
-use Rattle.listing.specs.Machine.{Feed, stopped, fresh, fedByte, lastOf, feedIn, finishIn, good, passed, mostBytes}
+use Rattle.listing.specs.Scanning.{passed, mostBytes}
+use Rattle.listing.specs.Feeding.{Feed, stopped, fresh, fedByte, lastOf, feedIn, finishIn, good}
 use Rattle.listing.specs.Promises.{enough, Whole, whole, written, feedOf, finishOf, FeedPromise, FinishPromise}
 use Rattle.listing.specs.Calls.{Call, Permitted, listerAfter, takenBy, writtenBy}
 use Rattle.listing.specs.declared.Lister.{Lister}
 use Rattle.listing.specs.declared.Listed.{Listed}
 use Rattle.listing.proofs.Whole.{allOf, all-at-once}
 use Rattle.listing.proofs.Pieces as pieces
-use Rattle.listing.proofs.Ended.{Within, piece-on, never-passed, stays-ended, quiet, end-ends}
-use Rattle.listing.proofs.Keeps.{kept, five, fresh-is-good, feed-stays-good}
+use Rattle.listing.proofs.Ended.{piece-on, never-passed, stays-ended, quiet, end-ends}
+use Rattle.listing.proofs.Keeps.{kept, fresh-is-good, feed-stays-good}
 
 -- what a call of a good lister wrote
 module _ (f : Feed) (before after : List ℕ) (a : Listed) (p : whole a after ≡ written f before) where
@@ -35,14 +36,11 @@ module _ (f : Feed) (before after : List ℕ) (a : Listed) (p : whole a after �
   call-written : a .written ≡ length (f .text)
   call-written = ap (λ (w : Whole). w .listed .written) p
 
-  call-ended : a .ended ≡ f .next .place .ended
+  call-ended : a .ended ≡ f .next .scanner .ended
   call-ended = ap (λ (w : Whole). w .listed .ended) p
 
   call-after : after ≡ f .text ++ drop (length (f .text)) before
   call-after = ap (λ (w : Whole). w .out) p
-
-pub good-within : (m : Lister) → good m ≡ true → Within m
-good-within m g = (kept m g .few, five m g)
 
 -- whatever the lister: no call takes more than there is, or writes more than has room
 pub feed-within : (m : Lister) (input before after : List ℕ) (a : Listed) → FeedPromise m input before a after
@@ -82,15 +80,15 @@ module _ (m : Lister) (input before after : List ℕ) (a : Listed) (g : good m �
       (pieces.takes-what-it-can input m (length before) (omega (arith, call-taken f before after a feeds)))
 
   -- it tells whether it has ended
-  pub tells-ended : a .ended ≡ a .next .place .ended
-  tells-ended = call-ended f before after a feeds ∙ sym (ap (λ (m : Lister). m .place .ended) (call-next f before after a feeds))
+  pub tells-ended : a .ended ≡ a .next .scanner .ended
+  tells-ended = call-ended f before after a feeds ∙ sym (ap (λ (m : Lister). m .scanner .ended) (call-next f before after a feeds))
 
   -- it has ended, or is as many bytes nearer to its end
-  pub goes-on : (a .next .place .ended ≡ true) ⊎ (passed m + a .taken ≤ passed (a .next))
+  pub goes-on : (a .next .scanner .ended ≡ true) ⊎ (passed (m .scanner) + a .taken ≤ passed (a .next .scanner))
   goes-on =
-      ⊎-elim (λ e. inl (ap (λ (m : Lister). m .place .ended) (call-next f before after a feeds) ∙ e))
+      ⊎-elim (λ e. inl (ap (λ (m : Lister). m .scanner .ended) (call-next f before after a feeds) ∙ e))
       (λ k. inr (rw (call-next f before after a feeds, call-taken f before after a feeds) (k .0)))
-      (piece-on input m (length before) (good-within m g))
+      (piece-on input m (length before) (kept m g))
 
 -- with so many places a byte is taken
 pub takes-some : (m : Lister) (c : ℕ) (input before after : List ℕ) (a : Listed) → good m ≡ true → FeedPromise m (c ∷ input) before a after → enough ≤ length before
@@ -107,7 +105,7 @@ module _ (m : Lister) (before after : List ℕ) (a : Listed) (g : good m ≡ tru
   -- with so many places it ends
   pub ends-with-room : enough ≤ length before → a .ended ≡ true
   ends-with-room room =
-      call-ended (finishIn m (length before)) before after a finishes ∙ ap (λ (f : Feed). f .next .place .ended) (pieces.finished m (length before) room) ∙ end-ends m
+      call-ended (finishIn m (length before)) before after a finishes ∙ ap (λ (f : Feed). f .next .scanner .ended) (pieces.finished m (length before) g room) ∙ end-ends m
 
   -- it has ended with its last lines
   ends-with : a .ended ≡ true → take (a .written) after ≡ lastOf m .text
@@ -159,22 +157,22 @@ in-calls ks before after a h p e =
     ∙ calls ks [] fresh fresh-is-good h ∙ ap (allOf fresh) (append-nil (takenBy ks)) ∙ all-at-once (takenBy ks)
 
 -- NOTHING AFTER THE END: once it has ended, what it wrote is the listing, whatever the rest of the input is
-pub ended-early : (ks : List Call) (rest : List ℕ) → Permitted fresh ks → listerAfter fresh ks .place .ended ≡ true → writtenBy ks ≡ listingOf (takenBy ks ++ rest)
+pub ended-early : (ks : List Call) (rest : List ℕ) → Permitted fresh ks → listerAfter fresh ks .scanner .ended ≡ true → writtenBy ks ≡ listingOf (takenBy ks ++ rest)
 ended-early ks rest h e =
     sym (append-nil (writtenBy ks)) ∙ ap (λ (l : List ℕ). writtenBy ks ++ l) (sym (quiet rest (listerAfter fresh ks) e))
     ∙ calls ks rest fresh fresh-is-good h ∙ all-at-once (takenBy ks ++ rest)
 
 -- once ended, it stays so
-ended-after : (ks : List Call) (m : Lister) → good m ≡ true → Permitted m ks → m .place .ended ≡ true → listerAfter m ks .place .ended ≡ true
+ended-after : (ks : List Call) (m : Lister) → good m ≡ true → Permitted m ks → m .scanner .ended ≡ true → listerAfter m ks .scanner .ended ≡ true
 ended-after [] m g h e = e
 ended-after (k ∷ ks) m g h e =
     let w = feeds m (k .piece) (k .before) (k .after) (k .answer) g (h .0) in
     let next = call-next (feedIn m (k .piece) (length (k .before))) (k .before) (k .after) (k .answer) w in
     ended-after ks (k .answer .next) (next-good m (k .piece) (k .before) (k .after) (k .answer) g (h .0)) (h .1)
-    (ap (λ (m : Lister). m .place .ended) next ∙ stays-ended (k .piece) m (length (k .before)) e)
+    (ap (λ (m : Lister). m .scanner .ended) next ∙ stays-ended (k .piece) m (length (k .before)) e)
 
 -- or each byte taken brought it nearer to its end
-nearer : (ks : List Call) (m : Lister) → good m ≡ true → Permitted m ks → (listerAfter m ks .place .ended ≡ true) ⊎ (passed m + length (takenBy ks) ≤ passed (listerAfter m ks))
+nearer : (ks : List Call) (m : Lister) → good m ≡ true → Permitted m ks → (listerAfter m ks .scanner .ended ≡ true) ⊎ (passed (m .scanner) + length (takenBy ks) ≤ passed (listerAfter m ks .scanner))
 nearer [] m g h = inr (omega arith)
 nearer (k ∷ ks) m g h =
     let next = next-good m (k .piece) (k .before) (k .after) (k .answer) g (h .0) in
@@ -184,6 +182,6 @@ nearer (k ∷ ks) m g h =
     (goes-on m (k .piece) (k .before) (k .after) (k .answer) g (h .0))
 
 -- HAS ENDED: after so many bytes every lister has ended
-pub has-ended : (ks : List Call) → Permitted fresh ks → mostBytes ≤ length (takenBy ks) → listerAfter fresh ks .place .ended ≡ true
+pub has-ended : (ks : List Call) → Permitted fresh ks → mostBytes ≤ length (takenBy ks) → listerAfter fresh ks .scanner .ended ≡ true
 has-ended ks h k =
-    ⊎-elim (λ e. e) (λ n. absurd (omega (arith, never-passed (listerAfter fresh ks) (good-within (listerAfter fresh ks) (after-good ks fresh fresh-is-good h))))) (nearer ks fresh fresh-is-good h)
+    ⊎-elim (λ e. e) (λ n. absurd (omega (arith, never-passed (listerAfter fresh ks .scanner) (kept (listerAfter fresh ks) (after-good ks fresh fresh-is-good h))))) (nearer ks fresh fresh-is-good h)

@@ -1,20 +1,21 @@
 -- A turn of the feeding loop, and the end.
 use Prim.Native.Nat.{ℕ, _+_, _-_, _<_, _≤_}
-use mathlib.Core.Path.{_≡_, sym, _∙_, ap}
+use mathlib.Core.Path.{_≡_, refl, _∙_, ap}
 use mathlib.Core.Bool.{true, false}
-use mathlib.Core.List.{List, [], _∷_, _++_, append-assoc, append-nil}
-use native.Mathlib.Nat.{add-zero, zero-add, add-assoc}
-use native.Mathlib.Numerals.{add-one}
+use mathlib.Core.List.{List, [], _∷_, _++_}
+use native.Mathlib.Nat.{zero-add}
 use native.Mathlib.Omega.{arith}
 use lib.Dec.{leb}
-use lib.ListN.{length, getD, take, drop, length-append, length-drop, take-append-drop, drop-of-length-le}
-use lib.Seq.{drop-cons, take-at, drop-at, length-take-le, drop-drop}
+use lib.ListN.{length, getD, take, drop}
 use borrow.Author.Tests.{lt-ltb, le-ltb, leb-true, leb-false, le-leb}
 use Rattle.numbers.proofs.Tested.{left, right}
+use Rattle.fold.specs.Fold.{ran, run, Part}
+use Rattle.fold.proofs.Laws as laws
+use Rattle.fold.proofs.Parts.{none, part-within, part-room, part-long, part-all, part-stops, one-more}
 use Rattle.text.specs.Growth.{shown, textOf, fitsAt, putOf}
 use Rattle.text.specs.declared.Text.{Text}
 use Rattle.text.proofs.Laws.{text-shows, text-long, put-none}
-use Rattle.listing.specs.Machine.{Feed, stopped, joined, fedByte, lastOf, feedIn, finishIn, good}
+use Rattle.listing.specs.Feeding.{fedByte, lastOf, feeds, feedIn, finishIn, good}
 use Rattle.listing.specs.Promises.{whole, written, feedOf, finishOf}
 use Rattle.listing.specs.declared.Lister.{Lister}
 use Rattle.listing.specs.declared.Listed.{Listed}
@@ -38,68 +39,43 @@ module _ (l : List ℕ) (t : Text) (is : t ≡ textOf l) (few : length l ≤ 40)
       let small : t .len ≤ 40 = omega (arith, size) in
       leb-false _ _ (rw (le-leb (t .len) 40 small) at e)
 
-pub joined-none : (f : Feed) → joined 0 [] f ≡ f
-joined-none f = simp zero-add
-
-pub joined-joined : (t u : ℕ) (a b : List ℕ) (f : Feed) → joined t a (joined u b f) ≡ joined (t + u) (a ++ b) f
-joined-joined t u a b f = simp (add-assoc, append-assoc)
-
 -- the answer of a lister
 abbrev pub answerOf : ℕ → Lister → ℕ → ℕ → Listed
-answerOf refusal m taken written = record { refusal = refusal; next = m; taken = taken; written = written; ended = m .place .ended }
+answerOf refusal m taken written = record { refusal = refusal; next = m; taken = taken; written = written; ended = m .scanner .ended }
 
--- where the loop stands: what is done, and what the rest gives
-abbrev pub standing : List ℕ → List ℕ → Lister → ℕ → ℕ → Feed
-standing input out m at used = joined at (take used out) (feedIn m (drop at input) (length out - used))
+-- where the loop stands: the texts of the bytes taken, the lister behind them, and the slice
+pub record Stands (m₀ : Lister) (input out₀ : List ℕ) (m : Lister) (at used : ℕ) (out : List ℕ) : Type 0 where
+  pub texts : List (List ℕ)
+  pub part : Part feeds m₀ input out₀ texts at used m out
 
-pub starts : (input out : List ℕ) (m : Lister) → standing input out m 0 0 ≡ feedIn m input (length out)
-starts input out m = let z : length out - 0 ≡ length out = omega arith in rw z (joined-none _)
+pub starts : (m : Lister) (input out : List ℕ) → Stands m input out m 0 0 out
+starts m input out = record { texts = []; part = none feeds m input out }
 
--- the loop ends here
-pub ends : (input out out₀ : List ℕ) (m : Lister) (at used : ℕ) (all : Feed) → used ≤ length out → drop used out ≡ drop used out₀
-    → standing input out m at used ≡ all → feedIn m (drop at input) (length out - used) ≡ stopped m
-    → whole (answerOf 0 m at used) out ≡ written all out₀
-ends input out out₀ m at used all room same is stop =
-    rw (sym is, stop, add-zero, append-nil, length-take-le used out room, sym same, take-append-drop)
+module _ {m₀ : Lister} {input out₀ : List ℕ} {m : Lister} {at used : ℕ} {out : List ℕ} (s : Stands m₀ input out₀ m at used out) where
+  -- how far it has come
+  pub far : (at ≤ length input) × (used ≤ length out) × (length out ≡ length out₀)
+  far = let long = part-long feeds (s .part) in (part-within feeds (s .part), omega (arith, long, part-room feeds (s .part)), long)
 
-pub ends-all : (input : List ℕ) (m : Lister) (at room : ℕ) → length input ≤ at → feedIn m (drop at input) room ≡ stopped m
-unfolding feedIn
-ends-all input m at room h = rw (drop-of-length-le input h)
-
-module _ (input out : List ℕ) (m : Lister) (at used : ℕ) (text : List ℕ) (left : at < length input) (is : text ≡ fedByte m (getD input at 0) .text) where
-  input-is : drop at input ≡ getD input at 0 ∷ drop (at + 1) input
-  input-is = rw add-one (drop-cons input at 0 left)
-
-  pub stops : length out - used < length text → feedIn m (drop at input) (length out - used) ≡ stopped m
+  -- the loop ends here
+  ends : run feeds m₀ input (length out₀) ≡ ran 0 m (s .texts) → whole (answerOf 0 m at used) out ≡ written (feedIn m₀ input (length out₀)) out₀
   unfolding feedIn
-  stops h = rw (input-is, sym is, lt-ltb _ _ h)
+  ends e = rw (e, s .part .words-are, s .part .wrote, s .part .places-are)
 
-  module _ (out′ : List ℕ) (n : ℕ) (room : used + n ≤ length out) (size : n ≡ length text) (wrote : out′ ≡ take used out ++ text ++ drop (used + n) out) where
-    front : length (take used out ++ text) ≡ used + n
-    front = length-append (take used out) text ∙ omega (arith, length-take-le used out (omega arith))
+  pub ends-all : length input ≤ at → whole (answerOf 0 m at used) out ≡ written (feedIn m₀ input (length out₀)) out₀
+  ends-all h = ends (part-all feeds (s .part) h)
 
-    pub kept : drop (used + n) out′ ≡ drop (used + n) out
-    kept = rw wrote (drop-at (take used out ++ text) (drop (used + n) out) (used + n) front)
+  -- a byte more, whose text has no room, or was put
+  module _ (left : at < length input) where
+    abbrev text : List ℕ
+    text = fedByte m (getD input at 0) .text
 
-    pub long : length out′ ≡ length out
-    long = rw wrote (length-append (take used out ++ text) (drop (used + n) out) ∙ omega (arith, front, length-drop (used + n) out))
+    pub stops : length out < used + length text → whole (answerOf 0 m at used) out ≡ written (feedIn m₀ input (length out₀)) out₀
+    stops h = ends (part-stops feeds (s .part) left (laws.stops feeds m (getD input at 0) (length out₀ - used) (λ _. omega (arith, far))))
 
-    done : take (used + n) out′ ≡ take used out ++ text
-    done = rw wrote (take-at (take used out ++ text) (drop (used + n) out) (used + n) front)
-
-    goes : feedIn m (drop at input) (length out - used) ≡ joined 1 text (feedIn (fedByte m (getD input at 0) .next) (drop (at + 1) input) (length out - used - length text))
-    unfolding feedIn
-    goes = let h : length text ≤ length out - used = omega arith in rw (input-is, sym is, le-ltb _ _ h)
-
-    left-room : length out′ - (used + n) ≡ length out - used - length text
-    left-room = omega (arith, long)
-
-    pub again : standing input out′ (fedByte m (getD input at 0) .next) (at + 1) (used + n) ≡ standing input out m at used
-    again = rw (done, left-room, goes) (sym (joined-joined at 1 (take used out) text _))
-
--- what is left of two lists after more
-pub drop-more : (a b : List ℕ) (used n : ℕ) → drop used a ≡ drop used b → drop (used + n) a ≡ drop (used + n) b
-drop-more a b used n h = sym (drop-drop n used a) ∙ ap (drop n) h ∙ drop-drop n used b
+    pub again : (out′ : List ℕ) (n : ℕ) → n ≡ length text → used + n ≤ length out → out′ ≡ take used out ++ text ++ drop (used + n) out
+        → Stands m₀ input out₀ (fedByte m (getD input at 0) .next) (at + 1) (used + n) out′
+    again out′ n size room wrote =
+        record { texts = s .texts ++ (text ∷ []); part = rw (wrote, size) (one-more feeds (s .part) left (laws.taken feeds m (getD input at 0) (length out₀ - used) refl (omega (arith, far)))) }
 
 -- a lister that is not good is refused
 pub feed-refused : (m : Lister) (input out : List ℕ) (r : Listed) → good m ≡ false → r ≡ answerOf 6 m 0 0 → whole r out ≡ feedOf m input out

@@ -1,110 +1,155 @@
 -- No text of the lister is longer than forty bytes.
-use Prim.Native.Nat.{ℕ, _+_, _≤_}
+use Prim.Native.Nat.{ℕ, _+_, _-_, _<_, _≤_, _^_}
+use mathlib.Core.Path.{_≡_}
+use mathlib.Core.Bool.{Bool, true, false, cond}
 use mathlib.Core.List.{List, [], _∷_, _++_}
 use native.Mathlib.Omega.{arith}
-use lib.Dec.{ltb, leb, eqb}
-use lib.IntN.{_+ℤ_}
+use lib.Dec.{leb, eqb}
+use lib.IntN.{pos, natAbs}
 use lib.ListN.{length, length-append}
-use Rattle.wire.specs.declared.Report.{Report}
+use borrow.Author.Tests.{leb-false}
+use Rattle.numbers.proofs.Choices.{cases}
+use Rattle.reader.specs.Good as reader
 use Rattle.reader.specs.Promises.{stepOf}
+use Rattle.reader.specs.declared.Reader.{Reader}
 use Rattle.reader.specs.declared.Answer.{Answer}
 use Rattle.reader.specs.declared.Answer.the-variants as answer
-use Rattle.text.specs.Decimals.{digitsOf, numberOf}
-use Rattle.text.proofs.Laws.{on-cond, digits-long, number-long, signed-long}
-use Rattle.listing.specs.Lines.{width, mostLines, newline, tab, saidBy}
-use Rattle.listing.specs.Items.{E, answerItems}
-use Rattle.listing.specs.Bytes.{buttonsOf, sumOf, lineD, lineR, lineH, lineE, lineOver, allBytes}
-use Rattle.listing.specs.Machine.{Saying, Turning, atFirst, formatted, worded, lineObeyed, takenOf, endOf, unfinished, unopened, frontOf, fedByte, closedOf, lastOf}
+use Rattle.text.specs.Decimals.{plain, digitsOf, sizeIn, placesOf, decimalOf}
+use Rattle.text.proofs.Digits.{decimal-few}
+use Rattle.listing.specs.Lines.{newline, saidBy}
+use Rattle.listing.specs.Scanning.{width, mostLines, onLine, lineIn, unfinished, takenOf, scannedByte, closedOf, endOf}
+use Rattle.listing.specs.Items.{answerGiven, gaveOf, itemsIn}
+use Rattle.listing.specs.Printing.{fieldOf, fieldsOf, Form, formOf, headOf, lineOf, allBytes}
+use Rattle.listing.specs.Feeding.{unopened, frontOf, closed, itemsOf, fedByte, lastOf, good}
 use Rattle.listing.specs.declared.Line.{Line}
 use Rattle.listing.specs.declared.Line.the-variants as line
-use Rattle.listing.specs.declared.Place.{Place}
+use Rattle.listing.specs.declared.Found.{Found}
+use Rattle.listing.specs.declared.Found.the-variants as found
+use Rattle.listing.specs.declared.Field.{Field}
+use Rattle.listing.specs.declared.Field.the-variants as field
+use Rattle.listing.specs.declared.Item.{Item}
+use Rattle.listing.specs.declared.Item.the-variants as item
+use Rattle.listing.specs.declared.Given.{Given}
+use Rattle.listing.specs.declared.Given.the-variants as given
+use Rattle.listing.specs.declared.Scan.{Scan}
+use Rattle.listing.specs.declared.Scanner.{Scanner}
 use Rattle.listing.specs.declared.Lister.{Lister}
-use Rattle.listing.proofs.Grown.{all-append}
+use Rattle.listing.proofs.Small.{Small, few-kept, small-step}
+use Rattle.listing.proofs.Keeps.{closed-reads}
 
--- two lists, one behind the other
-both-few : (a b : List ℕ) (m n : ℕ) → length a ≤ m → length b ≤ n → length (a ++ b) ≤ m + n
-both-few a b m n h k = omega (arith, length-append a b)
+-- fields whose line numbers are within the width, and whose other numbers have four digits at most
+abbrev Short : List Field → Type 0
+Short [] = Unit {0}
+Short (field.Line n ∷ fs) = (n < 10 ^ width) × Short fs
+Short (field.Number x ∷ fs) = (natAbs x < 10 ^ 4) × Short fs
+Short (field.Pressed b ∷ fs) = Short fs
+Short (field.Over ∷ fs) = Short fs
 
-few-E : (n : ℕ) → length (lineE width n) ≤ 7
-unfolding lineE
-few-E n = omega (arith, both-few (digitsOf 4 n) (newline ∷ []) 4 1 (omega (arith, digits-long 4 n)) (omega arith))
+-- the most bytes of such fields, each behind its tab
+abbrev mostOf : List Field → ℕ
+mostOf [] = 0
+mostOf (field.Line n ∷ fs) = 2 + width + mostOf fs
+mostOf (field.Number x ∷ fs) = 6 + mostOf fs
+mostOf (field.Pressed b ∷ fs) = 4 + mostOf fs
+mostOf (field.Over ∷ fs) = 5 + mostOf fs
 
-few-H : (k : ℕ) → length (lineH k) ≤ 6
-unfolding lineH
-few-H k = omega (arith, both-few (numberOf 2 k) (newline ∷ []) 3 1 (omega (arith, number-long 2 k)) (omega arith))
+few-fields : (fs : List Field) → Short fs → length (fieldsOf width fs) ≤ mostOf fs
+few-fields [] h = omega arith
+few-fields (field.Line n ∷ fs) h = omega (arith, decimal-few width (width - 1) (pos n) (omega arith) (h .0), few-fields fs (h .1), length-append (fieldOf width (field.Line n)) (fieldsOf width fs))
+few-fields (field.Number x ∷ fs) h = omega (arith, decimal-few plain 3 x (omega arith) (h .0), few-fields fs (h .1), length-append (fieldOf width (field.Number x)) (fieldsOf width fs))
+few-fields (field.Pressed b ∷ fs) h = omega (arith, few-fields fs h)
+few-fields (field.Over ∷ fs) h = omega (arith, few-fields fs h)
 
-few-D : (n k : ℕ) → length (lineD width n k) ≤ 11
-unfolding lineD
-few-D n k =
-    let a = both-few (digitsOf 4 n) (tab ∷ numberOf 2 k) 4 4 (omega (arith, digits-long 4 n)) (omega (arith, number-long 2 k)) in
-    let b = both-few (digitsOf 4 n ++ (tab ∷ numberOf 2 k)) (newline ∷ []) 8 1 a (omega arith) in
-    omega (arith, b)
+few-form : (f : Form) → Short (f .fields) → length (lineOf width f) ≤ 2 + mostOf (f .fields)
+unfolding lineOf
+few-form f h = omega (arith, few-fields (f .fields) h, length-append (headOf width f) (newline ∷ []))
 
-few-R : (n letter : ℕ) (p : Report) → length (lineR width n letter p) ≤ 25
-unfolding lineR
-few-R n letter p =
-    let x = tab ∷ sumOf (p .x1) (p .x2) in
-    let y = tab ∷ sumOf (p .y1) (p .y2) in
-    let l = tab ∷ buttonsOf letter (p .buttons) in
-    let a = both-few (digitsOf 4 n) l 4 4 (omega (arith, digits-long 4 n)) (omega arith) in
-    let b = both-few (digitsOf 4 n ++ l) x 8 7 a (omega (arith, signed-long 4 (p .x1 +ℤ p .x2))) in
-    let d = both-few (digitsOf 4 n ++ l ++ x) y 15 7 b (omega (arith, signed-long 4 (p .y1 +ℤ p .y2))) in
-    let e = both-few (digitsOf 4 n ++ l ++ x ++ y) (newline ∷ []) 22 1 d (omega arith) in
-    omega (arith, e)
+-- the line of what is given
+abbrev ShortGiven : Given → Type 0
+ShortGiven given.Nothing = Unit {0}
+ShortGiven (given.One i) = Short (formOf i .fields)
 
--- the lines of a saying
-abbrev Few : ℕ → Saying → Type 0
-Few m s = length (allBytes width (s .items)) ≤ m
+most-item : (i : Item) → mostOf (formOf i .fields) ≤ 22
+most-item (item.D n k) = omega arith
+most-item (item.R n b x y) = omega arith
+most-item (item.H k) = omega arith
+most-item (item.E n) = omega arith
+most-item item.Over = omega arith
 
-single-few : (l : List ℕ) {m : ℕ} → length l ≤ m → length (l ++ []) ≤ m
-single-few l h = omega (arith, length-append l [])
+few-given : (g : Given) → ShortGiven g → length (allBytes width (itemsIn g)) ≤ 24
+few-given given.Nothing h = omega arith
+few-given (given.One i) h = omega (arith, few-form (formOf i) h, most-item i, length-append (lineOf width (formOf i)) [])
 
-few-wrong : (n : ℕ) → length (allBytes width (E n ∷ [])) ≤ 25
-few-wrong n = single-few (lineE width n) (omega (arith, few-E n))
+-- what is found on a line, whose number is below the most lines
+abbrev Numbered : Found → Type 0
+Numbered found.Nothing = Unit {0}
+Numbered (found.Format f) = Unit {0}
+Numbered (found.Word n w) = n < 10 ^ width
+Numbered (found.Bad n) = n < 10 ^ width
+Numbered found.Over = Unit {0}
+Numbered found.End = ⊥
 
-few-answer : (letter n : ℕ) (a : Answer) → length (allBytes width (answerItems letter n a)) ≤ 25
-few-answer letter n answer.Nothing = omega arith
-few-answer letter n (answer.Report p) = single-few (lineR width n letter p) (few-R n letter p)
-few-answer letter n (answer.Dropped k) = single-few (lineD width n k) (omega (arith, few-D n k))
+numbered-line : (n : ℕ) (l : Line) → Numbered (lineIn n l)
+unfolding lineIn
+numbered-line n l = cases Numbered (leb mostLines n) (λ _. tt) (λ e. go l (leb-false _ _ e))
+  where
+    go : (l : Line) → n < mostLines → Numbered (onLine n l)
+    go line.Bad h = omega arith
+    go (line.Format f) h = cases Numbered (eqb n 0) (λ _. tt) (λ _. omega arith)
+    go (line.Word w) h = cases Numbered (eqb n 0) (λ _. omega arith) (λ _. omega arith)
 
-few-obeyed : (p : Place) (n : ℕ) (l : Line) → Few 25 (lineObeyed p n l)
-unfolding formatted worded
-few-obeyed p n line.Bad = few-wrong n
-few-obeyed p n (line.Format f) = on-cond (Few 25) (atFirst p) _ _ (omega arith) (few-wrong n)
-few-obeyed p n (line.Word w) = on-cond (Few 25) (atFirst p) _ _ (few-wrong n) (few-answer (p .reader .format) n (stepOf (p .reader) w .answer))
+numbered-taken : (s : Scanner) (l : Line) → Numbered (takenOf s l .found)
+unfolding takenOf
+numbered-taken s l = cases (λ (k : Scan). Numbered (k .found)) (s .ended) (λ _. tt) (λ _. numbered-line (s .line) l)
 
-few-taken : (p : Place) (l : Line) → Few 25 (takenOf p l)
-unfolding takenOf lineOver
-few-taken p l = on-cond (Few 25) (p .ended) _ _ (omega arith) (on-cond (Few 25) (leb mostLines (p .line)) _ _ (omega arith) (few-obeyed p (p .line + 1) l))
+numbered-byte : (s : Scanner) (c : ℕ) → Numbered (scannedByte s c .found)
+unfolding scannedByte
+numbered-byte s c =
+    let P : Scan → Type 0 = λ k. Numbered (k .found) in
+    cases P (eqb c newline) (λ _. numbered-taken s (saidBy (unfinished s))) (λ _. cases P (leb 5 (s .count)) (λ _. numbered-taken s line.Bad) (λ _. tt))
 
-few-end : (p : Place) → Few 7 (endOf p)
-unfolding endOf
-few-end p =
-    on-cond (Few 7) (p .ended) _ _ (omega arith)
-    (on-cond (Few 7) (atFirst p) _ _ (single-few (lineE width 1) (few-E 1)) (single-few (lineH (p .reader .count)) (omega (arith, few-H (p .reader .count)))))
+numbered-closed : (s : Scanner) → Numbered (closedOf s .found)
+unfolding closedOf
+numbered-closed s = cases (λ (k : Scan). Numbered (k .found)) (eqb (s .count) 0) (λ _. tt) (λ _. numbered-taken s (saidBy (unfinished s)))
+
+short-gave : (r : Reader) (f : Found) → Numbered f → ShortGiven (gaveOf r f .given)
+unfolding gaveOf
+short-gave r found.Nothing h = tt
+short-gave r (found.Format f) h = tt
+short-gave r (found.Word n w) h = go (stepOf r w .answer) (small-step r w)
+  where
+    go : (a : Answer) → Small a → ShortGiven (answerGiven (r .format) n a)
+    go answer.Nothing k = tt
+    go (answer.Report p) k = (h, (k .0, (k .1, tt)))
+    go (answer.Dropped b) k = (h, (k, tt))
+short-gave r (found.Bad n) h = (h, tt)
+short-gave r found.Over h = tt
+short-gave r found.End h = absurd h
 
 few-front : (m : Lister) → length (frontOf m) ≤ 4
-unfolding frontOf numberOf
-few-front m = on-cond (λ (l : List ℕ). length l ≤ 4) (unopened m) _ _ (omega arith) (omega arith)
+unfolding frontOf lineOf decimalOf placesOf sizeIn digitsOf
+few-front m = cases (λ (l : List ℕ). length l ≤ 4) (unopened (m .scanner)) (λ _. omega arith) (λ _. omega arith)
 
-few-closed : (m : Lister) → Few 25 (closedOf m)
-unfolding closedOf
-few-closed m = on-cond (Few 25) (eqb (m .count) 0) _ _ (omega arith) (few-taken (m .place) (saidBy (unfinished m)))
+-- what the end gives to a reader that keeps few bytes
+few-end : (r : Reader) (t u : Bool) → r .count < 5 → length (allBytes width (itemsIn (gaveOf r (cond t found.Nothing (cond u (found.Bad 1) found.End)) .given))) ≤ 8
+unfolding gaveOf
+few-end r true u h = omega arith
+few-end r false true h = omega (arith, few-form (formOf (item.E 1)) (omega arith, tt), length-append (lineOf width (formOf (item.E 1))) [])
+few-end r false false h = omega (arith, few-form (formOf (item.H (r .count))) (omega arith, tt), length-append (lineOf width (formOf (item.H (r .count)))) [])
 
--- what a byte writes, and what the end does
+-- what a byte writes, and what the end of a good lister does
 pub few-byte : (m : Lister) (c : ℕ) → length (fedByte m c .text) ≤ 40
 unfolding fedByte
 few-byte m c =
-    let P : Turning → Type 0 = λ t. length (t .text) ≤ 40 in
-    on-cond P (eqb c newline) _ _ (line-few (saidBy (unfinished m))) (on-cond P (ltb (m .count) 5) _ _ (omega (arith, few-front m)) (line-few line.Bad))
-  where
-    line-few : (l : Line) → length (frontOf m ++ allBytes width (takenOf (m .place) l .items)) ≤ 40
-    line-few l = omega (arith, both-few (frontOf m) (allBytes width (takenOf (m .place) l .items)) 4 25 (few-front m) (few-taken (m .place) l))
+    let f = scannedByte (m .scanner) c .found in
+    let g = gaveOf (m .reader) f .given in
+    omega (arith, few-front m, few-given g (short-gave (m .reader) f (numbered-byte (m .scanner) c)), length-append (frontOf m) (allBytes width (itemsIn g)))
 
-pub few-last : (m : Lister) → length (lastOf m .text) ≤ 40
-unfolding lastOf
-few-last m =
-    let s = closedOf m in
-    let e = endOf (s .next) in
-    let a : length (allBytes width (s .items ++ e .items)) ≤ 32 = rw (all-append width (s .items) (e .items)) (omega (arith, both-few (allBytes width (s .items)) (allBytes width (e .items)) 25 7 (few-closed m) (few-end (s .next)))) in
-    omega (arith, both-few (frontOf m) (allBytes width (s .items ++ e .items)) 4 32 (few-front m) a)
+pub few-last : (m : Lister) → good m ≡ true → length (lastOf m .text) ≤ 40
+unfolding lastOf endOf
+few-last m ok =
+    let f = closedOf (m .scanner) .found in
+    let a = allBytes width (itemsOf m (closedOf (m .scanner))) in
+    let e = allBytes width (itemsOf (closed m) (endOf (closed m .scanner))) in
+    let few : length e ≤ 8 = few-end (closed m .reader) (closed m .scanner .ended) (eqb (closed m .scanner .line) 0) (few-kept (closed m .reader) (closed-reads m ok)) in
+    omega (arith, few-front m, few-given (gaveOf (m .reader) f .given) (short-gave (m .reader) f (numbered-closed (m .scanner))), few, length-append (frontOf m) a, length-append (frontOf m ++ a) e)

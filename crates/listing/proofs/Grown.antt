@@ -7,8 +7,8 @@ use lib.Dec.{eqb}
 use Rattle.numbers.specs.Bits.{bit}
 use Rattle.text.specs.Growth.{grownBy}
 use Rattle.text.specs.declared.Text.{Text}
-use Rattle.listing.specs.Items.{Item}
-use Rattle.listing.specs.Bytes.{bytesOf, allBytes}
+use Rattle.listing.specs.declared.Item.{Item}
+use Rattle.listing.specs.Printing.{formOf, lineOf, allBytes}
 use Rattle.text.proofs.Laws.{both}
 
 pub grown-append : (t : Text) (a b : List ℕ) → grownBy t (a ++ b) ≡ grownBy (grownBy t a) b
@@ -17,7 +17,7 @@ grown-append t a b = sym (both t a b)
 -- the lines of items behind those of others
 pub all-append : (w : ℕ) (a b : List Item) → allBytes w (a ++ b) ≡ allBytes w a ++ allBytes w b
 all-append w [] b = refl
-all-append w (i ∷ a) b = rw (all-append w a b) (sym (append-assoc (bytesOf w i) (allBytes w a) (allBytes w b)))
+all-append w (i ∷ a) b = rw (all-append w a b) (sym (append-assoc (lineOf w (formOf i)) (allBytes w a) (allBytes w b)))
 
 -- the lowest bit
 pub low-bit : (n : ℕ) → bit 0 n ≡ eqb (n % 2) 1

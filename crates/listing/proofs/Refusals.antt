@@ -5,7 +5,7 @@ use mathlib.Core.Bool.{true, false}
 use mathlib.Core.List.{List}
 use lib.ListN.{length}
 use Rattle.wire.specs.Numbers.{success}
-use Rattle.listing.specs.Machine.{good}
+use Rattle.listing.specs.Feeding.{good}
 use Rattle.listing.specs.Promises.{Whole, whole, refused, feedOf, finishOf, FreshPromise, FeedPromise, FinishPromise}
 use Rattle.listing.specs.declared.Lister.{Lister}
 use Rattle.listing.specs.declared.Listed.{Listed}

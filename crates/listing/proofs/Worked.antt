@@ -7,12 +7,15 @@ use native.Mathlib.Omega.{arith}
 use lib.ListN.{length, take, replicate, length-replicate}
 use lib.Seq.{take-all}
 use Rattle.wire.specs.Reading.{readV}
-use Rattle.text.specs.Decimals.{digitsOf, numberOf, signedOf}
+use Rattle.text.specs.Decimals.{digitsOf, sizeIn, placesOf, decimalOf, readable, plusIn, numberIn}
 use Rattle.reader.proofs.Computing as reader
-use Rattle.listing.specs.Lines.{byteIn, markIn, formatIn, saidBy}
-use Rattle.listing.specs.Bytes.{lineD, lineR, lineH, lineE}
+use Rattle.listing.specs.Lines.{markIn, formatIn, saidBy}
+use Rattle.listing.specs.Scanning.{lineIn, takenOf, scannedByte, closedOf, endOf, mostBytes}
+use Rattle.listing.specs.Scanning as scanner
+use Rattle.listing.specs.Items.{gaveOf}
+use Rattle.listing.specs.Printing.{lineOf}
 use Rattle.listing.specs.Listing.{listingOf}
-use Rattle.listing.specs.Machine.{fresh, fedByte, formatted, worded, takenOf, endOf, frontOf, closedOf, lastOf, feedIn, finishIn, good, mostBytes}
+use Rattle.listing.specs.Feeding.{fresh, frontOf, fedByte, lastOf, feedIn, finishIn, good}
 use Rattle.listing.specs.Promises.{enough, feedOf, finishOf}
 use Rattle.listing.specs.Calls.{Call, listerAfter, takenBy, writtenBy}
 use Rattle.listing.specs.Examples.{paper}
@@ -22,7 +25,7 @@ use Rattle.listing.proofs.Calls.{takes-all, in-calls, ended-early, has-
 
 -- what the calls compute with
 unfoldable computing : Unit {0}
-unfolding reader.computing feedOf finishOf feedIn finishIn lastOf closedOf endOf fedByte takenOf formatted worded frontOf good byteIn markIn formatIn saidBy lineD lineR lineH lineE digitsOf numberOf signedOf readV
+unfolding reader.computing feedOf finishOf feedIn finishIn lastOf fedByte frontOf good scanner.good closedOf endOf scannedByte takenOf lineIn gaveOf markIn formatIn saidBy lineOf digitsOf sizeIn placesOf decimalOf readable plusIn numberIn readV
 computing = tt
 
 -- a call with so many places, answered by the definition
@@ -76,7 +79,7 @@ unfolding computing
 bad-at-once rest = ended-early (call fresh (66 ∷ 9 ∷ 53 ∷ 10 ∷ []) 40 ∷ []) rest (refl, tt) refl
 
 -- n bytes c, where n is sixty thousand or more, with room for each
-pub long-ended : (n c : ℕ) → mostBytes ≤ n → call fresh (replicate n c) (enough * n) .answer .next .place .ended ≡ true
+pub long-ended : (n c : ℕ) → mostBytes ≤ n → call fresh (replicate n c) (enough * n) .answer .next .scanner .ended ≡ true
 long-ended n c h =
     let piece : List ℕ = replicate n c in
     let k = call fresh piece (enough * n) in

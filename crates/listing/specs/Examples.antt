@@ -7,13 +7,14 @@ use Rattle.numbers.specs.Signed.{untwos, signed}
 use Rattle.wire.specs.Line.{namedBy, sizeBy, markedBy, known}
 use Rattle.wire.specs.Places.{like, fitsFirst, fitsLater, fitsAt, fitsBy}
 use Rattle.wire.specs.Reading.{reportBy, readV, readU}
-use Rattle.text.specs.Decimals.{digitsOf, numberOf, signedOf}
+use Rattle.text.specs.Decimals.{digitsOf, sizeIn, placesOf, decimalOf, readable, plusIn, numberIn}
 use Rattle.reader.specs.Good.{placed, good}
 use Rattle.reader.specs.Rules.{entered, dropping, keep, start, stray, lose, byteOf, breakOf, silenceOf, wordOf}
 use Rattle.reader.specs.Promises.{freshOf, stepOf}
-use Rattle.listing.specs.Lines.{linesIn, byteIn, markIn, formatIn, saidBy, wordsAfter, recordingOf}
-use Rattle.listing.specs.Items.{wordItems}
-use Rattle.listing.specs.Bytes.{lineD, lineR, lineH, lineE}
+use Rattle.listing.specs.Lines.{linesIn, markIn, formatIn, saidBy}
+use Rattle.listing.specs.Scanning.{lineIn, foundIn}
+use Rattle.listing.specs.Items.{gaveOf, itemsFrom}
+use Rattle.listing.specs.Printing.{lineOf}
 use Rattle.listing.specs.Listing.{listingOf}
 
 -- an input and the whole output
@@ -135,5 +136,5 @@ examples =
     ∷ too-big ∷ leading-zero ∷ no-digits ∷ summed ∷ kept ∷ dropped ∷ []
 
 pub computed : map (λ e. listingOf (e .input)) examples ≡ map (λ e. e .output) examples
-unfolding listingOf linesIn byteIn markIn formatIn saidBy wordsAfter recordingOf wordItems lineD lineR lineH lineE digitsOf numberOf signedOf freshOf stepOf wordOf byteOf keep start stray lose breakOf silenceOf dropping entered good known placed namedBy sizeBy markedBy fitsBy fitsAt fitsFirst fitsLater like reportBy readV readU bit bits number untwos signed
+unfolding listingOf linesIn markIn formatIn saidBy lineIn foundIn gaveOf itemsFrom lineOf digitsOf sizeIn placesOf decimalOf readable plusIn numberIn freshOf stepOf wordOf byteOf keep start stray lose breakOf silenceOf dropping entered good known placed namedBy sizeBy markedBy fitsBy fitsAt fitsFirst fitsLater like reportBy readV readU bit bits number untwos signed
 computed = refl

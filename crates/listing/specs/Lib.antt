@@ -1,11 +1,11 @@
--- The listing: the input's lines to numbered words (Lines), words to items (Items), items to bytes (Bytes), the three in a row (Listing); and
--- the lister, byte by byte (Machine, Texts), with what is promised of it (Promises) and its calls one after the other (Calls).
+-- The listing: the input's lines (Lines) to numbered words (Scanning), words to items (Items), items to bytes (Printing), the three in a row (Listing);
+-- and the lister, byte by byte (Feeding), with what is promised of it (Promises) and its calls one after the other (Calls).
 pub mod Lines
+pub mod Scanning
 pub mod Items
-pub mod Bytes
+pub mod Printing
 pub mod Listing
-pub mod Machine
-pub mod Texts
+pub mod Feeding
 pub mod Promises
 pub mod Calls
 pub mod Examples

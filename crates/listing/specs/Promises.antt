@@ -5,7 +5,7 @@ use mathlib.Core.Bool.{cond}
 use mathlib.Core.List.{List, _++_}
 use lib.ListN.{length, drop}
 use Rattle.wire.specs.Numbers.{success, badState}
-use Rattle.listing.specs.Machine.{fresh, Feed, feedIn, finishIn, good}
+use Rattle.listing.specs.Feeding.{fresh, Feed, feedIn, finishIn, good}
 use Rattle.listing.specs.declared.Lister.{Lister}
 use Rattle.listing.specs.declared.Listed.{Listed}
 
@@ -24,12 +24,12 @@ whole listed out = record { listed = listed; out = out }
 -- the text at the front of the slice, and nothing behind it
 abbrev pub written : Feed → List ℕ → Whole
 written f out =
-    whole (record { refusal = success; next = f .next; taken = f .taken; written = length (f .text); ended = f .next .place .ended })
+    whole (record { refusal = success; next = f .next; taken = f .taken; written = length (f .text); ended = f .next .scanner .ended })
     (f .text ++ drop (length (f .text)) out)
 
 -- "a state that breaks the rules below", 6: "A refusal returns the old state [..] and counts of 0", and the slice is as it was
 abbrev pub refused : Lister → List ℕ → Whole
-refused m out = whole (record { refusal = badState; next = m; taken = 0; written = 0; ended = m .place .ended }) out
+refused m out = whole (record { refusal = badState; next = m; taken = 0; written = 0; ended = m .scanner .ended }) out
 
 -- `Lister::feed(self, input, out)`
 unfoldable pub feedOf : Lister → List ℕ → List ℕ → Whole

@@ -8,13 +8,15 @@ use lib.Dec.{eqb}
 use lib.ListN.{length}
 use lib.IntN.{ℤ}
 use borrow.Author.Tests.{eqb-false}
+use Rattle.fold.specs.Fold.{written, run}
+use Rattle.fold.proofs.Laws.{by-words}
 use Rattle.frames.specs.Words.{silence}
 use Rattle.wire.specs.Line.{letterOf, namedBy, markedBy, known}
 use Rattle.wire.specs.declared.Format.the-variants.{FiveByte}
 use Rattle.reader.specs.State.{fresh}
 use Rattle.reader.specs.Good.{good}
 use Rattle.reader.specs.Rules.{wordOf}
-use Rattle.reader.specs.Line.{Long, lineOf}
+use Rattle.reader.specs.Line.{Long, reads, lineOf}
 use Rattle.reader.specs.Counts.{reportsIn, handedOut}
 use Rattle.reader.specs.Promises.{FreshPromise, ReadPromise, freshOf}
 use Rattle.reader.specs.Runs.{stepsOf, StepsPromise, answers, hasSilence}
@@ -26,9 +28,8 @@ use Rattle.numbers.proofs.Choices.{neither}
 use Rattle.numbers.proofs.Tested.{holds}
 use Rattle.reader.proofs.Word.{dropping-reports, by-word, word-format}
 use Rattle.reader.proofs.Keeps.{word-good}
-use Rattle.reader.proofs.View.{by-words}
+use Rattle.reader.proofs.Counted.{empty, reports-first, five-each}
 use Rattle.reader.proofs.Permitted.{steps-are}
-use Rattle.reader.proofs.Steps.{reports-first}
 use Rattle.reader.proofs.Goodness.{step-word, read-line, fresh-is-good}
 
 -- an awaiting reader of an unmarked format
@@ -56,10 +57,6 @@ next-waits r w h n =
     record { is-good = word-good r (h .is-good) w; unmarked = rw (word-format r w) (h .unmarked); awaiting = word-waits r w h n .still }
 
 -- over steps
-empty : {A : Type 0} (l : List A) → length l ≡ 0 → l ≡ []
-empty [] e = refl
-empty (x ∷ l) e = absurd (omega arith)
-
 steps-wait : (words : List ℕ) (r : Reader) → Waits r → hasSilence words ≡ false → handedOut (answers (stepsOf r words)) ≡ []
 unfolding stepsOf hasSilence
 steps-wait [] r h n = refl
@@ -70,19 +67,13 @@ steps-wait (w ∷ words) r h n =
     rw (step-word r w (h .is-good)) (empty _ (omega (arith, reports-first (s .answer) (answers (stepsOf (s .next) words)), word-waits r w h quiet .none, ap length rest)))
 
 -- and over a line
-abbrev Nothing-out : List ℤ → Long → Type 0
-Nothing-out out l = (l .reading .reports ≡ 0) × (l .out ≡ out)
-
-line-waits : (words : List ℕ) (r : Reader) (out : List ℤ) → Waits r → hasSilence words ≡ false → Nothing-out out (lineOf r words out)
+line-waits : (words : List ℕ) (r : Reader) (room : ℕ) → Waits r → hasSilence words ≡ false → length (handedOut (run reads r words room .answers)) ≡ 0
 unfolding hasSilence
 line-waits =
-    by-words (λ r words out l. Waits r → hasSilence words ≡ false → Nothing-out out l) (λ r out h n. (refl, refl)) (λ r w words out s h n. (refl, refl))
-    (λ r w words out t l ih h n.
+    by-words reads (λ r words room f. Waits r → hasSilence words ≡ false → length (handedOut (f .answers)) ≡ 0) (λ r room h n. refl) (λ r w words room s h n. refl)
+    (λ r w words room f t ih h n.
     let quiet = neither (eqb w silence) (hasSilence words) n in
-    let none : t .n ≡ 0 = t .reports ∙ word-waits r w h (quiet .0) .none in
-    let front : t .front ≡ [] = empty (t .front) (omega (arith, t .sized)) in
-    let rest = rw none at (ih (next-waits r w h (quiet .0)) (quiet .1)) in
-    rw (front, none) (omega (arith, rest .0), rest .1))
+    omega (arith, reports-first (wordOf r w .answer) (f .answers), word-waits r w h (quiet .0) .none, ih (next-waits r w h (quiet .0)) (quiet .1)))
 
 -- a fresh reader of an unmarked format waits; so does that of U, which comes for a letter that is not in the table
 unmarked-U : markedBy (letterOf FiveByte) ≡ false
@@ -115,8 +106,10 @@ pub nothing-read-before-silence : (letter : ℕ) (a : NewReader) (words : List �
     → hasSilence words ≡ false
     → ReadPromise (a .reader) words out b after
     → (b .reports ≡ 0) × (after ≡ out)
+unfolding lineOf
 nothing-read-before-silence letter a words out b after m e n p =
     let waits = fresh-waits letter a m e in
     let i = p ∙ read-line (a .reader) words out (waits .is-good) in
-    let none = line-waits words (a .reader) out waits n in
-    (ap (λ (l : Long). l .reading .reports) i ∙ none .0, ap (λ (l : Long). l .out) i ∙ none .1)
+    let found = run reads (a .reader) words (length out) .answers in
+    let none = line-waits words (a .reader) (length out) waits n in
+    (ap (λ (l : Long). l .reading .reports) i ∙ none, ap (λ (l : Long). l .out) i ∙ rw (empty (written reads found) (five-each found ∙ omega (arith, none))))

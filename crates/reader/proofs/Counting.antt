@@ -4,19 +4,19 @@ use mathlib.Core.Path.{_≡_, refl, sym, _∙_, ap, subst}
 use mathlib.Core.Bool.{true}
 use mathlib.Core.Logic.{_⊎_, inl, inr}
 use mathlib.Core.List.{List}
-use native.Mathlib.Numerals.{one-add}
 use native.Mathlib.Omega.{arith}
-use lib.ListN.{take}
+use lib.ListN.{length, take}
 use lib.Dec.{eqb}
 use lib.IntN.{ℤ}
 use borrow.Author.Tests.{eqb-false}
+use Rattle.fold.proofs.Laws.{over-taken}
 use Rattle.frames.specs.Words.{break, silence}
 use Rattle.wire.specs.Line.{sizeBy}
 use Rattle.wire.specs.Numbers.{badState}
 use Rattle.reader.specs.Good.{good}
 use Rattle.reader.specs.Rules.{dropping, breakOf, silenceOf, wordOf}
-use Rattle.reader.specs.Line.{Long, lineOf}
-use Rattle.reader.specs.Counts.{byteIn, bytesIn, reportsIn, droppedIn}
+use Rattle.reader.specs.Line.{Long, reads, lineOf}
+use Rattle.reader.specs.Counts.{byteIn, bytesIn, reportsIn, droppedIn, handedOut, droppedAmong}
 use Rattle.reader.specs.Promises.{StepPromise, ReadPromise, stepOf, readOf}
 use Rattle.reader.specs.declared.Reader.{Reader}
 use Rattle.reader.specs.declared.Read.{Read}
@@ -25,7 +25,7 @@ use Rattle.reader.specs.declared.Answer.{Answer}
 use Rattle.reader.specs.declared.Answer.the-variants.{Nothing, Report, Dropped}
 use Rattle.numbers.proofs.Choices.{cases}
 use Rattle.reader.proofs.Word.{by-word, Kept, dropping-is, word-kept, word-format}
-use Rattle.reader.proofs.View.{by-words}
+use Rattle.reader.proofs.Counted.{reports-first}
 use Rattle.reader.proofs.Permitted.{step-is}
 use Rattle.reader.proofs.Goodness.{step-word}
 
@@ -41,13 +41,15 @@ step-counts r w s e =
 abbrev Counted : ℕ → Reader → List ℕ → Reading → Type 0
 Counted size r words a = bytesIn (take (a .taken) words) + r .count ≡ size * a .reports + a .dropped + a .next .count
 
-line-counts : (size : ℕ) (words : List ℕ) (r : Reader) (out : List ℤ) → sizeBy (r .format) ≡ size → Counted size r words (lineOf r words out .reading)
-unfolding bytesIn
-line-counts size =
-    by-words (λ r words out l. sizeBy (r .format) ≡ size → Counted size r words (l .reading)) (λ r out z. omega arith) (λ r w words out s z. omega arith)
-    (λ r w words out t l ih z.
-    let k = rw z at (t .kept) in
-    rw (one-add (l .reading .taken)) (omega (arith, k, ih (ap sizeBy (word-format r w) ∙ z))))
+pub line-counts : (size : ℕ) (words : List ℕ) (r : Reader) (out : List ℤ) → sizeBy (r .format) ≡ size → Counted size r words (lineOf r words out .reading)
+unfolding lineOf bytesIn droppedAmong
+line-counts size words r out =
+    over-taken reads
+    (λ r words answers next. sizeBy (r .format) ≡ size → bytesIn words + r .count ≡ size * length (handedOut answers) + droppedAmong answers + next .count)
+    (λ r z. omega arith)
+    (λ r w words answers next z ih e.
+    rw (reports-first (wordOf r w .answer) answers) (omega (arith, rw e at (word-kept r w z), ih (ap sizeBy (word-format r w) ∙ e))))
+    words r (length out)
 
 -- a long read, also at a stop for room and at a bad word
 pub read-counts : (r : Reader) (words : List ℕ) (out : List ℤ) (a : Reading) (after : List ℤ) → ReadPromise r words out a after

@@ -1,9 +1,8 @@
 -- The eighth bit of a Microsoft byte: turning it over in any bytes of a V line changes no answer, no count and no number written; and by bit 6 every
 -- byte of V is a valid first byte or a valid later one.
-use Prim.Native.Nat.{ℕ, _≤_}
+use Prim.Native.Nat.{ℕ, _-_, _≤_}
 use mathlib.Core.Path.{_≡_, refl, sym, _∙_, ap}
 use mathlib.Core.Bool.{true, not}
-use mathlib.Core.Logic.{⊎-elim}
 use mathlib.Core.List.{List, _∷_, _++_}
 use native.Mathlib.Omega.{arith}
 use lib.ListN.{length}
@@ -13,6 +12,7 @@ use Rattle.numbers.specs.Bits.{number, bit, bits}
 use Rattle.numbers.proofs.Choices.{cases}
 use Rattle.numbers.proofs.Rows.{bits-below}
 use Rattle.numbers.proofs.Tested.{agree, equal}
+use Rattle.fold.specs.Fold.{run}
 use Rattle.frames.specs.Words.{isByte}
 use Rattle.frames.specs.Passages.{Passage, UnderWay, passageWords, partWords}
 use Rattle.frames.proofs.Words.{passing, line-passes}
@@ -21,7 +21,8 @@ use Rattle.wire.specs.Places.{like, fitsFirst, fitsLater, fitsAt, fitsBy}
 use Rattle.wire.specs.Messages.{Message, messageBytes, SoundIn, SoundEnd}
 use Rattle.wire.specs.declared.Format.the-variants.{Microsoft}
 use Rattle.reader.specs.Rules.{entered, wordOf}
-use Rattle.reader.specs.Line.{Long, joined, lineOf}
+use Rattle.reader.specs.Line.{Long, reads, lineOf}
+use Rattle.reader.specs.Counts.{writtenIn}
 use Rattle.reader.specs.Good.{good}
 use Rattle.reader.specs.Promises.{ReadPromise, stepOf, readOf}
 use Rattle.reader.specs.Runs.{stepsOf, StepsPromise}
@@ -33,7 +34,6 @@ use Rattle.reader.proofs.Entered.{enters-in-V, seven-bits}
 use Rattle.reader.proofs.Framed.{frameOf}
 use Rattle.reader.proofs.Lines.{framed-line, framed-going}
 use Rattle.reader.proofs.Word.{word-format}
-use Rattle.reader.proofs.View.{view}
 use Rattle.reader.proofs.Permitted.{steps-are}
 
 -- it enters as it would with the bit turned over
@@ -64,23 +64,15 @@ same-steps none r f = refl
 same-steps (stays {w} t) r f = ap (λ (l : List Read). stepOf r w ∷ l) (same-steps t (stepOf r w .next) (step-format r w ∙ f))
 same-steps (turns {w} byte t) r f = rw (word-turned w byte r f) (ap (λ (l : List Read). stepOf r w ∷ l) (same-steps t (stepOf r w .next) (step-format r w ∙ f)))
 
-line-turned : (w : ℕ) → isByte w ≡ true → (v : List ℕ) (r : Reader) (out : List ℤ) → r .format ≡ letterOf Microsoft → lineOf r (turned w ∷ v) out ≡ lineOf r (w ∷ v) out
-unfolding lineOf
-line-turned w byte v r out f = rw (word-turned w byte r f)
-
-behind : (w : ℕ) (u v : List ℕ) (r : Reader) (out : List ℤ) → ((r : Reader) (out : List ℤ) → r .format ≡ letterOf Microsoft → lineOf r u out ≡ lineOf r v out)
-    → r .format ≡ letterOf Microsoft → lineOf r (w ∷ u) out ≡ lineOf r (w ∷ v) out
-behind w u v r out same f =
-    ⊎-elim (λ s. s .is u ∙ sym (s .is v)) (λ t. t .is u ∙ ap (joined 1 (t .n) (t .d) (t .front)) (same _ _ (word-format r w ∙ f)) ∙ sym (t .is v)) (view r w out)
-
-same-line : {u v : List ℕ} → TurnedOver u v → (r : Reader) (out : List ℤ) → r .format ≡ letterOf Microsoft → lineOf r u out ≡ lineOf r v out
-same-line none r out f = refl
-same-line (stays {w} {u} {v} t) r out f = behind w u v r out (λ q o h. same-line t q o h) f
-same-line (turns {w} {u} {v} byte t) r out f = behind w u v r out (λ q o h. same-line t q o h) f ∙ sym (line-turned w byte v r out f)
+same-run : {u v : List ℕ} → TurnedOver u v → (r : Reader) (room : ℕ) → r .format ≡ letterOf Microsoft → run reads r u room ≡ run reads r v room
+unfolding run
+same-run none r room f = refl
+same-run (stays {w} t) r room f = rw (same-run t (wordOf r w .next) (room - length (writtenIn (wordOf r w .answer))) (word-format r w ∙ f))
+same-run (turns {w} byte t) r room f = rw (word-turned w byte r f, same-run t (wordOf r w .next) (room - length (writtenIn (wordOf r w .answer))) (word-format r w ∙ f))
 
 same-read : {u v : List ℕ} → TurnedOver u v → (r : Reader) (out : List ℤ) → r .format ≡ letterOf Microsoft → readOf r u out ≡ readOf r v out
-unfolding readOf
-same-read t r out f = rw (same-line t r out f)
+unfolding readOf lineOf
+same-read t r out f = rw (same-run t r (length out) f)
 
 -- the same answers, and the same readers after them
 pub turned-steps : (r : Reader) {u v : List ℕ} (a b : List Read) → r .format ≡ letterOf Microsoft → TurnedOver u v → StepsPromise r u a → StepsPromise r v b → a ≡ b

@@ -3,12 +3,14 @@ use Prim.Native.Nat.{ℕ}
 use mathlib.Core.Path.{_≡_, refl, _∙_, ap}
 use mathlib.Core.Bool.{true}
 use mathlib.Core.List.{List}
+use lib.ListN.{length}
 use lib.IntN.{ℤ}
+use Rattle.fold.proofs.Laws.{stays}
 use Rattle.wire.specs.Line.{letterOf, namedBy, known}
 use Rattle.wire.specs.declared.Format.the-variants.{FiveByte}
 use Rattle.reader.specs.Good.{good}
 use Rattle.reader.specs.Rules.{wordOf}
-use Rattle.reader.specs.Line.{Long, lineOf}
+use Rattle.reader.specs.Line.{Long, reads, lineOf}
 use Rattle.reader.specs.Promises.{FreshPromise, StepPromise, ReadPromise, freshOf, stepOf, readOf}
 use Rattle.reader.specs.declared.Reader.{Reader}
 use Rattle.reader.specs.declared.NewReader.{NewReader}
@@ -17,7 +19,6 @@ use Rattle.reader.specs.declared.Reading.{Reading}
 use Rattle.numbers.proofs.Choices.{cases}
 use Rattle.reader.proofs.Word.{word-format}
 use Rattle.reader.proofs.Keeps.{fresh-good, word-good}
-use Rattle.reader.proofs.View.{by-words}
 use Rattle.reader.proofs.Permitted.{step-is}
 
 -- to a good reader a step is the word
@@ -41,13 +42,10 @@ pub step-stays-good : (r : Reader) (w : ℕ) (s : Read) → good r ≡ true → 
 step-stays-good r w s g e = let i = step-is r w s e ∙ step-word r w g in (rw i (word-good r g w), rw i (word-format r w))
 
 -- over a line
-abbrev Stays : Reader → Reader → Type 0
-Stays r next = (good next ≡ true) × (next .format ≡ r .format)
-
-pub line-stays-good : (words : List ℕ) (r : Reader) (out : List ℤ) → good r ≡ true → Stays r (lineOf r words out .reading .next)
-line-stays-good =
-    by-words (λ r words out l. good r ≡ true → Stays r (l .reading .next)) (λ r out g. (g, refl)) (λ r w words out s g. (g, refl))
-    (λ r w words out t l ih g. let h = ih (word-good r g w) in (h .0, h .1 ∙ word-format r w))
+pub line-stays-good : (words : List ℕ) (r : Reader) (out : List ℤ) → good r ≡ true → (good (lineOf r words out .reading .next) ≡ true) × (lineOf r words out .reading .next .format ≡ r .format)
+unfolding lineOf
+line-stays-good words r out g =
+    stays reads (λ (q : Reader). (good q ≡ true) × (q .format ≡ r .format)) (λ q w h. (word-good q (h .0) w, word-format q w ∙ h .1)) words r (length out) (g, refl)
 
 pub read-stays-good : (r : Reader) (words : List ℕ) (out : List ℤ) (a : Reading) (after : List ℤ) → good r ≡ true → ReadPromise r words out a after → (good (a .next) ≡ true) × (a .next .format ≡ r .format)
 read-stays-good r words out a after g e =

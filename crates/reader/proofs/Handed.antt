@@ -32,7 +32,7 @@ use Rattle.reader.specs.DamagedLines.{Given, no-word, a-break, HandsOutB
 use Rattle.reader.proofs.Entered.{enteredAll}
 use Rattle.reader.proofs.Framed.{frameOf, stateOf, told, ReaderOf, framed, fresh-of, fresh-state}
 use Rattle.reader.proofs.AsSent.{plain, asSent, break-plain}
-use Rattle.reader.proofs.Took.{took}
+use Rattle.reader.proofs.Steps.{took}
 
 -- the steps of the definition are permitted
 pub permitted : (r : Reader) (words : List ℕ) → StepsPromise r words (stepsOf r words)

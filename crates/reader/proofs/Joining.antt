@@ -1,47 +1,36 @@
 -- "The part of the line from any word on may be handed over, with the reader that came back and the unused part of the lent slice; if the
 -- words before it were all taken, the results join as one."
-use Prim.Native.Nat.{ℕ, _+_, _*_}
+use Prim.Native.Nat.{ℕ, _-_}
 use mathlib.Core.Path.{_≡_, refl, sym, _∙_, ap}
 use mathlib.Core.Bool.{Bool, true, false}
 use mathlib.Core.List.{List, [], _∷_, _++_}
 use native.Mathlib.Omega.{arith}
-use lib.ListN.{length, take, drop}
-use lib.Seq.{take-append-add, drop-append-add}
+use lib.ListN.{length, drop, length-drop}
+use lib.Seq.{take-append-seam, drop-append-seam}
 use lib.IntN.{ℤ}
+use Rattle.fold.specs.Fold.{Ran, written, run}
+use Rattle.fold.proofs.Laws.{join}
 use Rattle.reader.specs.Good.{good}
-use Rattle.reader.specs.Line.{Long, whole, joined, unused, asOne, lineOf}
+use Rattle.reader.specs.Line.{Long, whole, unused, asOne, reads, counted, lineOf}
 use Rattle.reader.specs.Promises.{ReadPromise, readOf}
 use Rattle.reader.specs.declared.Reader.{Reader}
 use Rattle.reader.specs.declared.Reading.{Reading}
-use Rattle.reader.proofs.View.{by-words, joined-none, joined-joined}
+use Rattle.reader.specs.declared.Answer.{Answer}
+use Rattle.reader.proofs.Counted.{five-each, counted-both}
 use Rattle.reader.proofs.Goodness.{line-stays-good}
 
 -- what was read, and then what is read of a part behind it
 abbrev thenLine : Long → List ℕ → Long
 thenLine l q = asOne (l .reading) (l .out) (lineOf (l .reading .next) q (unused (l .reading) (l .out)))
 
--- the numbers written by two, one after the other
-module _ (front rest : List ℤ) (n m : ℕ) (sized : length front ≡ 5 * n) where
-  at-seam : 5 * (n + m) ≡ length front + 5 * m
-  at-seam = omega arith
-
-  take-seam : take (5 * (n + m)) (front ++ rest) ≡ front ++ take (5 * m) rest
-  take-seam = rw (at-seam, take-append-add)
-
-  drop-seam : drop (5 * (n + m)) (front ++ rest) ≡ drop (5 * m) rest
-  drop-seam = rw (at-seam, drop-append-add)
-
-then-joined : (t n d : ℕ) (front : List ℤ) (l : Long) (q : List ℕ) → length front ≡ 5 * n → thenLine (joined t n d front l) q ≡ joined t n d front (thenLine l q)
-then-joined t n d front l q h =
-    rw (take-seam front (l .out) n (l .reading .reports) h, drop-seam front (l .out) n (l .reading .reports) h)
-    (sym (joined-joined t n d _ _ _ front _ _))
-
 join-line : (q p : List ℕ) (r : Reader) (out : List ℤ) → lineOf r p out .reading .taken ≡ length p → lineOf r (p ++ q) out ≡ thenLine (lineOf r p out) q
-join-line q =
-    by-words (λ r p out l. l .reading .taken ≡ length p → lineOf r (p ++ q) out ≡ thenLine l q) (λ r out h. sym (joined-none (lineOf r q out)))
-    (λ r w p out s h. absurd (omega arith))
-    (λ r w p out t l ih h.
-    t .is (p ++ q) ∙ ap (joined 1 (t .n) (t .d) (t .front)) (ih (omega arith)) ∙ sym (then-joined 1 (t .n) (t .d) (t .front) l q (t .sized)))
+unfolding lineOf
+join-line q p r out h =
+    let f = run reads r p (length out) in
+    let n = length (written reads (f .answers)) in
+    let rest = drop n out in
+    rw (← five-each (f .answers), take-append-seam (written reads (f .answers)) rest, drop-append-seam (written reads (f .answers)) rest, length-drop n out)
+    (ap (λ (f : Ran Reader Answer). counted f out) (join reads q p r (length out) h) ∙ counted-both (f .answers) (run reads (f .next) q (length out - n)) out)
 
 -- the same of three reads: of p ++ q, of p, and of q with the reader that came back and the unused part of the slice
 join-read : (p q : List ℕ) (r : Reader) (out : List ℤ) (b : Long) → b ≡ readOf r p out → b .reading .taken ≡ length p

@@ -1,19 +1,19 @@
 -- The laws of the reader: one answer (Permitted), what a refusal leaves (Refusals), Room, how far a long read goes (Bounds), word by word (Steps), good readers
 -- stay good (Goodness), Counting, Joining, There and Back, nothing before a silence (Awaiting), Useless, sentences of the paper (Sentences, Nowhere), demand 3's
 -- half of the reader (Damaged) with its worked lines (DamagedRuns), lines as they were sent (Followed) with theirs (FollowedRuns), Examples, wrong answers (Wrong);
--- what enters (Entered) and V's eighth bit (EighthBit); and what their proofs and those of the functions share.
+-- what enters (Entered) and V's eighth bit (EighthBit); what answers
+-- count together (Counted); and what their proofs and those of the functions share.
 pub mod Computing
 pub mod Parts
 pub mod Entered
 pub mod Word
 pub mod Keeps
-pub mod Turn
-pub mod View
-pub mod Loop
-pub mod Bounds
+pub mod Counted
 pub mod Permitted
 pub mod Goodness
 pub mod Counting
+pub mod Bounds
+pub mod Loop
 pub mod Refusals
 pub mod Joining
 pub mod Room
@@ -26,7 +26,6 @@ pub mod Sentences
 pub mod Nowhere
 pub mod Framed
 pub mod AsSent
-pub mod Took
 pub mod Lines
 pub mod EighthBit
 pub mod Handed

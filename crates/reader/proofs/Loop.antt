@@ -1,133 +1,120 @@
--- A turn of the long read's loop.
-use mathlib.Core.Path.{_≡_, sym, _∙_, ap}
-use mathlib.Core.Logic.{_⊎_, inl, inr}
-use mathlib.Core.List.{List, [], _∷_, _++_, append-assoc, append-nil}
+-- The long read's loop: where it stands, the first word of what is left, and how it goes on and ends.
+use mathlib.Core.Path.{_≡_, refl, _∙_}
+use mathlib.Core.Bool.{Bool}
+use mathlib.Core.List.{List, [], _∷_, _++_}
 use Prim.Native.Nat.{ℕ, _+_, _-_, _*_, _<_, _≤_}
-use native.Mathlib.Nat.{add-zero}
-use native.Mathlib.Numerals.{add-one}
 use native.Mathlib.Omega.{arith}
-use lib.ListN.{length, getD, take, drop, length-append, length-drop, take-append-drop, drop-of-length-le}
-use lib.Seq.{take-all, drop-cons, take-at, drop-at, length-take-le}
-use lib.IntN.{ℤ}
+use lib.ListN.{length, getD, take, drop, set, length-drop, take-append-drop}
+use lib.Seq.{sets-eq, drop-cons}
+use lib.IntN.{ℤ, pos}
 use borrow.Rule.Slice.PartMut.{putMid}
-use Rattle.frames.specs.Words.{isByte}
-use Rattle.wire.specs.Line.{sizeBy}
+use Rattle.fold.specs.Fold.{ran, run}
+use Rattle.fold.proofs.Laws.{taken, stops}
+use Rattle.fold.proofs.Parts.{rest-is, back, none, one, joins, part-within, part-room, part-long, part-left, part-none, part-all, part-ends}
+use Rattle.wire.specs.declared.Report.{Report}
+use Rattle.reader.specs.State.{fiveOf}
 use Rattle.reader.specs.Rules.{wordOf}
-use Rattle.reader.specs.Counts.{byteIn}
-use Rattle.reader.specs.Line.{Long, whole, stopped, joined, lineOf}
+use Rattle.reader.specs.Counts.{reportsIn, droppedIn, writtenIn, droppedAmong}
+use Rattle.reader.specs.Line.{whole, reads, lineOf}
+use Rattle.reader.specs.Parts.{Stands, Begins, Sized}
 use Rattle.reader.specs.declared.Reader.{Reader}
+use Rattle.reader.specs.declared.Read.{Read}
 use Rattle.reader.specs.declared.Reading.{Reading}
-use Rattle.reader.proofs.View.{Stops, Takes, view, joined-joined}
 use Rattle.reader.proofs.Word.{word-format, word-below}
-use Rattle.numbers.proofs.Choices.{cases}
+use Rattle.reader.proofs.Counted.{five-in, five-each, reports-first, reports-both, dropped-both}
+use Rattle.reader.proofs.Bounds.{line-within}
 
--- where the loop stands: what is done, and what is left
-abbrev pub standing : List ℕ → List ℤ → Reader → ℕ → ℕ → ℕ → ℕ → Long
-standing words out r at used reports dropped = joined at reports dropped (take used out) (lineOf r (drop at words) (drop used out))
+-- five stores at the front
+pub put-is : (l : List ℤ) (p : Report) (a b c d e : ℤ) → 5 ≤ length l → a ≡ pos (p .buttons) → b ≡ p .x1 → c ≡ p .y1 → d ≡ p .x2 → e ≡ p .y2 → set (set (set (set (set l 0 a) 1 b) 2 c) 3 d) 4 e ≡ fiveOf p ++ drop 5 l
+put-is l p a b c d e h ea eb ec ed ee = sets-eq (a ∷ b ∷ c ∷ d ∷ e ∷ []) l 0 h ∙ rw (ea, eb, ec, ed, ee)
 
-pub one-byte : (w : ℕ) → byteIn w ≤ 1
-one-byte w = cases (λ n. n ≤ 1) (isByte w) (λ _. omega arith) (λ _. omega arith)
+-- what is kept stays below the size, and the format stays
+stays-sized : (size : ℕ) (marked : Bool) (r : Reader) (w : ℕ) → Sized size marked r → Sized size marked (wordOf r w .next)
+stays-sized size marked r w s =
+    record { below = rw (s .sized) (word-below r w (rw (s .sized) at (s .below))); sized = rw (word-format r w) (s .sized); mark = rw (word-format r w) (s .mark) }
 
--- what a turn that took its word did
-pub record Turned (r : Reader) (w : ℕ) (o : List ℤ) (t : Reading) (last : List ℤ) : Type 0 where
-  pub front : List ℤ
-  pub sized : length front ≡ 5 * t .reports
-  pub room : 5 * t .reports ≤ length o
-  pub few : t .dropped + t .next .count ≤ 1 + r .count
-  pub format : t .next .format ≡ r .format
-  pub below : r .count < sizeBy (r .format) → t .next .count < sizeBy (r .format)
-  pub wrote : last ≡ front ++ drop (5 * t .reports) o
-  pub is : (ws : List ℕ) → lineOf r (w ∷ ws) o ≡ joined 1 (t .reports) (t .dropped) front (lineOf (t .next) ws (drop (5 * t .reports) o))
+pub starts : (r : Reader) (words : List ℕ) (out : List ℤ) → Stands r words out r 0 0 0 0 out
+unfolding droppedAmong
+starts r words out = record { answers = []; part = none reads r words out; reports-are = refl; dropped-are = refl }
 
-module _ (r : Reader) (w : ℕ) (o : List ℤ) where
-  stops : (t : Reading) (last : List ℤ) → whole t last ≡ lineOf r (w ∷ []) o → t .taken ≡ 0 → ((ws : List ℕ) → lineOf r (w ∷ ws) o ≡ stopped (t .refusal) r o) × (last ≡ o)
-  stops t last e z = go (view r w o)
-    where
-      go : Stops r w o ⊎ Takes r w o → ((ws : List ℕ) → lineOf r (w ∷ ws) o ≡ stopped (t .refusal) r o) × (last ≡ o)
-      go (inl s) = let is = e ∙ s .is [] in (λ ws. s .is ws ∙ ap (λ (l : Long). stopped (l .reading .refusal) r o) (sym is), ap (λ (l : Long). l .out) is)
-      go (inr x) = absurd (omega (arith, ap (λ (l : Long). l .reading .taken) (e ∙ x .is [])))
+module _ {size : ℕ} {marked : Bool} {r : Reader} (words : List ℕ) (out : List ℤ) {s : Read} (kept : Sized size marked r) (some : 0 < length words) (is : s ≡ wordOf r (getD words 0 0)) where
+  -- its first word stops the read, or is taken
+  pub stopping : (s .refusal ≡ 0 → length out < length (writtenIn (s .answer))) → Begins size marked r words out (record { refusal = s .refusal; next = r; taken = 0; reports = 0; dropped = 0 }) out
+  unfolding run
+  stopping h = record { stands = starts r words out; stops = λ _. rw (drop-cons words 0 0 some, is, stops reads r (getD words 0 0) (length out) (rw is at h)); sized = kept }
 
-  pub turned : (t : Reading) (last : List ℤ) → whole t last ≡ lineOf r (w ∷ []) o → (t .taken ≡ 0 → ⊥) → Turned r w o t last
+  pub taking : s .refusal ≡ 0 → length (writtenIn (s .answer)) ≤ length out
+      → Begins size marked r words out (record { refusal = 0; next = s .next; taken = 1; reports = reportsIn (s .answer); dropped = droppedIn (s .answer) }) (writtenIn (s .answer) ++ drop (length (writtenIn (s .answer))) out)
+  unfolding droppedAmong
+  taking z h =
+      let w = getD words 0 0 in
+      let p = one reads r w (drop 1 words) out (taken reads r w (length out) (rw is at z) (rw is at h)) in
+      record {
+        stands = record {
+          answers = s .answer ∷ [];
+          part = rw (drop-cons words 0 0 some, is, ← five-in (wordOf r w .answer)) p;
+          reports-are = omega (arith, reports-first (s .answer) []);
+          dropped-are = omega arith;
+        };
+        stops = λ e. absurd (omega arith);
+        sized = rw is (stays-sized size marked r w kept);
+      }
+
+-- how far it has come
+pub record Far (r : Reader) (words : List ℕ) (before : List ℤ) (taken used reports dropped : ℕ) (after : List ℤ) : Type 0 where
+  pub within : taken ≤ length words
+  pub places : used ≡ 5 * reports
+  pub room : used ≤ length before
+  pub long : length after ≡ length before
+  pub few : dropped ≤ length words + r .count
+
+module _ {words : List ℕ} {out₀ out : List ℤ} {r₀ r : Reader} {at used reports dropped : ℕ} (s : Stands r₀ words out₀ r at used reports dropped out) where
+  pub far : Far r₀ words out₀ at used reports dropped out
   unfolding lineOf
-  turned t last e z = go (view r w o)
-    where
-      go : Stops r w o ⊎ Takes r w o → Turned r w o t last
-      go (inl s) = absurd (z (ap (λ (l : Long). l .reading .taken) (e ∙ s .is [])))
-      go (inr x) =
-          let f = e ∙ x .is [] in
-          let n : t .reports ≡ x .n = ap (λ (l : Long). l .reading .reports) f ∙ add-zero _ in
-          let d : t .dropped ≡ x .d = ap (λ (l : Long). l .reading .dropped) f ∙ add-zero _ in
-          let m : t .next ≡ wordOf r w .next = ap (λ (l : Long). l .reading .next) f in
-          record {
-            front = x .front;
-            sized = rw n (x .sized);
-            room = rw n (x .room);
-            few = rw (d, m) (omega (arith, x .kept, one-byte w));
-            format = rw m (word-format r w);
-            below = λ h. rw m (word-below r w h);
-            wrote = rw n (ap (λ (l : Long). l .out) f);
-            is = rw (n, d, m) (x .is);
-          }
+  far =
+      let l = s .answers in
+      let later = run reads r (drop at words) (length out₀ - used) .answers in
+      let b = rw (s .part .is) at (line-within words r₀ out₀) in
+      record {
+        within = part-within reads (s .part);
+        places = omega (arith, five-each l, s .part .places-are, s .reports-are);
+        room = part-room reads (s .part);
+        long = part-long reads (s .part);
+        few = omega (arith, b .few, b .some, dropped-both l later, s .dropped-are);
+      }
 
--- a list from a place on, as the code lends it
-module _ {A : Type 0} where
-  pub rest-is : (l : List A) (a : ℕ) → take (length l - a) (drop a l) ≡ drop a l
-  rest-is l a = take-all (length l - a) (drop a l) (simp length-drop (omega arith))
+  -- the read ends here
+  ends : (n : ℕ) → run reads r₀ words (length out₀) ≡ ran n r (s .answers)
+      → whole (record { refusal = n; next = r; taken = at; reports = reports; dropped = dropped }) out ≡ lineOf r₀ words out₀
+  unfolding lineOf
+  ends n e = rw (e, s .part .words-are, s .reports-are, s .dropped-are, s .part .wrote, s .part .places-are)
 
-  none-after : (l : List A) (a : ℕ) → drop (length l - a) (drop a l) ≡ []
-  none-after l a = drop-of-length-le (drop a l) {i = length l - a} (simp length-drop (omega arith))
+  pub ends-all : length words ≤ at → whole (record { refusal = 0; next = r; taken = at; reports = reports; dropped = dropped }) out ≡ lineOf r₀ words out₀
+  ends-all h = ends 0 (part-all reads (s .part) h)
 
-  -- the list, when the part from a place on is back
-  pub back : (l last : List A) (a : ℕ) → putMid a (length l - a) l last ≡ take a l ++ last
-  back l last a = rw (none-after l a, append-nil last)
+  -- a part, and then a part of the rest
+  then : {u : Reader} {taken places n d : ℕ} {last : List ℤ} → Stands r (drop at words) (drop used out) u taken places n d last
+      → Stands r₀ words out₀ u (at + taken) (used + places) (reports + n) (dropped + d) (take used out ++ last)
+  then q =
+      record {
+        answers = s .answers ++ q .answers;
+        part = joins reads (s .part) (q .part);
+        reports-are = omega (arith, s .reports-are, q .reports-are, reports-both (s .answers) (q .answers));
+        dropped-are = omega (arith, s .dropped-are, q .dropped-are, dropped-both (s .answers) (q .answers));
+      }
 
-  take-two : (a b c : List A) (n m : ℕ) → length a ≡ n → length b ≡ m → take (n + m) (a ++ (b ++ c)) ≡ a ++ b
-  take-two a b c n m p q = rw (← append-assoc) (take-at (a ++ b) c (n + m) (length-append a b ∙ cc))
+  -- the rest as the code lends it
+  module _ {size : ℕ} {marked : Bool} {t : Reading} {last : List ℤ} (b : Begins size marked r (take (length words - at) (drop at words)) (take (length out - used) (drop used out)) t last) where
+    begins : Begins size marked r (drop at words) (drop used out) t last
+    begins = rw (rest-is words at, rest-is out used) at b
 
-  drop-two : (a b c : List A) (n m : ℕ) → length a ≡ n → length b ≡ m → drop (n + m) (a ++ (b ++ c)) ≡ c
-  drop-two a b c n m p q = rw (← append-assoc) (drop-at (a ++ b) c (n + m) (length-append a b ∙ cc))
+    pub more : Stands r₀ words out₀ (t .next) (at + t .taken) (used + 5 * t .reports) (reports + t .reports) (dropped + t .dropped) (putMid used (length out - used) out last)
+    more = rw (back out last used) (then (begins .stands))
 
--- the read ends here
-pub ends : (words : List ℕ) (out : List ℤ) (r : Reader) (at used reports dropped n : ℕ) → lineOf r (drop at words) (drop used out) ≡ stopped n r (drop used out)
-    → whole (record { refusal = n; next = r; taken = at; reports = reports; dropped = dropped }) out ≡ standing words out r at used reports dropped
-ends words out r at used reports dropped n e = rw (e, add-zero at, add-zero reports, add-zero dropped, take-append-drop)
+    -- it took no word: the slice is as it was, and the read ends
+    module _ (z : t .taken ≡ 0) where
+      pub unchanged : putMid used (length out - used) out last ≡ out
+      unchanged = rw (back out last used, part-none reads (begins .stands .part) z) (take-append-drop used out)
 
-pub ends-all : (words : List ℕ) (out : List ℤ) (r : Reader) (at used reports dropped : ℕ) → length words ≤ at
-    → whole (record { refusal = 0; next = r; taken = at; reports = reports; dropped = dropped }) out ≡ standing words out r at used reports dropped
-unfolding lineOf
-ends-all words out r at used reports dropped h =
-    ends words out r at used reports dropped 0 (ap (λ (l : List ℕ). lineOf r l (drop used out)) (drop-of-length-le words h))
-
--- the loop's turn
-module _ (words : List ℕ) (out : List ℤ) (r : Reader) (at used reports dropped : ℕ) (left : at < length words) (room : used ≤ length out) where
-  words-is : drop at words ≡ getD words at 0 ∷ drop (at + 1) words
-  words-is = rw add-one (drop-cons words at 0 left)
-
-  pub some : 0 < length (take (length words - at) (drop at words))
-  some = rw (rest-is words at, words-is) (omega arith)
-
-  -- what the callee says of the parts, said of the first word that is left and of the places that are left
-  pub said : (l : Long) → l ≡ lineOf r (take 1 (take (length words - at) (drop at words))) (take (length out - used) (drop used out)) → l ≡ lineOf r (getD words at 0 ∷ []) (drop used out)
-  said l e = rw (rest-is words at, rest-is out used, words-is) at e
-
-  pub again : (t : Reading) (last : List ℤ) → Turned r (getD words at 0) (drop used out) t last
-      → standing words (putMid used (length out - used) out last) (t .next) (at + 1) (used + 5 * t .reports) (reports + t .reports) (dropped + t .dropped) ≡ standing words out r at used reports dropped
-  again t last x =
-      let n = length-take-le used out room in
-      let rest = drop (5 * t .reports) (drop used out) in
-      let new : putMid used (length out - used) out last ≡ take used out ++ (x .front ++ rest) = back out last used ∙ ap (λ (l : List ℤ). take used out ++ l) (x .wrote) in
-      rw (new, take-two (take used out) (x .front) rest used (5 * t .reports) n (x .sized), drop-two (take used out) (x .front) rest used (5 * t .reports) n (x .sized))
-      (sym (joined-joined at reports dropped 1 (t .reports) (t .dropped) (take used out) (x .front) _)
-      ∙ ap (joined at reports dropped (take used out)) (sym (x .is (drop (at + 1) words)) ∙ ap (λ (l : List ℕ). lineOf r l (drop used out)) (sym words-is)))
-
-  pub same : (t : Reading) (last : List ℤ) → Turned r (getD words at 0) (drop used out) t last → length (putMid used (length out - used) out last) ≡ length out
-  same t last x =
-      rw (back out last used, x .wrote)
-      (simp length-append (omega (arith, length-take-le used out room, x .sized, x .room, length-drop (5 * t .reports) (drop used out), length-drop used out)))
-
-  pub ends-before : (t : Reading) (last : List ℤ) → whole t last ≡ lineOf r (getD words at 0 ∷ []) (drop used out) → t .taken ≡ 0
-      → whole (record { refusal = t .refusal; next = r; taken = at; reports = reports; dropped = dropped }) out ≡ standing words out r at used reports dropped
-  ends-before t last e z = ends words out r at used reports dropped (t .refusal) (ap (λ (l : List ℕ). lineOf r l (drop used out)) words-is ∙ stops r (getD words at 0) (drop used out) t last e z .0 (drop (at + 1) words))
-
-  pub unchanged : (t : Reading) (last : List ℤ) → whole t last ≡ lineOf r (getD words at 0 ∷ []) (drop used out) → t .taken ≡ 0 → putMid used (length out - used) out last ≡ out
-  unchanged t last e z = rw (back out last used, stops r (getD words at 0) (drop used out) t last e z .1) (take-append-drop used out)
+      pub ends-before : whole (record { refusal = t .refusal; next = r; taken = at; reports = reports; dropped = dropped }) out ≡ lineOf r₀ words out₀
+      ends-before = ends (t .refusal) (part-ends reads (s .part) (t .refusal) (rw (part-left reads (s .part), length-drop used out₀) at (begins .stops z)))

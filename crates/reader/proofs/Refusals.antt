@@ -1,14 +1,16 @@
 -- Refusals: 6 before 4, the old reader, no answer, counts of 0 and an unchanged slice; and 4 in a long read.
-use Prim.Native.Nat.{ℕ, _<_, _≤_, _*_}
+use Prim.Native.Nat.{ℕ, _<_, _≤_}
 use mathlib.Core.Path.{_≡_, refl, sym, _∙_, ap, subst}
 use mathlib.Core.Bool.{Bool, true, false}
 use mathlib.Core.Logic.{_⊎_, inl, inr, ⊎-elim}
 use mathlib.Core.List.{List, _∷_, _++_, List·Memᴰ·head, List·Memᴰ·tail}
-use native.Mathlib.Numerals.{one-add}
 use native.Mathlib.Omega.{arith}
-use lib.ListN.{length, getD, take, drop}
+use lib.ListN.{length, getD, take}
 use lib.IntN.{ℤ}
 use borrow.Author.Tests.{lt-leb, ne-eqb}
+use Rattle.fold.specs.Fold.{Ran, run}
+use Rattle.fold.proofs.Laws.{refused-behind, up-to, ends}
+use Rattle.fold.proofs.Laws as fold
 use Rattle.frames.specs.Words.{break, silence}
 use Rattle.wire.specs.Line.{known, letterOf}
 use Rattle.wire.specs.Numbers.{success, badState, badLetter, badWord, accepted, refusal}
@@ -16,15 +18,15 @@ use Rattle.wire.specs.declared.Format.the-variants.{FiveByte}
 use Rattle.reader.specs.State.{fresh}
 use Rattle.reader.specs.Good.{good}
 use Rattle.reader.specs.Rules.{refusing, wordOf}
-use Rattle.reader.specs.Line.{Long, whole, stopped, joined, lineOf, withRefusal}
+use Rattle.reader.specs.Line.{Long, whole, stopped, reads, counted, lineOf, withRefusal}
 use Rattle.reader.specs.Promises.{FreshPromise, StepPromise, ReadPromise, FreshRefusal, StepRefusal, ReadRefusal, newReader, freshOf, stepOf, readOf}
 use Rattle.reader.specs.declared.Reader.{Reader}
 use Rattle.reader.specs.declared.NewReader.{NewReader}
 use Rattle.reader.specs.declared.Read.{Read}
 use Rattle.reader.specs.declared.Reading.{Reading}
+use Rattle.reader.specs.declared.Answer.{Answer}
 use Rattle.numbers.proofs.Choices.{cases}
 use Rattle.reader.proofs.Word.{word-number}
-use Rattle.reader.proofs.View.{Takes, by-words}
 use Rattle.reader.proofs.Permitted.{step-is}
 use Rattle.reader.proofs.Goodness.{step-word, read-line}
 
@@ -62,10 +64,9 @@ takes-line-words r w s g h e = rw (step-is r w s e ∙ step-word r w g) (word-ta
 line-bad-word : (q : List ℕ) (w : ℕ) → silence < w → (p : List ℕ) (r : Reader) (out : List ℤ) → lineOf r p out .reading .taken ≡ length p
     → lineOf r (p ++ w ∷ q) out ≡ withRefusal badWord (lineOf r p out)
 unfolding lineOf
-line-bad-word q w b =
-    by-words (λ r p out l. l .reading .taken ≡ length p → lineOf r (p ++ w ∷ q) out ≡ withRefusal badWord l) (λ r out h. rw (above r w b))
-    (λ r v p out s h. absurd (omega arith))
-    (λ r v p out t l ih h. t .is (p ++ w ∷ q) ∙ ap (joined 1 (t .n) (t .d) (t .front)) (ih (omega arith)))
+line-bad-word q w b p r out h =
+    let bad = ap (λ (s : Read). s .refusal) (above (run reads r p (length out) .next) w b) in
+    rw (refused-behind reads q w p r (length out) h (λ z. omega (arith, bad)), bad)
 
 pub bad-word-read : (r : Reader) (p q : List ℕ) (w : ℕ) (out : List ℤ) (a b : Reading) (x y : List ℤ)
     → good r ≡ true
@@ -86,19 +87,11 @@ Ends r words out l =
 
 line-ends : (words : List ℕ) (r : Reader) (out : List ℤ) → Ends r words out (lineOf r words out)
 unfolding lineOf
-line-ends = by-words Ends (λ r out. inl refl) (λ r w words out s. stop r w words out (s .n) (s .why)) later
-  where
-    stop : (r : Reader) (w : ℕ) (words : List ℕ) (out : List ℤ) (n : ℕ) → (n ≡ success) ⊎ ((n ≡ badWord) × (silence < w)) → Ends r (w ∷ words) out (stopped n r out)
-    stop r w words out n (inl z) = inl z
-    stop r w words out n (inr b) = inr (ap (λ (m : ℕ). stopped m r out) (b .0), b .1)
-
-    later : (r : Reader) (w : ℕ) (words : List ℕ) (out : List ℤ) (t : Takes r w out) (l : Long) → Ends (wordOf r w .next) words (drop (5 * t .n) out) l
-        → Ends r (w ∷ words) out (joined 1 (t .n) (t .d) (t .front) l)
-    later r w words out t l (inl z) = inl z
-    later r w words out t l (inr b) =
-        let n = l .reading .taken in
-        let is = ap (joined 1 (t .n) (t .d) (t .front)) (b .0) ∙ ap (withRefusal badWord) (sym (t .is (take n words))) in
-        inr (rw (one-add n) (rw (one-add n) at is, b .1))
+line-ends words r out =
+    let f = run reads r words (length out) in
+    ⊎-elim (λ e. inl (e .1))
+    (λ e. ⊎-elim (λ z. inl (e .number ∙ z)) (λ b. inr (rw (up-to reads words r (length out), e .number ∙ b .0), b .1)) (word-number (f .next) (getD words (length (f .answers)) 0)))
+    (ends reads words r (length out))
 
 pub read-ends : (r : Reader) (words : List ℕ) (out : List ℤ) (a : Reading) (after : List ℤ) → good r ≡ true → ReadPromise r words out a after
     → (a .refusal ≡ success) ⊎ ((a .refusal ≡ badWord) × (silence < getD words (a .taken) 0))
@@ -129,22 +122,17 @@ read-refusals r words out a after e = go (good r) refl
     go false g = refusal (List·Memᴰ·head (rw g at e))
 
 -- "a bad word behind a stop for room is not reached": where words are left, what follows them changes nothing
-line-stopped : (q p : List ℕ) (r : Reader) (out : List ℤ) → lineOf r p out .reading .taken < length p → lineOf r (p ++ q) out ≡ lineOf r p out
-line-stopped q =
-    by-words (λ r p out l. l .reading .taken < length p → lineOf r (p ++ q) out ≡ l) (λ r out h. absurd (omega arith)) (λ r v p out s h. s .is (p ++ q))
-    (λ r v p out t l ih h. t .is (p ++ q) ∙ ap (joined 1 (t .n) (t .d) (t .front)) (ih (omega arith)))
-
 pub not-reached : (r : Reader) (p q : List ℕ) (out : List ℤ) (a b : Reading) (x y : List ℤ)
     → ReadPromise r p out b y
     → b .taken < length p
     → ReadPromise r (p ++ q) out a x
     → (a ≡ b) × (x ≡ y)
-unfolding readOf
+unfolding readOf lineOf
 not-reached r p q out a b x y f t e = go (good r) refl
   where
     go : (u : Bool) → good r ≡ u → (a ≡ b) × (x ≡ y)
     go true g =
         let i = rw g at f in
-        let j = (rw g at e) ∙ line-stopped q p r out (rw (ap (λ (l : Long). l .reading .taken) i) at t) ∙ sym i in
+        let j = (rw g at e) ∙ ap (λ (f : Ran Reader Answer). counted f out) (fold.not-reached reads q p r (length out) (rw (ap (λ (l : Long). l .reading .taken) i) at t)) ∙ sym i in
         (ap (λ (l : Long). l .reading) j, ap (λ (l : Long). l .out) j)
     go false g = let i = (rw g at e) ∙ sym (rw g at f) in (ap (λ (l : Long). l .reading) i, ap (λ (l : Long). l .out) i)

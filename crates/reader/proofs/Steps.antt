@@ -1,34 +1,34 @@
 -- A long read does exactly what the words one by one would do: it takes all line words where the slice has room for their reports.
-use Prim.Native.Nat.{ℕ, _+_, _*_, _≤_}
-use mathlib.Core.Path.{_≡_, refl, sym, _∙_, ap}
+use Prim.Native.Nat.{ℕ, suc, _+_, _-_, _*_, _≤_}
+use mathlib.Core.Path.{_≡_, refl, _∙_, ap}
 use mathlib.Core.Bool.{true}
-use mathlib.Core.List.{List, [], _∷_, _++_, append-assoc}
-use native.Mathlib.Numerals.{one-add}
+use mathlib.Core.List.{List, [], _∷_, _++_}
 use native.Mathlib.Omega.{arith}
-use lib.ListN.{length, drop, length-drop}
-use lib.Seq.{drop-drop}
+use lib.ListN.{length, drop, length-map}
 use lib.Dec.{leb}
 use lib.IntN.{ℤ}
-use borrow.Author.Tests.{leb-true, eq-eqb}
+use borrow.Author.Tests.{leb-true}
+use Rattle.fold.specs.Fold.{Ran, ran, behind, run}
+use Rattle.fold.proofs.Laws.{taken}
 use Rattle.numbers.proofs.Tested.{left, right}
 use Rattle.frames.specs.Words.{silence, lineWords}
 use Rattle.wire.specs.Numbers.{success}
 use Rattle.reader.specs.Good.{good}
 use Rattle.reader.specs.Rules.{wordOf}
-use Rattle.reader.specs.Line.{Long, whole, joined, lineOf}
-use Rattle.reader.specs.Counts.{reportsIn, droppedIn, writtenIn, handedOut, numbers, droppedAmong}
+use Rattle.reader.specs.Line.{Long, whole, reads, counted, lineOf}
+use Rattle.reader.specs.Counts.{reportsIn, writtenIn, handedOut, numbers, droppedAmong}
 use Rattle.reader.specs.Promises.{ReadPromise}
+use Rattle.reader.specs.DamagedLines.{Took}
 use Rattle.reader.specs.Runs.{stepsOf, StepsPromise, answers, readerAfter}
 use Rattle.reader.specs.declared.Reader.{Reader}
 use Rattle.reader.specs.declared.Read.{Read}
 use Rattle.reader.specs.declared.Reading.{Reading}
 use Rattle.reader.specs.declared.Answer.{Answer}
-use Rattle.reader.specs.declared.Answer.the-variants as answer
+use Rattle.reader.proofs.Counted.{reports-first, five-in, five-each, numbers-written}
 use Rattle.reader.proofs.Keeps.{word-good}
 use Rattle.reader.proofs.Permitted.{steps-are}
 use Rattle.reader.proofs.Goodness.{step-word, read-line}
 use Rattle.reader.proofs.Refusals.{word-taken}
-use Rattle.reader.proofs.Room.{goes}
 
 -- what steps have done: all words taken, their reports written to the front of the slice
 abbrev pub done : Reader → List Read → List ℤ → Long
@@ -43,42 +43,17 @@ done r steps out =
     })
     (numbers (handedOut (answers steps)) ++ drop (5 * length (handedOut (answers steps))) out)
 
--- an answer, and then those behind it
-pub reports-first : (a : Answer) (l : List Answer) → length (handedOut (a ∷ l)) ≡ reportsIn a + length (handedOut l)
-reports-first answer.Nothing l = omega arith
-reports-first (answer.Report p) l = omega arith
-reports-first (answer.Dropped k) l = omega arith
-
-written-first : (a : Answer) (l : List Answer) → numbers (handedOut (a ∷ l)) ≡ writtenIn a ++ numbers (handedOut l)
-written-first answer.Nothing l = refl
-written-first (answer.Report p) l = refl
-written-first (answer.Dropped k) l = refl
-
--- a step, and then those behind it
-first-done : (r : Reader) (s : Read) (steps : List Read) (out : List ℤ)
-    → joined 1 (reportsIn (s .answer)) (droppedIn (s .answer)) (writtenIn (s .answer)) (done (s .next) steps (drop (5 * reportsIn (s .answer)) out)) ≡ done r (s ∷ steps) out
-unfolding droppedAmong
-first-done r s steps out =
-    let n = reportsIn (s .answer) in
-    let found = handedOut (answers steps) in
-    let m = length found in
-    let both : 5 * (n + m) ≡ 5 * n + 5 * m = omega arith in
-    rw (one-add (length steps), reports-first (s .answer) (answers steps), written-first (s .answer) (answers steps), both, drop-drop (5 * m) (5 * n) out, append-assoc (writtenIn (s .answer)) (numbers found) (drop (5 * n + 5 * m) out))
-
-line-done : (words : List ℕ) (r : Reader) (out : List ℤ) → good r ≡ true → lineWords words ≡ true → 5 * length (handedOut (answers (stepsOf r words))) ≤ length out → lineOf r words out ≡ done r (stepsOf r words) out
-unfolding lineOf stepsOf lineWords droppedAmong
-line-done [] r out g l room = refl
-line-done (w ∷ words) r out g l room =
-    let line = leb-true w silence (left (leb w silence) (lineWords words) l) in
+line-done : (words : List ℕ) (r : Reader) (room : ℕ) → good r ≡ true → lineWords words ≡ true → 5 * length (handedOut (answers (stepsOf r words))) ≤ room
+    → run reads r words room ≡ ran success (readerAfter r (stepsOf r words)) (answers (stepsOf r words))
+unfolding run stepsOf lineWords
+line-done [] r room g l h = refl
+line-done (w ∷ words) r room g l h =
     let s = wordOf r w in
-    let n = reportsIn (s .answer) in
     let later = answers (stepsOf (s .next) words) in
-    let h : 5 * (n + length (handedOut later)) ≤ length out = rw (step-word r w g, reports-first (s .answer) later) at room in
-    let rest = line-done words (s .next) (drop (5 * n) out) (word-good r g w) (right (leb w silence) (lineWords words) l) (omega (arith, h, length-drop (5 * n) out)) in
-    rw (step-word r w g, eq-eqb (s .refusal) success (word-taken r w line))
-    (goes r out (s .answer) (lineOf (s .next) words) (omega (arith, h))
-    ∙ ap (joined 1 n (droppedIn (s .answer)) (writtenIn (s .answer))) rest
-    ∙ first-done r s (stepsOf (s .next) words) out)
+    let k : 5 * (reportsIn (s .answer) + length (handedOut later)) ≤ room = rw (step-word r w g, reports-first (s .answer) later) at h in
+    let n = five-in (s .answer) in
+    rw (step-word r w g, taken reads r w room (word-taken r w (leb-true w silence (left (leb w silence) (lineWords words) l))) (omega (arith, k, n)))
+    (ap (behind (s .answer ∷ [])) (line-done words (s .next) (room - length (writtenIn (s .answer))) (word-good r g w) (right (leb w silence) (lineWords words) l) (omega (arith, k, n))))
 
 pub word-by-word : (r : Reader) (words : List ℕ) (out written : List ℤ) (steps : List Read) (a : Reading)
     → good r ≡ true
@@ -87,6 +62,30 @@ pub word-by-word : (r : Reader) (words : List ℕ) (out written : List ℤ) (ste
     → 5 * length (handedOut (answers steps)) ≤ length out
     → ReadPromise r words out a written
     → whole a written ≡ done r steps out
+unfolding lineOf
 word-by-word r words out written steps a g l p room e =
     let i = steps-are r words steps p in
-    e ∙ read-line r words out g ∙ line-done words r out g l (rw i at room) ∙ ap (λ (t : List Read). done r t out) (sym i)
+    let all = answers (stepsOf r words) in
+    rw (i, ← numbers-written all, ← five-each all, ← length-map (stepsOf r words) (λ (s : Read). s .answer)) (e ∙ read-line r words out g ∙ ap (λ (f : Ran Reader Answer). counted f out) (line-done words r (length out) g l (rw i at room)))
+
+-- a step for each word
+step-each : (r : Reader) (words : List ℕ) → length (stepsOf r words) ≡ length words
+unfolding stepsOf
+step-each r [] = refl
+step-each r (w ∷ words) = ap suc (step-each _ words)
+
+pub took : (r : Reader) (words : List ℕ) (steps : List Read) (out after : List ℤ) (b : Reading)
+    → good r ≡ true
+    → lineWords words ≡ true
+    → StepsPromise r words steps
+    → 5 * length (handedOut (answers steps)) ≤ length out
+    → ReadPromise r words out b after
+    → Took words (handedOut (answers steps)) out b after
+took r words steps out after b g l p room q =
+    let is = word-by-word r words out after steps b g l p room q in
+    record {
+      refusal = ap (λ (x : Long). x .reading .refusal) is;
+      taken = ap (λ (x : Long). x .reading .taken) is ∙ ap length (steps-are r words steps p) ∙ step-each r words;
+      reports = ap (λ (x : Long). x .reading .reports) is;
+      written = ap (λ (x : Long). x .out) is;
+    }

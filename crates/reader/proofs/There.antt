@@ -10,8 +10,9 @@ use native.Mathlib.Omega.{arith}
 use lib.ListN.{length, getD, take, drop, set, replicate, List·getD-append}
 use lib.Seq.{take-at, sets, sets-eq}
 use lib.IntN.{ℤ}
-use borrow.Author.Tests.{le-leb, le-ltb, eq-eqb, ne-eqb}
+use borrow.Author.Tests.{le-leb, eq-eqb, ne-eqb}
 use Rattle.wire.proofs.Letters.{size-named, fits-named}
+use Rattle.fold.specs.Fold.{run}
 use Rattle.wire.specs.Line.{namedBy, sizeOf, sizeBy, known}
 use Rattle.wire.specs.Table.{bytesOf}
 use Rattle.wire.specs.Holds.{accepted, carriedBy}
@@ -31,7 +32,8 @@ use Rattle.wire.proofs.Front.{size-between, size-small, same-front}
 use Rattle.reader.specs.State.{reader, ready, fiveOf}
 use Rattle.reader.specs.Good.{good}
 use Rattle.reader.specs.Rules.{answered, keep, byteOf, wordOf}
-use Rattle.reader.specs.Line.{whole, lineOf}
+use Rattle.reader.specs.Line.{whole, joined, lineOf}
+use Rattle.reader.specs.Counts.{droppedAmong}
 use Rattle.reader.specs.Promises.{ReadPromise}
 use Rattle.reader.specs.Runs.{stepsOf, StepsPromise, answers, readerAfter}
 use Rattle.reader.specs.declared.Reader.{Reader}
@@ -43,6 +45,7 @@ use Rattle.reader.proofs.Entered.{fit-enters}
 use Rattle.reader.proofs.Keeps.{ready-good, word-good}
 use Rattle.reader.proofs.Permitted.{steps-are}
 use Rattle.reader.proofs.Goodness.{step-word, read-line}
+use Rattle.reader.proofs.Room.{word-more}
 
 -- a reader answers bytes by nothing up to the last and then by a report, and is ready again; by steps, and in a long read with room for it
 record Reads (r : Reader) (p : Report) (bytes : List ℕ) : Type 0 where
@@ -81,12 +84,12 @@ module _ (f : Format) (letter : ℕ) (named : namedBy letter ≡ Known f) where
 
   read-from : (bs : List ℕ) (b : ℕ) (kept : List ℕ) (n : ℕ) → good (reader letter kept n false) ≡ true → suc (n + length bs) ≡ sizeOf f → FitFrom n (b ∷ bs)
       → Reads (reader letter kept n false) (reportBy letter (sets kept n (b ∷ bs))) (b ∷ bs)
-  unfolding stepsOf lineOf
+  unfolding stepsOf lineOf run droppedAmong
   read-from [] b kept n g size fits =
       let fit = rw add-zero at (fits 0 (omega arith)) in
       let w = last-one kept n b g fit (omega arith) in
       let s = step-word (reader letter kept n false) b g ∙ w in
-      record { told = rw s; again = rw s; written = λ out room. rw (w, le-ltb (length out) 5 room) }
+      record { told = rw s; again = rw s; written = λ out room. word-more _ b [] out _ (sym w) refl room }
   read-from (c ∷ bs) b kept n g size fits =
       let fit = rw add-zero at (fits 0 (omega arith)) in
       let more : suc n ≡ sizeOf f → ⊥ = λ e. omega arith in
@@ -98,7 +101,7 @@ module _ (f : Format) (letter : ℕ) (named : namedBy letter ≡ Known f) where
       record {
         told = rw (s, less) (ap (λ (l : List Answer). answer.Nothing ∷ l) (rest .told));
         again = rw s (rest .again);
-        written = λ out room. rw (w, rest .written out room, one-add);
+        written = λ out room. word-more _ b (c ∷ bs) out _ (sym w) refl (omega arith) ∙ ap (joined 1 0 0 []) (rest .written out room) ∙ rw one-add;
       }
 
   report-is : (bytes : List ℕ) → length bytes ≡ sizeOf f → reportBy letter (sets (replicate 5 0) 0 bytes) ≡ reportOf f bytes

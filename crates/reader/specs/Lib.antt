@@ -1,11 +1,12 @@
--- The reader, heading by heading of the paper: "The reader" (State, Rules, Line), "Numbers given back" (Good, Promises), and what the laws count and
--- run (Counts, Runs), lines with bit 7 of bytes turned over (EighthBit), and what is handed out of lines, as sent or with a stretch replaced
+-- The reader, heading by heading of the paper: "The reader" (State, Rules, Line and its Parts), "Numbers given back" (Good, Promises), and what the laws
+-- count and run (Counts, Runs), lines with bit 7 of bytes turned over (EighthBit), and what is handed out of lines, as sent or with a stretch replaced
 -- (DamagedLines).
 pub mod State
 pub mod Good
 pub mod Rules
-pub mod Line
 pub mod Counts
+pub mod Line
+pub mod Parts
 pub mod Promises
 pub mod Runs
 pub mod EighthBit

@@ -1,18 +1,14 @@
 -- "Over many words": a line of words, word by word, and a lent slice.
 use Prim.Native.Nat.{ℕ, _+_, _*_}
-use mathlib.Core.Bool.{Bool, cond}
-use mathlib.Core.List.{List, [], _∷_, _++_}
+use mathlib.Core.List.{List, _++_}
 use lib.ListN.{length, take, drop}
-use lib.Dec.{ltb, eqb}
 use lib.IntN.{ℤ}
-use Rattle.wire.specs.Numbers.{success}
-use Rattle.reader.specs.State.{fiveOf}
+use Rattle.fold.specs.Fold.{Machine, Ran, written, run}
 use Rattle.reader.specs.Rules.{wordOf}
+use Rattle.reader.specs.Counts.{writtenIn, handedOut, droppedAmong}
 use Rattle.reader.specs.declared.Reader.{Reader}
-use Rattle.reader.specs.declared.Read.{Read}
 use Rattle.reader.specs.declared.Reading.{Reading}
 use Rattle.reader.specs.declared.Answer.{Answer}
-use Rattle.reader.specs.declared.Answer.the-variants.{Nothing, Report, Dropped}
 
 -- what a long read gives back ("words taken, reports written, bytes dropped"), and every number of the lent slice after it
 pub record Long : Type 0 where
@@ -63,21 +59,23 @@ unused reading out = drop (5 * reading .reports) out
 abbrev pub asOne : Reading → List ℤ → Long → Long
 asOne reading out later = joined (reading .taken) (reading .reports) (reading .dropped) (used reading out) later
 
--- "It stops, with answer 0, before a word that would finish a report when fewer than five places are left."
-abbrev pub noRoom : List ℤ → Bool
-noRoom out = ltb (length out) 5
+-- the reader as a machine over the words of a line: what one word does, and the numbers that an answer writes
+abbrev pub reads : Machine Reader Answer ℤ
+reads = record { refusal = λ r w. wordOf r w .refusal; next = λ r w. wordOf r w .next; answer = λ r w. wordOf r w .answer; writes = writtenIn }
 
--- an answer, where later says what the words behind it do with the places that are left
-abbrev pub afterAnswer : Reader → List ℤ → Answer → (List ℤ → Long) → Long
-afterAnswer r out Nothing later = joined 1 0 0 [] (later out)
-afterAnswer r out (Dropped k) later = joined 1 0 k [] (later out)
-afterAnswer r out (Report p) later = cond (noRoom out) (stopped success r out) (joined 1 1 0 (fiveOf p) (later (drop 5 out)))
+-- the answers to the words taken, counted, and their numbers at the front of the slice
+abbrev pub counted : Ran Reader Answer → List ℤ → Long
+counted f out =
+    whole
+    (record {
+      refusal = f .refusal;
+      next = f .next;
+      taken = length (f .answers);
+      reports = length (handedOut (f .answers));
+      dropped = droppedAmong (f .answers);
+    })
+    (written reads (f .answers) ++ drop (length (written reads (f .answers))) out)
 
--- a word's answer; or its refusal, "which returns the reader, reports and counts as they stand before the bad word"
-abbrev pub afterWord : Reader → List ℤ → Read → (List ℤ → Long) → Long
-afterWord r out s later = cond (eqb (s .refusal) success) (afterAnswer r out (s .answer) later) (stopped (s .refusal) r out)
-
--- the words of a line, one after the other
+-- the words of a line, one after the other. "It stops, with answer 0, before a word that would finish a report when fewer than five places are left."
 unfoldable pub lineOf : Reader → List ℕ → List ℤ → Long
-lineOf r [] out = stopped success r out
-lineOf r (w ∷ words) out = afterWord r out (wordOf r w) (lineOf (wordOf r w .next) words)
+lineOf r words out = counted (run reads r words (length out)) out

@@ -2,10 +2,10 @@
 ghost use mathlib.Core.Path.{_≡_};
 ghost use Prim.Native.Nat.{_<_, _≤_};
 ghost use mathlib.Core.List.{_++_};
-ghost use lib.ListN.{length, take, drop};
-ghost use Rattle.wire.specs.Line.{sizeBy, markedBy};
+ghost use lib.ListN.{length, drop};
 ghost use Rattle.reader.specs.State.{fiveOf};
 ghost use Rattle.reader.specs.Line.{whole, lineOf};
+ghost use Rattle.reader.specs.Parts.{Begins, Sized};
 use crate::Answer;
 use crate::Reader;
 use crate::Reading;
@@ -45,8 +45,8 @@ fn reading(refusal: u8, next: Reader, taken: usize, reports: usize, dropped: usi
 impl Reader {
     // The first word of a part of the line, and its report to the front of the places that are left.
     fn first(self, size: usize, marked: bool, words: &[u16], out: &mut [i16]) -> Reading
-        requires { ⌜ (self .count < size) × (size ≡ sizeBy (self .format)) × (marked ≡ markedBy (self .format)) × (0 < length (now words)) ⌝ }
-        ensures { λ r. ⌜ whole r (now (out .exit)) ≡ lineOf self (take 1 (now (words .entry))) (now (out .entry)) ⌝ }
+        requires { ⌜ Sized size marked self × (0 < length (now words)) ⌝ }
+        ensures { λ r. ⌜ Begins size marked self (now (words .entry)) (now (out .entry)) r (now (out .exit)) ⌝ }
     {
         let s = self.word(size, marked, words[0]);
         if s.refusal != SUCCESS {
@@ -69,7 +69,7 @@ impl Reader {
 
     // The words of a line: what is left of it, from the next word on, is handed over with the reader that came back and the places that are left.
     pub(crate) fn line(self, size: usize, marked: bool, words: &[u16], out: &mut [i16]) -> Reading
-        requires { ⌜ (self .count < size) × (size ≡ sizeBy (self .format)) × (marked ≡ markedBy (self .format)) ⌝ }
+        requires { ⌜ Sized size marked self ⌝ }
         ensures { λ r. ⌜ whole r (now (out .exit)) ≡ lineOf self (now (words .entry)) (now (out .entry)) ⌝ }
     {
         let mut r = self;
@@ -84,7 +84,7 @@ impl Reader {
             }
             let next = t.next;
             r = next;
-            at = at + 1;
+            at = at + t.taken;
             used = used + 5 * t.reports;
             reports = reports + t.reports;
             dropped = dropped + t.dropped;

@@ -5,7 +5,8 @@ use mathlib.Core.Bool.{Bool, false}
 use mathlib.Core.List.{List}
 use lib.IntN.{ℤ}
 use Rattle.text.proofs.Laws.{put-none}
-use Rattle.text.specs.Promises.{NonePromise, WithPromise, DigitsPromise, NumberPromise, SignedPromise, PutPromise}
+use Rattle.text.specs.Promises.{NonePromise, WithPromise, DecimalPromise, NumberPromise, PutPromise}
+use Rattle.text.specs.declared.Number.{Number}
 use Rattle.text.specs.declared.Text.{Text}
 
 pub one-none : {a b : Text} → NonePromise a → NonePromise b → a ≡ b
@@ -14,14 +15,11 @@ one-none p q = p ∙ sym q
 pub one-with : (t : Text) (byte : ℕ) {a b : Text} → WithPromise t byte a → WithPromise t byte b → a ≡ b
 one-with t byte p q = p ∙ sym q
 
-pub one-digits : (t : Text) (places n : ℕ) {a b : Text} → DigitsPromise t places n a → DigitsPromise t places n b → a ≡ b
-one-digits t places n p q = p ∙ sym q
+pub one-decimal : (t : Text) (width : ℕ) (x : ℤ) {a b : Text} → DecimalPromise t width x a → DecimalPromise t width x b → a ≡ b
+one-decimal t width x p q = p ∙ sym q
 
-pub one-number : (t : Text) (places n : ℕ) {a b : Text} → NumberPromise t places n a → NumberPromise t places n b → a ≡ b
-one-number t places n p q = p ∙ sym q
-
-pub one-signed : (t : Text) (places : ℕ) (x : ℤ) {a b : Text} → SignedPromise t places x a → SignedPromise t places x b → a ≡ b
-one-signed t places x p q = p ∙ sym q
+pub one-number : (bytes : List ℕ) (width : ℕ) {a b : Number} → NumberPromise bytes width a → NumberPromise bytes width b → a ≡ b
+one-number bytes width p q = p ∙ sym q
 
 pub one-put : (t : Text) (at : ℕ) (before : List ℕ) {a b : Bool} {left right : List ℕ} → PutPromise t at before a left → PutPromise t at before b right
     → (a ≡ b) × (left ≡ right)

@@ -1,3 +1,4 @@
--- Laws of texts, and one answer for every argument.
+-- Laws of texts and of decimals, and one answer for every argument.
 pub mod Laws
+pub mod Digits
 pub mod Answers

@@ -5,7 +5,8 @@ use mathlib.Core.Bool.{Bool}
 use mathlib.Core.List.{List}
 use lib.IntN.{ℤ}
 use Rattle.text.specs.Growth.{none, grown, grownBy, fitsAt, putOf}
-use Rattle.text.specs.Decimals.{digitsOf, numberOf, signedOf}
+use Rattle.text.specs.Decimals.{decimalOf, numberIn}
+use Rattle.text.specs.declared.Number.{Number}
 use Rattle.text.specs.declared.Text.{Text}
 
 -- `Text::none()`: the empty text
@@ -16,17 +17,13 @@ NonePromise r = r ≡ none
 abbrev pub WithPromise : Text → ℕ → Text → Type 0
 WithPromise t b r = r ≡ grown t b
 
--- `Text::digits(self, places, n)`: the last digits, as many as there are places
-abbrev pub DigitsPromise : Text → ℕ → ℕ → Text → Type 0
-DigitsPromise t places n r = r ≡ grownBy t (digitsOf places n)
+-- `Text::decimal(self, width, x)`: the decimal of a number
+abbrev pub DecimalPromise : Text → ℕ → ℤ → Text → Type 0
+DecimalPromise t width x r = r ≡ grownBy t (decimalOf width x)
 
--- `Text::number(self, places, n)`: without leading zeros
-abbrev pub NumberPromise : Text → ℕ → ℕ → Text → Type 0
-NumberPromise t places n r = r ≡ grownBy t (numberOf places n)
-
--- `Text::signed(self, places, x)`: the same with its sign
-abbrev pub SignedPromise : Text → ℕ → ℤ → Text → Type 0
-SignedPromise t places x r = r ≡ grownBy t (signedOf places x)
+-- `Number::read(bytes, width)`: the number of a decimal
+abbrev pub NumberPromise : List ℕ → ℕ → Number → Type 0
+NumberPromise bytes width r = r ≡ numberIn width bytes
 
 -- `Text::put(self, out, at)`: whether it was put, and every byte of the slice
 abbrev pub PutPromise : Text → ℕ → List ℕ → Bool → List ℕ → Type 0

@@ -12,6 +12,9 @@ read-requires c κs = search needs
 count-requires : tie.Need-count-requires
 count-requires c κs = search needs
 
+is-read-requires : tie.Need-is-read-requires
+is-read-requires c κs = search needs
+
 same-length : tie.Need-same-length
 same-length c = search needs
 
@@ -45,6 +48,7 @@ block-spec =
     (tie.spec
     read-requires
     count-requires
+    is-read-requires
     same-length
     returns
     slice-reshare-prefix-list

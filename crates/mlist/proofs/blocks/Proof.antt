@@ -5,7 +5,8 @@ use mathlib.Core.Path.{_≡_, refl, _∙_}
 use mathlib.Core.Bool.{true, cond}
 use native.Mathlib.Omega.{arith}
 use lib.ListN.{length}
-use Rattle.listing.specs.Machine.{good, passed, mostBytes}
+use Rattle.listing.specs.Scanning.{passed, mostBytes}
+use Rattle.listing.specs.Feeding.{good}
 use Rattle.listing.proofs.Keeps.{fresh-is-good}
 use Rattle.mlist.proofs.Taken.{stays-good, falls}
 use Rattle.mlist.proofs.blocks.Statement.{statement}
@@ -15,7 +16,7 @@ abbrev Inv-loop : tie.InvT-loop
 Inv-loop input₀ out₀ went₀ input out went = (good (went .next) ≡ true) × (length input ≡ length input₀) × (length out ≡ length out₀)
 
 abbrev μ-loop : tie.MeasureT-loop
-μ-loop input₀ out₀ went₀ input out went = cond (went .on) (mostBytes - passed (went .next)) 0
+μ-loop input₀ out₀ went₀ input out went = cond (went .on) (mostBytes - passed (went .next .scanner)) 0
 
 fresh-requires : tie.Need-fresh-requires Inv-loop μ-loop
 fresh-requires c κs = tt
@@ -30,20 +31,20 @@ loop-less : tie.Need-loop-less Inv-loop μ-loop
 loop-less c =
     let loop = c .before .before .before .before .before .before .before .before .loop in
     let block = c .before .before .before .before .block in
-    rw (c .before .before .before .before .before .before .before .loop-test .taken) (falls (loop .went .next) _ _ _ (block .result .next) (block .result .on) (loop .inv .0) (block .ensures))
+    rw (c .before .before .before .before .before .before .before .loop-test .taken) (falls (loop .went .next) _ _ _ (block .result .next) (block .result .on) (block .result .well) (loop .inv .0) (block .ensures))
 
 loop-again : tie.Need-loop-again Inv-loop μ-loop
 loop-again c = let block = c .before .before .before .before .block in
     let inv = c .before .before .before .before .before .before .before .before .loop .inv in
     let same-input : length (block .last .1 .0) ≡ length (c .before .before .before .before .before .before .before .before .loop .input) = search needs in
     let same-out : length (block .last .1 .1 .0) ≡ length (c .before .before .before .before .before .before .before .before .loop .out) = search needs in
-    (stays-good _ _ _ _ _ _ (inv .0) (block .ensures), same-input ∙ inv .1, same-out ∙ inv .2)
+    (stays-good _ _ _ _ _ _ _ (inv .0) (block .ensures), same-input ∙ inv .1, same-out ∙ inv .2)
 
 same-length : tie.Need-same-length Inv-loop μ-loop
-same-length c = c .before .before .loop .inv .1
+same-length c = c .before .loop .inv .1
 
 same-length-2 : tie.Need-same-length-2 Inv-loop μ-loop
-same-length-2 c = c .before .before .loop .inv .2
+same-length-2 c = c .before .loop .inv .2
 
 returns : tie.Need-returns Inv-loop μ-loop
 returns c = tt

@@ -1,21 +1,29 @@
--- `long`: between the ends of sixteen bits it fits them.
+-- `long`: the first bytes of the decimal's text.
 use borrow.Author.Needs.{needs}
-use Rattle.numbers.specs.Signed.{least, most}
-use Rattle.numbers.proofs.Choices.{neither}
-use Rattle.numbers.proofs.Held.{between-fits}
 use Rattle.figures.proofs.print.long.Statement.{statement}
 use Rattle.figures.proofs.print.long.Tie as tie
 
-cast-signed : tie.Need-cast-signed
-cast-signed c = let n = neither _ _ (c .if1 .left) in between-fits {lo = least} {hi = most} (search needs) (search needs) (n .0) (n .1)
+none-requires : tie.Need-none-requires
+none-requires c κs = search needs
+
+decimal-requires : tie.Need-decimal-requires
+decimal-requires c κs = search needs
+
+slice-aggregate-front : tie.Need-slice-aggregate-front
+slice-aggregate-front c = search needs
+
+front-requires : tie.Need-front-requires
+front-requires c κs = search needs
+
+returns : tie.Need-returns
+returns c = search needs
 
 pub long-spec : {M : Type 1} → statement M
 long-spec =
     tie.close
     (tie.spec
-    (λ c. search needs)
-    (λ c κs. search needs)
-    cast-signed
-    (λ c κs. search needs)
-    (λ c. search needs)
-    (λ c. search needs))
+    none-requires
+    decimal-requires
+    slice-aggregate-front
+    front-requires
+    returns)

@@ -1,46 +1,31 @@
 -- The bytes of a piece: what is done, and what the rest gives.
-use mathlib.Core.Path.{_≡_, refl, sym, _∙_, ap}
+use mathlib.Core.Path.{_≡_, sym, _∙_, ap}
 use borrow.Author.Tests.{not-true, not-false}
-use mathlib.Core.Bool.{true}
-use Prim.Native.Nat.{_+_, _-_, _<_, _≤_}
+use Prim.Native.Nat.{_+_, _-_, _≤_}
 use native.Mathlib.Omega.{arith}
-use lib.ListN.{length, drop, getD}
-use Rattle.text.specs.Growth.{textOf, fitsAt}
-use Rattle.listing.specs.Machine.{fedByte, feedIn}
+use lib.ListN.{length, getD}
+use Rattle.text.specs.Growth.{textOf}
+use Rattle.listing.specs.Feeding.{fedByte}
 use Rattle.listing.specs.Promises.{whole}
 use Rattle.listing.specs.declared.Turn.{Turn}
 use Rattle.listing.specs.declared.Listed.{Listed}
 use Rattle.listing.proofs.Few.{few-byte}
 use Rattle.text.proofs.Laws.{put-none}
-use Rattle.listing.proofs.Feeds.{size, put-room, put-wrote, put-short, standing, starts, ends, ends-all, stops, kept, long, again, drop-more}
+use Rattle.listing.proofs.Feeds.{size, put-room, put-wrote, put-short, Stands, starts, far, ends-all, stops, again}
 use Rattle.listing.proofs.Lister.bytes.Statement.{statement}
 use Rattle.listing.proofs.Lister.bytes.Tie as tie
 
 abbrev Inv-loop : tie.InvT-loop
-Inv-loop input out₀ m₀ at₀ used₀ out m at used =
-    (at ≤ length input)
-    × (used ≤ length out)
-    × (length out ≡ length out₀)
-    × (drop used out ≡ drop used out₀)
-    × (standing input out m at used ≡ feedIn m₀ input (length out₀))
+Inv-loop input out₀ m₀ at₀ used₀ out m at used = Stands m₀ input out₀ m at used out × ((at ≤ length input) × (used ≤ length out) × (length out ≡ length out₀))
 
 abbrev μ-loop : tie.MeasureT-loop
 μ-loop input out₀ m₀ at₀ used₀ out m at used = length input - at
 
 loop-holds : tie.Need-loop-holds Inv-loop μ-loop
-loop-holds c = let a = c .before .before .args in (omega arith, omega arith, refl, refl, starts (a .input .now) (a .out .now) (a .self))
+loop-holds c = let a = c .before .before .args in let s = starts (a .self) (a .input .now) (a .out .now) in (s, far s)
 
 shared-slice-read-byte : tie.Need-shared-slice-read-byte Inv-loop μ-loop
 shared-slice-read-byte c = omega arith
-
-byte-requires : tie.Need-byte-requires Inv-loop μ-loop
-byte-requires c κs = tt
-
-put-requires : tie.Need-put-requires Inv-loop μ-loop
-put-requires c κs = tt
-
-answer-requires : tie.Need-answer-requires Inv-loop μ-loop
-answer-requires c κs = tt
 
 -- the text and the lister that a byte gave, and the room that its text had
 text-is : (c : tie.After-byte Inv-loop μ-loop) → c .byte .result .text ≡ textOf (fedByte (c .before .before .before .loop .m) (getD (c .before .before .before .before .before .before .args .input .now) (c .before .before .before .loop .at) 0) .text)
@@ -49,17 +34,11 @@ text-is c = ap (λ (t : Turn). t .text) (c .byte .ensures)
 next-is : (c : tie.After-byte Inv-loop μ-loop) → c .byte .result .next ≡ fedByte (c .before .before .before .loop .m) (getD (c .before .before .before .before .before .before .args .input .now) (c .before .before .before .loop .at) 0) .next
 next-is c = ap (λ (t : Turn). t .next) (c .byte .ensures)
 
-yes-is : (c : tie.After-next Inv-loop μ-loop) → fitsAt (c .before .before .before .before .before .before .before .byte .result .text) (c .before .before .before .before .before .before .before .before .before .before .loop .used) (c .before .before .before .before .before .before .before .before .before .before .loop .out) ≡ true
-yes-is c = sym (c .before .before .before .before .put .ensures .0) ∙ not-false _ (c .before .if1 .left)
-
-room-is : (c : tie.After-next Inv-loop μ-loop) → c .before .before .before .before .before .before .before .before .before .before .loop .used + c .before .before .before .before .before .before .before .byte .result .text .len ≤ length (c .before .before .before .before .before .before .before .before .before .before .loop .out)
-room-is c = put-room (c .before .before .before .before .before .before .before .byte .result .text) (c .before .before .before .before .before .before .before .before .before .before .loop .used) (c .before .before .before .before .before .before .before .before .before .before .loop .out) (yes-is c)
-
 same-length : tie.Need-same-length Inv-loop μ-loop
 same-length c = let l = c .before .before .before .before .before .before .before .before .before .before .loop in
     let p = c .before .before .before .before .put in
     let no = sym (p .ensures .0) ∙ not-true _ (c .before .if1 .taken) in
-    ap length (p .ensures .1 ∙ put-none (c .before .before .before .before .before .before .before .byte .result .text) (l .used) (l .out) no) ∙ l .inv .2
+    ap length (p .ensures .1 ∙ put-none (c .before .before .before .before .before .before .before .byte .result .text) (l .used) (l .out) no) ∙ l .inv .1 .2
 
 returns : tie.Need-returns Inv-loop μ-loop
 returns c = let l = c .before .before .before .before .before .before .before .before .before .before .loop in
@@ -70,56 +49,46 @@ returns c = let l = c .before .before .before .before .before .before .before .b
     let few = few-byte (l .m) (getD (a .input .now) (l .at) 0) in
     let no = sym (p .ensures .0) ∙ not-true _ (c .before .if1 .taken) in
     let is = text-is (c .before .before .before .before .before .before .before) in
-    let short : length (l .out) - l .used < length (x .text) = omega (arith, put-short (x .text) t is few (l .used) (l .out) no, size (x .text) t is few (l .used) (l .out)) in
     ap (whole _) (p .ensures .1 ∙ put-none t (l .used) (l .out) no) ∙ ap (λ (r : Listed). whole r (l .out)) (c .answer .ensures)
-    ∙ ends (a .input .now) (l .out) (a .out .now) (l .m) (l .at) (l .used) _ (l .inv .1) (l .inv .3) (l .inv .4)
-    (stops (a .input .now) (l .out) (l .m) (l .at) (l .used) (x .text) (c .before .before .before .before .before .before .before .before .before .loop-test .taken) refl short)
+    ∙ stops (l .inv .0) (c .before .before .before .before .before .before .before .before .before .loop-test .taken)
+    (omega (arith, put-short (x .text) t is few (l .used) (l .out) no, size (x .text) t is few (l .used) (l .out)))
+
+-- where it stands behind the byte
+turn : (c : tie.After-next Inv-loop μ-loop)
+    → let l = c .before .before .before .before .before .before .before .before .before .before .loop in
+    let a = c .before .before .before .before .before .before .before .before .before .before .before .before .before .args in
+    let y = c .before .before .before .before .before .before .before .byte .result in
+    Stands (a .self) (a .input .now) (a .out .now) (y .next) (l .at + 1) (l .used + y .text .len) (c .before .before .before .before .put .last .1 .0)
+turn c = let l = c .before .before .before .before .before .before .before .before .before .before .loop in
+    let a = c .before .before .before .before .before .before .before .before .before .before .before .before .before .args in
+    let p = c .before .before .before .before .put in
+    let y = c .before .before .before .before .before .before .before in
+    let t = y .byte .result .text in
+    let x = fedByte (l .m) (getD (a .input .now) (l .at) 0) in
+    let few = few-byte (l .m) (getD (a .input .now) (l .at) 0) in
+    let yes = sym (p .ensures .0) ∙ not-false _ (c .before .if1 .left) in
+    rw (next-is y)
+    (again (l .inv .0) (c .before .before .before .before .before .before .before .before .before .loop-test .taken) (p .last .1 .0) (t .len) (size (x .text) t (text-is y) few (l .used) (l .out))
+    (put-room t (l .used) (l .out) yes) (p .ensures .1 ∙ put-wrote (x .text) t (text-is y) few (l .used) (l .out) yes))
 
 add-at : tie.Need-add-at Inv-loop μ-loop
 add-at c = omega arith
 
 add-used : tie.Need-add-used Inv-loop μ-loop
-add-used c = let l = c .before .before .before .before .before .before .before .before .before .before .loop in
-    let fits = room-is c in
-    omega arith
+add-used c = omega (arith, far (turn c))
 
 loop-less : tie.Need-loop-less Inv-loop μ-loop
 loop-less c = omega arith
 
 loop-again : tie.Need-loop-again Inv-loop μ-loop
-loop-again c = let l = c .before .before .before .before .before .before .before .before .before .before .loop in
-    let a = c .before .before .before .before .before .before .before .before .before .before .before .before .before .args in
-    let p = c .before .before .before .before .put in
-    let y = c .before .before .before .before .before .before .before .byte in
-    let t = y .result .text in
-    let x = fedByte (l .m) (getD (a .input .now) (l .at) 0) in
-    let few = few-byte (l .m) (getD (a .input .now) (l .at) 0) in
-    let is = text-is (c .before .before .before .before .before .before .before) in
-    let fits = room-is c in
-    let wrote = p .ensures .1 ∙ put-wrote (x .text) t is few (l .used) (l .out) (yes-is c) in
-    let s = size (x .text) t is few (l .used) (l .out) in
-    let k = long (a .input .now) (l .out) (l .m) (l .at) (l .used) (x .text) (c .before .before .before .before .before .before .before .before .before .loop-test .taken) refl (p .last .1 .0) (t .len) fits s wrote in (
-      omega arith,
-      rw k fits,
-      k ∙ l .inv .2,
-      kept (a .input .now) (l .out) (l .m) (l .at) (l .used) (x .text) (c .before .before .before .before .before .before .before .before .before .loop-test .taken) refl (p .last .1 .0) (t .len) fits s wrote
-          ∙ drop-more (l .out) (a .out .now) (l .used) (t .len) (l .inv .3),
-      rw (next-is (c .before .before .before .before .before .before .before))
-          (again (a .input .now) (l .out) (l .m) (l .at) (l .used) (x .text) (c .before .before .before .before .before .before .before .before .before .loop-test .taken) refl (p .last .1 .0) (t .len) fits s wrote ∙ l .inv .4),
-    )
-
-answer-requires-2 : tie.Need-answer-requires-2 Inv-loop μ-loop
-answer-requires-2 c κs = tt
+loop-again c = (turn c, far (turn c))
 
 same-length-2 : tie.Need-same-length-2 Inv-loop μ-loop
-same-length-2 c = c .before .before .loop .inv .2
+same-length-2 c = c .before .before .loop .inv .1 .2
 
 returns-2 : tie.Need-returns-2 Inv-loop μ-loop
 returns-2 c = let l = c .before .before .loop in
-    let a = c .before .before .before .before .before .args in
-    ap (λ (r : Listed). whole r (l .out)) (c .answer2 .ensures)
-    ∙ ends (a .input .now) (l .out) (a .out .now) (l .m) (l .at) (l .used) _ (l .inv .1) (l .inv .3) (l .inv .4)
-    (ends-all (a .input .now) (l .m) (l .at) _ (c .before .loop-test .left))
+    ap (λ (r : Listed). whole r (l .out)) (c .answer2 .ensures) ∙ ends-all (l .inv .0) (c .before .loop-test .left)
 
 pub bytes-spec : {M : Type 1} → statement M
 bytes-spec =
@@ -129,15 +98,15 @@ bytes-spec =
     μ-loop
     loop-holds
     shared-slice-read-byte
-    byte-requires
-    put-requires
-    answer-requires
+    (λ c κs. tt)
+    (λ c κs. tt)
+    (λ c κs. tt)
     same-length
     returns
     add-at
     add-used
     loop-less
     loop-again
-    answer-requires-2
+    (λ c κs. tt)
     same-length-2
     returns-2)

@@ -6,24 +6,12 @@ use Rattle.listing.proofs.Feeds.{feed-refused, feed-good}
 use Rattle.listing.proofs.Lister.feed.Statement.{statement}
 use Rattle.listing.proofs.Lister.feed.Tie as tie
 
-good-requires : tie.Need-good-requires
-good-requires c κs = search needs
-
-answer-requires : tie.Need-answer-requires
-answer-requires c κs = search needs
-
 returns : tie.Need-returns
 returns c = let a = c .before .before .before .before .before .args in feed-refused (a .self) (a .input .now) (a .out .now) _ (sym (c .before .before .good2 .ensures) ∙ not-true _ (c .before .if1 .taken)) (c .answer .ensures)
-
-bytes-requires : tie.Need-bytes-requires
-bytes-requires c κs = search needs
-
-same-length : tie.Need-same-length
-same-length c = search needs
 
 returns-2 : tie.Need-returns-2
 returns-2 c = let a = c .before .before .before .before .before .before .before .before .args in feed-good (a .self) (a .input .now) (a .out .now) _ _ (sym (c .before .before .before .before .before .good2 .ensures) ∙ not-false _ (c .before .before .before .before .if1 .left)) (c .before .before .bytes .ensures)
 
 pub feed-spec : {M : Type 1} → statement M
 feed-spec =
-    tie.close (tie.spec good-requires answer-requires returns bytes-requires same-length returns-2)
+    tie.close (tie.spec (λ c κs. search needs) (λ c κs. search needs) returns (λ c κs. search needs) (λ c. search needs) returns-2)

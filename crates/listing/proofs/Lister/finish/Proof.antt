@@ -9,57 +9,35 @@ use Rattle.listing.proofs.Feeds.{answerOf, finish-refused, finish-stops
 use Rattle.listing.proofs.Lister.finish.Statement.{statement}
 use Rattle.listing.proofs.Lister.finish.Tie as tie
 
-good-requires : tie.Need-good-requires
-good-requires c κs = search needs
-
-answer-requires : tie.Need-answer-requires
-answer-requires c κs = search needs
-
 returns : tie.Need-returns
 returns c = let a = c .before .before .before .before .args in finish-refused (a .self) (a .out .now) _ (sym (c .before .before .good2 .ensures) ∙ not-true _ (c .before .if1 .taken)) (c .answer .ensures)
-
-last-requires : tie.Need-last-requires
-last-requires c κs = search needs
-
-put-requires : tie.Need-put-requires
-put-requires c κs = search needs
-
-answer-requires-2 : tie.Need-answer-requires-2
-answer-requires-2 c κs = search needs
-
-same-length : tie.Need-same-length
-same-length c = search needs
 
 returns-2 : tie.Need-returns-2
 returns-2 c = let a = c .before .before .before .before .before .before .before .before .before .before .before .args in let m = a .self in
     let p = c .before .before .before .before .put in
-    finish-stops m (a .out .now) _ _ (sym (c .before .before .before .before .before .before .before .before .before .good2 .ensures) ∙ not-false _ (c .before .before .before .before .before .before .before .before .if1 .left)) _ (ap (λ (t : Turn). t .text) (c .before .before .before .before .before .before .before .last .ensures)) (few-last m) (p .ensures .1) (sym (p .ensures .0) ∙ not-true _ (c .before .if2 .taken)) (c .answer2 .ensures)
-
-answer-requires-3 : tie.Need-answer-requires-3
-answer-requires-3 c κs = search needs
-
-same-length-2 : tie.Need-same-length-2
-same-length-2 c = search needs
+    let ok = sym (c .before .before .before .before .before .before .before .before .before .good2 .ensures) ∙ not-false _ (c .before .before .before .before .before .before .before .before .if1 .left) in
+    finish-stops m (a .out .now) _ _ ok _ (ap (λ (t : Turn). t .text) (c .before .before .before .before .before .before .before .last .ensures)) (few-last m ok) (p .ensures .1) (sym (p .ensures .0) ∙ not-true _ (c .before .if2 .taken)) (c .answer2 .ensures)
 
 returns-3 : tie.Need-returns-3
 returns-3 c = let a = c .before .before .before .before .before .before .before .before .before .before .before .before .args in let m = a .self in
     let p = c .before .before .before .before .before .put in
     let t = c .before .before .before .before .before .before .before .before .last in
-    finish-goes m (a .out .now) _ _ (sym (c .before .before .before .before .before .before .before .before .before .before .good2 .ensures) ∙ not-false _ (c .before .before .before .before .before .before .before .before .before .if1 .left)) _ (ap (λ (t : Turn). t .text) (t .ensures)) (few-last m) (p .ensures .1) (sym (p .ensures .0) ∙ not-false _ (c .before .before .if2 .left))
+    let ok = sym (c .before .before .before .before .before .before .before .before .before .before .good2 .ensures) ∙ not-false _ (c .before .before .before .before .before .before .before .before .before .if1 .left) in
+    finish-goes m (a .out .now) _ _ ok _ (ap (λ (t : Turn). t .text) (t .ensures)) (few-last m ok) (p .ensures .1) (sym (p .ensures .0) ∙ not-false _ (c .before .before .if2 .left))
     (c .answer3 .ensures ∙ ap (λ (n : Lister). answerOf 0 n 0 (t .result .text .len)) (ap (λ (t : Turn). t .next) (t .ensures)))
 
 pub finish-spec : {M : Type 1} → statement M
 finish-spec =
     tie.close
     (tie.spec
-    good-requires
-    answer-requires
+    (λ c κs. search needs)
+    (λ c κs. search needs)
     returns
-    last-requires
-    put-requires
-    answer-requires-2
-    same-length
+    (λ c κs. search needs)
+    (λ c κs. search needs)
+    (λ c κs. search needs)
+    (λ c. search needs)
     returns-2
-    answer-requires-3
-    same-length-2
+    (λ c κs. search needs)
+    (λ c. search needs)
     returns-3)

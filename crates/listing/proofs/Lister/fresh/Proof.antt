@@ -5,12 +5,9 @@ use Rattle.reader.specs.Promises.{freshOf}
 use Rattle.listing.proofs.Lister.fresh.Statement.{statement}
 use Rattle.listing.proofs.Lister.fresh.Tie as tie
 
-fresh-requires : tie.Need-fresh-requires
-fresh-requires c κs = search needs
-
 returns : tie.Need-returns
 unfolding freshOf known namedBy markedBy
 returns c = rw (c .before .fresh .ensures)
 
 pub fresh-spec : {M : Type 1} → statement M
-fresh-spec = tie.close (tie.spec fresh-requires returns)
+fresh-spec = tie.close (tie.spec (λ c κs. search needs) returns)

@@ -1,22 +1,21 @@
 -- The last line, and the end behind it.
 use borrow.Author.Needs.{needs}
-use Rattle.listing.specs.Machine.{lastOf}
-use Rattle.listing.proofs.Grown.{grown-append, all-append}
+use Rattle.listing.specs.Feeding.{lastOf}
+use Rattle.listing.proofs.Grown.{grown-append}
 use Rattle.listing.proofs.Lister.last.Statement.{statement}
 use Rattle.listing.proofs.Lister.last.Tie as tie
 
-closed-requires : tie.Need-closed-requires
-closed-requires c κs = search needs
-
-end-requires : tie.Need-end-requires
-end-requires c κs = search needs
-
-at-line-requires : tie.Need-at-line-requires
-at-line-requires c κs = search needs
-
 returns : tie.Need-returns
 unfolding lastOf
-returns c = simp (grown-append, all-append, c .at-line .ensures, c .before .end .ensures, c .before .before .before .before .closed .ensures)
+returns c = simp (grown-append, c .turn2 .ensures, c .before .end .ensures, c .before .before .before .before .before .turn .ensures, c .before .before .before .before .before .before .closed .ensures, c .before .before .before .before .before .before .before .front .ensures)
 
 pub last-spec : {M : Type 1} → statement M
-last-spec = tie.close (tie.spec closed-requires end-requires at-line-requires returns)
+last-spec =
+    tie.close
+    (tie.spec
+    (λ c κs. search needs)
+    (λ c κs. search needs)
+    (λ c κs. search needs)
+    (λ c κs. search needs)
+    (λ c κs. search needs)
+    returns)

@@ -1,9 +1,8 @@
 -- `first`: each case of the word's answer.
 use borrow.Author.Needs.{needs}
 use denote.Ref.{now}
-use mathlib.Core.Path.{_∙_, ap}
-use Rattle.reader.specs.Line.{whole}
-use Rattle.reader.proofs.Turn.{refused, nothing, dropped, no-room, report}
+use native.Mathlib.Omega.{arith}
+use Rattle.reader.proofs.Loop.{stopping, taking}
 use Rattle.reader.proofs.Reader.first.Statement.{statement}
 use Rattle.reader.proofs.Reader.first.Tie as tie
 
@@ -19,8 +18,7 @@ reading-requires c κs = search needs
 returns : tie.Need-returns
 returns c = let b = c .before in
     let s = b .before .before .before .before .before in
-    rw (c .reading .ensures)
-    (refused (s .args .self) (now (s .args .words)) (now (s .args .out)) (b .before .before .word .result) (s .pre .3) (b .before .before .word .ensures) (b .if1 .taken))
+    rw (c .reading .ensures) (stopping (now (s .args .words)) (now (s .args .out)) (s .pre .0) (s .pre .1) (b .before .before .word .ensures) (λ z. absurd (b .if1 .taken z)))
 
 enum-told : tie.Need-enum-told
 enum-told c = search needs
@@ -46,8 +44,8 @@ reading-requires-4 c κs = search needs
 returns-2 : tie.Need-returns-2
 returns-2 c = let b = c .before .before .before .before .before .before in
     let s = b .before .before .before .before .before in
-    rw (c .reading4 .ensures)
-    (no-room (s .args .self) (now (s .args .words)) (now (s .args .out)) (b .before .before .word .result) (s .pre .3) (b .before .before .word .ensures) (c .before .before .before .answer2 .given .0 .0) (b .if1 .left) (c .before .before .before .answer2 .given .1) (c .before .if2 .taken))
+    let a = c .before .before .before .answer2 .given .1 in
+    rw (c .reading4 .ensures) (rw (b .if1 .left) at (stopping (now (s .args .words)) (now (s .args .out)) (s .pre .0) (s .pre .1) (b .before .before .word .ensures) (λ _. rw a (c .before .if2 .taken))))
 
 put-requires : tie.Need-put-requires
 put-requires c κs = search needs
@@ -58,14 +56,14 @@ reading-requires-5 c κs = search needs
 returns-3 : tie.Need-returns-3
 returns-3 c = let b = c .before .before .before .before in
     let s = b .before .before .before .before .before in
-    rw (c .reading2 .ensures)
-    (nothing (s .args .self) (now (s .args .words)) (now (s .args .out)) (b .before .before .word .result) (s .pre .3) (b .before .before .word .ensures) (b .if1 .left) (c .before .enum-told .given .1))
+    let a = c .before .enum-told .given .1 in
+    rw (c .reading2 .ensures) (rw a at (taking (now (s .args .words)) (now (s .args .out)) (s .pre .0) (s .pre .1) (b .before .before .word .ensures) (b .if1 .left) (rw a (omega arith))))
 
 returns-4 : tie.Need-returns-4
 returns-4 c = let b = c .before .before .before .before .before in
     let s = b .before .before .before .before .before in
-    rw (c .reading3 .ensures)
-    (dropped (s .args .self) (now (s .args .words)) (now (s .args .out)) (b .before .before .word .result) (s .pre .3) (b .before .before .word .ensures) (c .before .before .answer .given .0 .0) (b .if1 .left) (c .before .before .answer .given .1))
+    let a = c .before .before .answer .given .1 in
+    rw (c .reading3 .ensures) (rw a at (taking (now (s .args .words)) (now (s .args .out)) (s .pre .0) (s .pre .1) (b .before .before .word .ensures) (b .if1 .left) (rw a (omega arith))))
 
 same-length : tie.Need-same-length
 same-length c = search needs
@@ -73,10 +71,9 @@ same-length c = search needs
 returns-5 : tie.Need-returns-5
 returns-5 c = let b = c .before .before .before .before .before .before .before .before .before in
     let s = b .before .before .before .before .before in
-    let a = c .before .before .before .before .before .before .answer2 .given in
-    rw (c .reading5 .ensures)
-    (ap (whole _) (c .before .before .put .ensures)
-    ∙ report (s .args .self) (now (s .args .words)) (now (s .args .out)) (b .before .before .word .result) (s .pre .3) (b .before .before .word .ensures) (a .0 .0) (b .if1 .left) (a .1) (c .before .before .before .before .if2 .left))
+    let a = c .before .before .before .before .before .before .answer2 .given .1 in
+    rw (c .reading5 .ensures, c .before .before .put .ensures)
+    (rw a at (taking (now (s .args .words)) (now (s .args .out)) (s .pre .0) (s .pre .1) (b .before .before .word .ensures) (b .if1 .left) (rw a (c .before .before .before .before .if2 .left))))
 
 pub first-spec : {M : Type 1} → statement M
 first-spec =

@@ -1,35 +1,31 @@
 -- `line`: at the loop's head what is done, joined to what the rest of the line does, is the whole.
-use Prim.Native.Nat.{_≤_, _<_, _*_, _-_, _+_}
-use mathlib.Core.Path.{_≡_, refl, _∙_, ap}
-use mathlib.Core.List.{[], _∷_}
+use Prim.Native.Nat.{_-_, _+_, _*_}
+use mathlib.Core.Path.{_∙_, ap}
 use native.Mathlib.Omega.{arith}
-use lib.ListN.{length, drop, getD, length-drop}
+use lib.ListN.{length, length-drop}
 use borrow.Author.Needs.{needs}
-use Rattle.wire.specs.Line.{sizeBy, markedBy}
-use Rattle.reader.specs.Line.{whole, lineOf}
+use borrow.Rule.Slice.PartMut.{putMid}
+use Rattle.fold.proofs.Parts.{rest-is}
 use Rattle.wire.proofs.Letters.{at-most-five}
-use Rattle.reader.proofs.View.{joined-none}
-use Rattle.reader.proofs.Loop.{Turned, turned, standing, some, said, again, same, ends-before, ends-all, unchanged}
+use Rattle.reader.specs.Line.{whole}
+use Rattle.reader.specs.Parts.{Stands, Sized}
+use Rattle.reader.proofs.Loop.{Far, starts, far, more, unchanged, ends-before, ends-all}
 use Rattle.reader.proofs.Reader.line.Statement.{statement}
 use Rattle.reader.proofs.Reader.line.Tie as tie
 
 abbrev Inv-loop : tie.InvT-loop
 Inv-loop size marked words out₀ r₀ at₀ used₀ reports₀ dropped₀ out r at used reports dropped =
-    (at ≤ length words)
-    × (used ≡ 5 * reports)
-    × (used ≤ length out)
-    × (length out ≡ length out₀)
-    × (dropped + r .count ≤ at + r₀ .count)
-    × (r .count < size)
-    × (size ≡ sizeBy (r .format))
-    × (marked ≡ markedBy (r .format))
-    × (standing words out r at used reports dropped ≡ lineOf r₀ words out₀)
+    Stands r₀ words out₀ r at used reports dropped out
+    × Sized size marked r
+    × Far r₀ words out₀ at used reports dropped out
 
 abbrev μ-loop : tie.MeasureT-loop
 μ-loop size marked words out₀ r₀ at₀ used₀ reports₀ dropped₀ out r at used reports dropped = length words - at
 
 loop-holds : tie.Need-loop-holds Inv-loop μ-loop
-loop-holds c = (omega arith, refl, omega arith, refl, omega arith, c .before .pre .0, c .before .pre .1, c .before .pre .2, joined-none _)
+loop-holds c = let a = c .before .args in
+    let s = starts (a .self) (a .words .now) (a .out .now) in
+    (s, c .before .pre, far s)
 
 mul-first : tie.Need-mul-first Inv-loop μ-loop
 mul-first c = omega arith
@@ -56,110 +52,63 @@ part-first-end-2 : tie.Need-part-first-end-2 Inv-loop μ-loop
 part-first-end-2 c = search needs
 
 first-requires : tie.Need-first-requires Inv-loop μ-loop
-first-requires c κs = let h = c .before .before in
-    let l = h .before .loop in
-    (l .inv .5, l .inv .6, l .inv .7, some (h .before .before .before .args .words .now) (l .out) (l .r) (l .at) (l .used) (l .reports) (l .dropped) (h .loop-test .taken) (l .inv .2))
+first-requires c κs = let h = c .before .before in (h .before .loop .inv .1, rw (rest-is (h .before .before .before .args .words .now) (h .before .loop .at), length-drop) (omega arith))
 
 reading-requires : tie.Need-reading-requires Inv-loop μ-loop
 reading-requires c κs = search needs
 
-heard : (c : tie.After-struct-known Inv-loop μ-loop)
-    → let f = c .before .before in
-    let h = f .before .before .before in
-    let l = h .before .loop in
-    whole (f .first .result) (f .first .last .1 .1 .1 .1 .0) ≡ lineOf (l .r) (getD (h .before .before .before .args .words .now) (l .at) 0 ∷ []) (drop (l .used) (l .out))
-heard c =
-    let f = c .before .before in
-    let h = f .before .before .before in
-    let l = h .before .loop in
-    said (h .before .before .before .args .words .now) (l .out) (l .r) (l .at) (l .used) (l .reports) (l .dropped) (h .loop-test .taken) (l .inv .2) (whole (f .first .result) (f .first .last .1 .1 .1 .1 .0)) (f .first .ensures)
-
 same-length : tie.Need-same-length Inv-loop μ-loop
 same-length c = let f = c .before .before .before .before in
-    let h = f .before .before .before in
-    let l = h .before .loop in
-    let words = h .before .before .before .args .words .now in
-    ap length (unchanged words (l .out) (l .r) (l .at) (l .used) (l .reports) (l .dropped) (h .loop-test .taken) (l .inv .2) (f .first .result) (f .first .last .1 .1 .1 .1 .0) (heard (c .before .before)) (c .before .if1 .taken))
-    ∙ l .inv .3
+    let i = f .before .before .before .before .loop .inv in
+    ap length (unchanged (i .0) (f .first .ensures) (c .before .if1 .taken)) ∙ i .2 .long
 
 returns : tie.Need-returns Inv-loop μ-loop
 returns c = let f = c .before .before .before .before in
-    let h = f .before .before .before in
-    let l = h .before .loop in
-    let words = h .before .before .before .args .words .now in
-    rw (c .reading .ensures)
-    (ap (whole _) (unchanged words (l .out) (l .r) (l .at) (l .used) (l .reports) (l .dropped) (h .loop-test .taken) (l .inv .2) (f .first .result) (f .first .last .1 .1 .1 .1 .0) (heard (c .before .before)) (c .before .if1 .taken))
-    ∙ ends-before words (l .out) (l .r) (l .at) (l .used) (l .reports) (l .dropped) (h .loop-test .taken) (l .inv .2) (f .first .result) (f .first .last .1 .1 .1 .1 .0) (heard (c .before .before)) (c .before .if1 .taken)
-    ∙ l .inv .8)
+    let s = f .before .before .before .before .loop .inv .0 in
+    rw (c .reading .ensures) (ap (whole _) (unchanged s (f .first .ensures) (c .before .if1 .taken)) ∙ ends-before s (f .first .ensures) (c .before .if1 .taken))
 
-turn : (c : tie.Else1 Inv-loop μ-loop)
-    → let f = c .before .before .before in
-    let h = f .before .before .before in
-    let l = h .before .loop in
-    Turned (l .r) (getD (h .before .before .before .args .words .now) (l .at) 0) (drop (l .used) (l .out)) (f .first .result) (f .first .last .1 .1 .1 .1 .0)
-turn c = turned _ _ _ _ _ (heard (c .before)) (c .if1 .left)
-
-room : (c : tie.Else1 Inv-loop μ-loop) → let f = c .before .before .before in let l = f .before .before .before .before .loop in l .used + 5 * f .first .result .reports ≤ length (l .out)
-room c =
-    let l = c .before .before .before .before .before .before .before .loop in
-    omega (arith, turn c .room, length-drop (l .used) (l .out), l .inv .2)
+-- where it stands when a word was taken
+turn : (c : tie.After-next Inv-loop μ-loop)
+    → let f = c .before .before .before .before in
+    let l = f .before .before .before .before .loop in
+    let a = f .before .before .before .before .before .before .args in
+    let t = f .first .result in
+    Stands (a .self) (a .words .now) (a .out .now) (t .next) (l .at + t .taken) (l .used + 5 * t .reports) (l .reports + t .reports) (l .dropped + t .dropped)
+    (putMid (l .used) (length (l .out) - l .used) (l .out) (f .first .last .1 .1 .1 .1 .0))
+turn c = let f = c .before .before .before .before in more (f .before .before .before .before .loop .inv .0) (f .first .ensures)
 
 add-at : tie.Need-add-at Inv-loop μ-loop
-add-at c = omega arith
+add-at c = let start = c .before .before .before .before .before .before .before .before .before .before .before in omega (arith, far (turn (c .before)), start .good .1 .1 .1 .0 .1)
 
 mul-used : tie.Need-mul-used Inv-loop μ-loop
-mul-used c = let h = c .before .before .before .before .before .before .before .before .before in
-    let start = h .before .before in
-    omega (arith, room (c .before .before), h .loop .inv .1, h .loop .inv .3, start .good .1 .1 .1 .1 .0 .1)
+mul-used c = let start = c .before .before .before .before .before .before .before .before .before .before .before .before in omega (arith, far (turn (c .before .before)), start .good .1 .1 .1 .1 .0 .1)
 
 add-used : tie.Need-add-used Inv-loop μ-loop
-add-used c = let h = c .before .before .before .before .before .before .before .before .before in
-    let start = h .before .before in
-    omega (arith, room (c .before .before), h .loop .inv .1, h .loop .inv .3, start .good .1 .1 .1 .1 .0 .1)
+add-used c = let start = c .before .before .before .before .before .before .before .before .before .before .before .before in omega (arith, far (turn (c .before .before)), start .good .1 .1 .1 .1 .0 .1)
 
 add-reports : tie.Need-add-reports Inv-loop μ-loop
-add-reports c = let h = c .before .before .before .before .before .before .before .before .before .before in
-    let start = h .before .before in
-    omega (arith, room (c .before .before .before), h .loop .inv .1, h .loop .inv .3, start .good .1 .1 .1 .1 .0 .1)
+add-reports c = let start = c .before .before .before .before .before .before .before .before .before .before .before .before .before in omega (arith, far (turn (c .before .before .before)), start .good .1 .1 .1 .1 .0 .1)
 
 add-dropped : tie.Need-add-dropped Inv-loop μ-loop
-add-dropped c = let h = c .before .before .before .before .before .before .before .before .before .before .before in
-    let start = h .before .before in
-    omega (arith, turn (c .before .before .before .before) .few, h .loop .inv .0, h .loop .inv .4, h .before .before .good .1 .1 .1 .0 .1, c .before .before .before .before .before .before .before .before .before .before .loop-test .taken, at-most-five (start .args .self .format), start .pre .0, start .pre .1)
+add-dropped c = let start = c .before .before .before .before .before .before .before .before .before .before .before .before .before .before in
+    omega (arith, far (turn (c .before .before .before .before)), at-most-five (start .args .self .format))
 
 loop-less : tie.Need-loop-less Inv-loop μ-loop
 loop-less c = omega arith
 
 loop-again : tie.Need-loop-again Inv-loop μ-loop
 loop-again c = let e = c .before .before .before .before in
-    let f = e .before .before .before in
-    let h = f .before .before .before in
-    let l = h .before .loop in
-    let words = h .before .before .before .args .words .now in
-    let t = turn e in
-    let k = same words (l .out) (l .r) (l .at) (l .used) (l .reports) (l .dropped) (h .loop-test .taken) (l .inv .2) (f .first .result) (f .first .last .1 .1 .1 .1 .0) t in (
-      omega arith,
-      omega arith,
-      rw k (room e),
-      k ∙ l .inv .3,
-      omega (arith, t .few, l .inv .4),
-      rw (l .inv .6) (t .below (rw (l .inv .6) at (l .inv .5))),
-      rw (t .format) (l .inv .6),
-      rw (t .format) (l .inv .7),
-      again words (l .out) (l .r) (l .at) (l .used) (l .reports) (l .dropped) (h .loop-test .taken) (l .inv .2) (f .first .result) (f .first .last .1 .1 .1 .1 .0) t ∙ l .inv .8,
-    )
+    let f = e .before .before .before .before in
+    (turn e, f .first .ensures .sized, far (turn e))
 
 reading-requires-2 : tie.Need-reading-requires-2 Inv-loop μ-loop
 reading-requires-2 c κs = search needs
 
 same-length-2 : tie.Need-same-length-2 Inv-loop μ-loop
-same-length-2 c = c .before .before .loop .inv .3
+same-length-2 c = c .before .before .loop .inv .2 .long
 
 returns-2 : tie.Need-returns-2 Inv-loop μ-loop
-returns-2 c = let l = c .before .before .loop in
-    rw (c .reading2 .ensures)
-    (ends-all (c .before .before .before .before .args .words .now) (l .out) (l .r) (l .at) (l .used) (l .reports) (l .dropped) (c .before .loop-test .left)
-    ∙ l .inv .8)
+returns-2 c = rw (c .reading2 .ensures) (ends-all (c .before .before .loop .inv .0) (c .before .loop-test .left))
 
 pub line-spec : {M : Type 1} → statement M
 line-spec =

@@ -7,7 +7,7 @@ use lib.ListN.{length-set}
 use mir.Syntax.{w16}
 use mir.Val.{toZ, ofZ}
 use mir.ValLaws.{toZ-pos}
-use Rattle.reader.proofs.Turn.{put-is}
+use Rattle.reader.proofs.Loop.{put-is}
 use Rattle.reader.proofs.line.put.Statement.{statement}
 use Rattle.reader.proofs.line.put.Tie as tie
 

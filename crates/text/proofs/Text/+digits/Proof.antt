@@ -1,7 +1,7 @@
 -- `digits`: by the places left.
 use borrow.Author.Needs.{needs}
 use native.Mathlib.Omega.{arith}
-use Rattle.text.proofs.Laws.{no-digits, one-digit}
+use Rattle.text.proofs.Digits.{no-digits, one-digit}
 use Prim.Native.Nat.{ℕ, _<_}
 use borrow.Fn.Kinds.{In}
 use borrow.Fn.PlainCycle.{Measures, is, falls, and}
@@ -9,7 +9,7 @@ use Rattle.text.proofs.Text.digits.Reads as digits
 use Rattle.text.proofs.Text.digits.Kinds as digits-kinds
 use Rattle.text.proofs.Text.+digits.Lts-digits as digits-lts
 use Rattle.text.proofs.Text.with.Reads as with-reads
-use Rattle.text.proofs.digit.Reads as digit-reads
+use Rattle.text.proofs.decimals.digit.Reads as digit-reads
 use Rattle.text.proofs.Text.+digits.{statement}
 use Rattle.text.proofs.Text.+digits.Tie.{close}
 
@@ -22,66 +22,6 @@ digits-at t = and 0 digits-kinds.ps (is 0 digits-kinds.ps μ-digits t) digits.Pr
 abbrev digits-below : ℕ → In 0 digits-kinds.ps
 digits-below t = and 0 digits-kinds.ps (falls 0 digits-kinds.ps _<_ μ-digits t) digits.Pre
 
-digits-returns : (t : ℕ) → digits-lts.Need-returns (
-  digits-below t,
-  digits.Post,
-  digit-reads.Asked,
-  digit-reads.Learnt,
-  with-reads.Asked,
-  with-reads.Learnt,
-) (digits-at t) digits.Post
-digits-returns t c = let a = c .before .args in no-digits (a .self) (a .places) (a .n) (c .if1 .taken)
-
-digits-sub-digits : (t : ℕ) → digits-lts.Need-sub-digits (
-  digits-below t,
-  digits.Post,
-  digit-reads.Asked,
-  digit-reads.Learnt,
-  with-reads.Asked,
-  with-reads.Learnt,
-) (digits-at t) digits.Post
-digits-sub-digits t c = search needs
-
-digits-digits-requires : (t : ℕ) → digits-lts.Need-digits-requires (
-  digits-below t,
-  digits.Post,
-  digit-reads.Asked,
-  digit-reads.Learnt,
-  with-reads.Asked,
-  with-reads.Learnt,
-) (digits-at t) digits.Post
-digits-digits-requires t c κs = (omega arith, tt)
-
-digits-digit-requires : (t : ℕ) → digits-lts.Need-digit-requires (
-  digits-below t,
-  digits.Post,
-  digit-reads.Asked,
-  digit-reads.Learnt,
-  with-reads.Asked,
-  with-reads.Learnt,
-) (digits-at t) digits.Post
-digits-digit-requires t c κs = search needs
-
-digits-with-requires : (t : ℕ) → digits-lts.Need-with-requires (
-  digits-below t,
-  digits.Post,
-  digit-reads.Asked,
-  digit-reads.Learnt,
-  with-reads.Asked,
-  with-reads.Learnt,
-) (digits-at t) digits.Post
-digits-with-requires t c κs = search needs
-
-digits-returns-2 : (t : ℕ) → digits-lts.Need-returns-2 (
-  digits-below t,
-  digits.Post,
-  digit-reads.Asked,
-  digit-reads.Learnt,
-  with-reads.Asked,
-  with-reads.Learnt,
-) (digits-at t) digits.Post
-digits-returns-2 t c = let a = c .before .before .before .before .args in one-digit (a .self) _ _ (a .places) (a .n) _ (c .before .before .before .if1 .left) (c .before .before .digits .ensures) (c .before .digit .ensures) (c .with .ensures)
-
 pub +digits-spec : {M : Type 1} → statement M
 +digits-spec = close μ-digits λ t. digits-lts.spec (
   digits-below t,
@@ -93,9 +33,9 @@ pub +digits-spec : {M : Type 1} → statement M
 )
     (digits-at t)
     digits.Post
-    (digits-returns t)
-    (digits-sub-digits t)
-    (digits-digits-requires t)
-    (digits-digit-requires t)
-    (digits-with-requires t)
-    (digits-returns-2 t)
+    (λ c. let a = c .before .args in no-digits (a .self) (a .places) (a .n) (c .if1 .taken))
+    (λ c. search needs)
+    (λ c κs. (omega arith, tt))
+    (λ c κs. search needs)
+    (λ c κs. search needs)
+    (λ c. let a = c .before .before .before .before .args in one-digit (a .self) _ _ (a .places) (a .n) _ (c .before .before .before .if1 .left) (c .before .before .digits .ensures) (c .before .digit .ensures) (c .with .ensures))

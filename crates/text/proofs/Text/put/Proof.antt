@@ -15,15 +15,9 @@ returns-2 c = let a = c .before .before .before .args in no-room (a .self) (a .a
 returns-3 : tie.Need-returns-3
 returns-3 c = let a = c .before .before .before .before .args in no-room (a .self) (a .at) (a .out .now) (c .before .before .if1 .left) (omega arith)
 
-copy-requires : tie.Need-copy-requires
-copy-requires c κs = search needs
-
-same-length : tie.Need-same-length
-same-length c = search needs
-
 returns-4 : tie.Need-returns-4
 returns-4 c = let a = c .before .before .before .before .before .before .before .before .before .args in
     let p = put-is (a .self) (a .at) (a .out .now) (omega arith) (omega arith) in (p .0, c .before .before .copy .ensures ∙ p .1)
 
 pub put-spec : {M : Type 1} → statement M
-put-spec = tie.close (tie.spec returns returns-2 returns-3 copy-requires same-length returns-4)
+put-spec = tie.close (tie.spec returns returns-2 returns-3 (λ c κs. search needs) (λ c. search needs) returns-4)

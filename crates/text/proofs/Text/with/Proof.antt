@@ -8,14 +8,8 @@ use Rattle.text.proofs.Text.with.Tie as tie
 returns : tie.Need-returns
 returns c = sym (full (c .before .args .self) (c .before .args .b) (c .if1 .taken))
 
-array-write-bytes : tie.Need-array-write-bytes
-array-write-bytes c = search needs
-
-add-t9 : tie.Need-add-t9
-add-t9 c = search needs
-
 returns-2 : tie.Need-returns-2
 returns-2 c = let a = c .before .before .args in sym (room (a .self) (a .b) (c .before .if1 .left))
 
 pub with-spec : {M : Type 1} → statement M
-with-spec = tie.close (tie.spec returns array-write-bytes add-t9 returns-2)
+with-spec = tie.close (tie.spec returns (λ c. search needs) (λ c. search needs) returns-2)

@@ -1,0 +1,156 @@
+// The lister: the scanner and the reader behind it, fed in pieces, with the text to a lent slice.
+ghost use mathlib.Core.Path.{_≡_};
+ghost use lib.ListN.{length};
+ghost use Rattle.text.specs.Growth.{textOf};
+ghost use Rattle.listing.specs.Feeding.{frontOf, fedByte, lastOf, turnOf, turned, feedIn, good};
+ghost use Rattle.listing.specs.Promises.{FreshPromise, FeedPromise, FinishPromise, whole, written};
+use crate::Listed;
+use crate::Lister;
+use crate::Scan;
+use crate::Scanner;
+use crate::Turn;
+use crate::items;
+use crate::printing;
+use reader::Reader;
+use text::Text;
+
+// The answer of a lister that took and wrote so many bytes.
+fn answer(refusal: u8, next: Lister, taken: usize, written: usize) -> Listed
+    ensures { λ r. ⌜ r ≡ record { refusal = refusal; next = next; taken = taken; written = written; ended = next .scanner .ended } ⌝ }
+{
+    let scanner = next.scanner;
+    Listed {
+        refusal: refusal,
+        next: next,
+        taken: taken,
+        written: written,
+        ended: scanner.ended,
+    }
+}
+
+impl Lister {
+    // Before the first byte.
+    pub fn fresh() -> Lister
+        ensures { λ r. ⌜ FreshPromise r ⌝ }
+    {
+        let new = Reader::fresh(b'U');
+        let reader = new.reader;
+        Lister {
+            scanner: Scanner {
+                line: 0,
+                ended: false,
+                held: [0, 0, 0, 0, 0],
+                count: 0,
+            },
+            reader: reader,
+        }
+    }
+
+    // A piece of the input, and its text to a lent slice. It stops before a byte whose text has no room.
+    pub fn feed(self, input: &[u8], out: &mut [u8]) -> Listed
+        ensures { λ r. ⌜ FeedPromise self (now (input .entry)) (now (out .entry)) r (now (out .exit)) ⌝ }
+    {
+        if !self.good() {
+            return answer(6, self, 0, 0);
+        }
+        self.bytes(input, out)
+    }
+
+    // The end of the input. Where its text has no room nothing is written, and it can be called again.
+    pub fn finish(self, out: &mut [u8]) -> Listed
+        ensures { λ r. ⌜ FinishPromise self (now (out .entry)) r (now (out .exit)) ⌝ }
+    {
+        if !self.good() {
+            return answer(6, self, 0, 0);
+        }
+        let t = self.last();
+        let text = t.text;
+        let n = text.len;
+        if !text.put(out, 0) {
+            return answer(0, self, 0, 0);
+        }
+        let next = t.next;
+        answer(0, next, 0, n)
+    }
+
+    // The bytes of a piece, one after the other.
+    fn bytes(self, input: &[u8], out: &mut [u8]) -> Listed
+        ensures { λ r. ⌜ whole r (now (out .exit)) ≡ written (feedIn self (now (input .entry)) (length (now (out .entry)))) (now (out .entry)) ⌝ }
+    {
+        let mut m = self;
+        let mut at: usize = 0;
+        let mut used: usize = 0;
+        while at < input.len() {
+            let t = m.byte(input[at]);
+            let text = t.text;
+            let n = text.len;
+            if !text.put(out, used) {
+                return answer(0, m, at, used);
+            }
+            let next = t.next;
+            m = next;
+            at = at + 1;
+            used = used + n;
+        }
+        answer(0, m, at, used)
+    }
+
+    // Whether it keeps its rules: a good scanner and a good reader.
+    fn good(self) -> bool
+        ensures { λ r. ⌜ r ≡ good self ⌝ }
+    {
+        let scanner = self.scanner;
+        let reader = self.reader;
+        scanner.good() & reader.good()
+    }
+
+    // The opening, where nothing has been written yet.
+    fn front(self) -> Text
+        ensures { λ r. ⌜ r ≡ textOf (frontOf self) ⌝ }
+    {
+        let scanner = self.scanner;
+        if (scanner.line == 0) & (scanner.count == 0) & !scanner.ended {
+            return printing::opening();
+        }
+        Text::none()
+    }
+
+    // What was found is read, and printed behind a text.
+    fn turn(self, front: Text, scan: Scan) -> Turn
+        ensures { λ r. ⌜ r ≡ turnOf front self scan ⌝ }
+    {
+        let reader = self.reader;
+        let found = scan.found;
+        let gave = items::gave(reader, found);
+        let scanner = scan.next;
+        let next = gave.next;
+        let given = gave.given;
+        Turn {
+            next: Lister {
+                scanner: scanner,
+                reader: next,
+            },
+            text: printing::printed(front, given),
+        }
+    }
+
+    // One byte.
+    fn byte(self, b: u8) -> Turn
+        ensures { λ r. ⌜ r ≡ turned (fedByte self b) ⌝ }
+    {
+        let scanner = self.scanner;
+        self.turn(self.front(), scanner.byte(b))
+    }
+
+    // The last line, and the end of the input behind it.
+    fn last(self) -> Turn
+        ensures { λ r. ⌜ r ≡ turned (lastOf self) ⌝ }
+    {
+        let scanner = self.scanner;
+        let closed = self.turn(self.front(), scanner.closed());
+        let next = closed.next;
+        let text = closed.text;
+        let last = next.scanner;
+        next.turn(text, last.end())
+    }
+}

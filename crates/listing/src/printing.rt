@@ -1,0 +1,104 @@
+// Items, to bytes behind a text: a line is a letter and its fields, each behind a tab.
+ghost use mathlib.Core.Path.{_≡_};
+ghost use mathlib.Core.List.{_∷_};
+ghost use Rattle.text.specs.Growth.{grownBy, textOf};
+ghost use Rattle.listing.specs.Lines.{tab};
+ghost use Rattle.listing.specs.Scanning.{width};
+ghost use Rattle.listing.specs.Items.{itemsIn};
+ghost use Rattle.listing.specs.Printing.{pressed, middle, three, over, fieldOf, formOf, headOf, lineOf, opening, allBytes};
+use crate::Buttons;
+use crate::Field;
+use crate::Given;
+use crate::Item;
+use crate::Middle;
+use crate::WIDTH;
+use text::Text;
+
+// The width of other numbers: no leading zeros.
+const PLAIN: usize = 1;
+
+// A letter where a button is down.
+fn pressed(down: bool, letter: u8) -> u8
+    ensures { λ r. ⌜ r ≡ pressed down letter ⌝ }
+{
+    if down { letter } else { b'-' }
+}
+
+fn middle(of: Middle) -> u8
+    ensures { λ r. ⌜ r ≡ middle of ⌝ }
+{
+    match of {
+        Middle::Up => b'-',
+        Middle::Down => b'M',
+        Middle::Unknown => b'?',
+    }
+}
+
+fn three(front: Text, buttons: Buttons) -> Text
+    ensures { λ r. ⌜ r ≡ grownBy front (three buttons) ⌝ }
+{
+    let mid = buttons.middle;
+    front
+        .with(pressed(buttons.left, b'L'))
+        .with(middle(mid))
+        .with(pressed(buttons.right, b'R'))
+}
+
+fn over(front: Text) -> Text
+    ensures { λ r. ⌜ r ≡ grownBy front over ⌝ }
+{
+    front.with(b'o').with(b'v').with(b'e').with(b'r')
+}
+
+// A field behind a tab.
+fn field(front: Text, field: Field) -> Text
+    ensures { λ r. ⌜ r ≡ grownBy front (tab ∷ fieldOf width field) ⌝ }
+{
+    let behind = front.with(b'\t');
+    match field {
+        Field::Line(n) => behind.decimal(WIDTH, n as i64),
+        Field::Number(x) => behind.decimal(PLAIN, x),
+        Field::Pressed(buttons) => three(behind, buttons),
+        Field::Over => over(behind),
+    }
+}
+
+// A letter and the first field of its line.
+fn letter(front: Text, letter: u8, first: Field) -> Text
+    ensures { λ r. ⌜ r ≡ grownBy front (letter ∷ tab ∷ fieldOf width first) ⌝ }
+{
+    field(front.with(letter), first)
+}
+
+// The letter and the fields of an item.
+fn fields(front: Text, item: Item) -> Text
+    ensures { λ r. ⌜ r ≡ grownBy front (headOf width (formOf item)) ⌝ }
+{
+    match item {
+        Item::D(n, k) => field(letter(front, b'D', Field::Line(n)), Field::Number(k as i64)),
+        Item::R(n, buttons, x, y) => {
+            let pressed = field(letter(front, b'R', Field::Line(n)), Field::Pressed(buttons));
+            field(field(pressed, Field::Number(x)), Field::Number(y))
+        }
+        Item::H(k) => letter(front, b'H', Field::Number(k as i64)),
+        Item::E(n) => letter(front, b'E', Field::Line(n)),
+        Item::Over => letter(front, b'E', Field::Over),
+    }
+}
+
+// The line of what is given, if anything.
+pub(crate) fn printed(front: Text, given: Given) -> Text
+    ensures { λ r. ⌜ r ≡ grownBy front (allBytes width (itemsIn given)) ⌝ }
+{
+    match given {
+        Given::Nothing => front,
+        Given::One(item) => fields(front, item).with(b'\n'),
+    }
+}
+
+// The line that is always printed first.
+pub(crate) fn opening() -> Text
+    ensures { λ r. ⌜ r ≡ textOf (lineOf width (opening width)) ⌝ }
+{
+    letter(Text::none(), b'L', Field::Number(WIDTH as i64)).with(b'\n')
+}
