@@ -46,12 +46,14 @@ const BAD_BUTTONS: u8 = 3;
 pub(crate) const MOST_BUTTONS: u8 = 7;
 
 // A movement or a place, x and y.
+#[repr(C)]
 pub struct Pair {
     pub x: i16,
     pub y: i16,
 }
 
 // What is set: the format's letter, the mode's letter, and the buttons as 4L+2M+R.
+#[repr(C)]
 pub struct Settings {
     pub format: u8,
     pub mode: u8,
@@ -59,6 +61,7 @@ pub struct Settings {
 }
 
 // What is counted: the counters, the position, and the position last reported.
+#[repr(C)]
 pub struct Track {
     pub counter: Pair,
     pub position: Pair,
@@ -66,6 +69,7 @@ pub struct Track {
 }
 
 // What is going: the bytes of a report or a reply, how many they are, and how many of them are sent.
+#[repr(C)]
 pub struct Going {
     pub length: u8,
     pub sent: u8,
@@ -87,6 +91,7 @@ pub struct Bounded {
 }
 
 // An excess, or a sum of excesses, x and y.
+#[repr(C)]
 pub struct Excess {
     pub x: i64,
     pub y: i64,
@@ -99,6 +104,7 @@ pub struct BoundedPair {
 }
 
 // What was thrown away, added up: over the report's limit, and over the counter's 16 bits.
+#[repr(C)]
 pub struct Sums {
     pub limit: Excess,
     pub counter: Excess,

@@ -12,6 +12,7 @@ mod signed;
 mod table;
 
 // A report: the buttons as 4L+2M+R, the movement, and the second pair, which is zero except in U. North is positive.
+#[repr(C)]
 pub struct Report {
     pub buttons: u8,
     pub x1: i16,

@@ -1,0 +1,267 @@
+/* Calls of the C functions with states, words and buffers that look random, wrong ones too. The program crates/calls hands the same to the functions below them
+ * and must write the same: for each function how many calls were refused, and one number over all that they gave back. */
+#include "istrolf.h"
+#include <stdio.h>
+#include <string.h>
+
+/* Draws, each told by its call and its place. */
+
+static uint64_t turned(uint64_t x) {
+    uint64_t y = ((x % 2147483648u) * 1103515245u + 12345u) % 2147483648u;
+    return y ^ (y / 65536);
+}
+
+static uint64_t drawn(uint64_t call, uint64_t place, uint64_t count) { return turned(turned(turned(call) ^ place) ^ call) / 16 % count; }
+
+static uint8_t drawn_byte(uint64_t call, uint64_t place, uint64_t count) { return (uint8_t)drawn(call, place, count); }
+
+static uint8_t letter(uint64_t call, uint64_t place) { return (uint8_t)"SVABUTWSVABUTWUX"[drawn(call, place, 16)]; }
+
+static uint8_t mode(uint64_t call, uint64_t place) { return (uint8_t)"JKLRMQNODORORODP"[drawn(call, place, 16)]; }
+
+static uint8_t host(uint64_t call, uint64_t place) { return (uint8_t)"JKLRMQNODPSVABUTWORO ftdx5 ROOJd"[drawn(call, place, 32)]; }
+
+static int16_t movement(uint64_t call, uint64_t place) {
+    static const int16_t movements[16] = {0, 1, -1, 5, -3, 127, -127, 128, -128, 129, 2047, -2048, 4095, 4096, 32767, -32768};
+    return movements[drawn(call, place, 16)];
+}
+
+static int16_t position(uint64_t call, uint64_t place) {
+    static const int16_t positions[8] = {0, 1, 100, 2048, 4095, 7, 8, 4096};
+    return positions[drawn(call, place, 8)];
+}
+
+static int64_t sum(uint64_t call, uint64_t place) {
+    static const int64_t sums[8] = {0, 1, -1, 70000, -70000, 9223372036854775000, -9223372036854775000, 9223372036854775807};
+    return sums[drawn(call, place, 8)];
+}
+
+static uint16_t word(uint64_t call, uint64_t place) {
+    static const uint16_t words[64] = {152, 148, 159, 5,  3,  0,   100, 154, 64,  108, 111, 5,   61,  76,  236, 20,  192, 68,  72,  80, 92,  129,
+                                       63,  3,   5,   160, 130, 144, 128, 130, 133, 135, 7,   250, 255, 1,   0,   1,   2,   4,   7,   200, 128, 9,
+                                       48,  49,  50,  55, 65, 70,  57,  51,  56,  69,  257, 257, 257, 257, 256, 256, 40,  103, 258, 65535};
+    return words[drawn(call, place, 64)];
+}
+
+static uint8_t mark(uint64_t call, uint64_t place) {
+    uint8_t i = drawn_byte(call, place, 16);
+    return i == 0 ? 2 : i % 2;
+}
+
+/* One number for all that a call gives back. */
+
+static uint64_t mixed(uint64_t h, uint64_t v) {
+    uint64_t high = ((h % 2147483647u) * 31 + v / 4294967296u) % 2147483647u;
+    return (high * 31 + v % 4294967296u) % 2147483647u;
+}
+
+static uint64_t mixed_signed(uint64_t h, int64_t v) { return v < 0 ? mixed(mixed(h, 1), (uint64_t)(-1 - v)) : mixed(mixed(h, 0), (uint64_t)v); }
+
+static uint64_t mixed_bytes(uint64_t h, const uint8_t *v, size_t count) {
+    for (size_t i = 0; i < count; i++) h = mixed(h, v[i]);
+    return h;
+}
+
+static uint64_t mixed_reader(uint64_t h, istrolf_reader r) { return mixed(mixed(mixed_bytes(mixed(h, r.format), r.kept, 5), r.count), r.awaiting); }
+
+static uint64_t mixed_pair(uint64_t h, istrolf_pair p) { return mixed_signed(mixed_signed(h, p.x), p.y); }
+
+static uint64_t mixed_sum(uint64_t h, istrolf_sum s) { return mixed_signed(mixed_signed(h, s.x), s.y); }
+
+static uint64_t mixed_box(uint64_t h, istrolf_box b) {
+    h = mixed(mixed(mixed(h, b.settings.format), b.settings.mode), b.settings.buttons);
+    h = mixed_pair(mixed_pair(mixed_pair(h, b.track.counter), b.track.position), b.track.last);
+    h = mixed_bytes(mixed(mixed(h, b.going.length), b.going.sent), b.going.bytes, 5);
+    h = mixed(mixed(mixed_bytes(h, b.memory.states, 8), b.memory.count), b.memory.showing);
+    return mixed(mixed(mixed_sum(mixed_sum(h, b.sums.limit), b.sums.counter), b.due), b.dormant);
+}
+
+static uint64_t mixed_lister(uint64_t h, istrolf_lister m) {
+    return mixed_reader(mixed(mixed_bytes(mixed(mixed(h, m.line), m.ended), m.held, 5), m.count), m.reader);
+}
+
+static void line(const char *name, uint64_t refused, uint64_t all) { printf("%s %llu %llu\n", name, (unsigned long long)refused, (unsigned long long)all); }
+
+/* The reader. */
+
+static istrolf_reader any_reader(uint64_t call) {
+    istrolf_reader r = {letter(call, 10), {0, 0, 0, 0, 0}, 0, mark(call, 11)};
+    if (drawn(call, 12, 2) == 0) r.kept[0] = drawn_byte(call, 13, 256), r.kept[1] = drawn_byte(call, 14, 64), r.count = drawn_byte(call, 15, 6);
+    return r;
+}
+
+static istrolf_reader chosen_reader(istrolf_reader last, uint64_t call) {
+    uint64_t kind = drawn(call, 1, 16);
+    return kind == 0 ? istrolf_reader_fresh(letter(call, 2)).reader : kind == 1 ? any_reader(call) : last;
+}
+
+static void readers_fresh(void) {
+    uint64_t all = 0, refused = 0;
+    for (uint64_t call = 0; call < 100000; call++) {
+        istrolf_new_reader n = istrolf_reader_fresh(drawn_byte(call, 3, 256));
+        all = mixed_reader(mixed(all, n.refusal), n.reader);
+        refused += n.refusal > 0;
+    }
+    line("istrolf_reader_fresh", refused, all);
+}
+
+static void reader_steps(void) {
+    uint64_t all = 0, refused = 0;
+    istrolf_reader last = istrolf_reader_fresh('U').reader;
+    for (uint64_t call = 0; call < 100000; call++) {
+        istrolf_read_word a = istrolf_reader_step(chosen_reader(last, call), word(call, 20));
+        uint64_t h = mixed(mixed(0, a.refusal), a.reports ? 1 : a.dropped ? 2 : 0);
+        if (a.reports) {
+            h = mixed_signed(mixed_signed(mixed(h, a.report.buttons), a.report.x1), a.report.y1);
+            h = mixed_signed(mixed_signed(h, a.report.x2), a.report.y2);
+        }
+        if (a.dropped) h = mixed(h, a.dropped);
+        all = mixed(all, mixed_reader(h, a.next));
+        refused += a.refusal > 0;
+        last = a.next;
+    }
+    line("istrolf_reader_step", refused, all);
+}
+
+static void reader_reads(void) {
+    uint64_t all = 0, refused = 0;
+    istrolf_reader last = istrolf_reader_fresh('U').reader;
+    for (uint64_t call = 0; call < 100000; call++) {
+        uint16_t words[10];
+        int16_t out[12];
+        for (uint64_t i = 0; i < 10; i++) words[i] = word(call, 30 + i);
+        for (int i = 0; i < 12; i++) out[i] = 7;
+        istrolf_reading a = istrolf_reader_read(chosen_reader(last, call), words, drawn(call, 40, 11), out, drawn(call, 41, 13));
+        uint64_t h = mixed_reader(mixed(mixed(mixed(mixed(0, a.refusal), a.taken), a.reports), a.dropped), a.next);
+        for (int i = 0; i < 12; i++) h = mixed_signed(h, out[i]);
+        all = mixed(all, h);
+        refused += a.refusal > 0;
+        last = a.next;
+    }
+    line("istrolf_reader_read", refused, all);
+}
+
+/* The encoder. */
+
+static int16_t seldom(uint64_t call, uint64_t place) { return drawn(call, place, 16) == 0 ? movement(call, place + 4) : 0; }
+
+static void encodes(void) {
+    uint64_t all = 0, refused = 0;
+    for (uint64_t call = 0; call < 100000; call++) {
+        uint8_t buffer[8];
+        memset(buffer, 200, 8);
+        istrolf_report p = {drawn_byte(call, 51, 9), movement(call, 52), seldom(call, 53), seldom(call, 54), seldom(call, 55)};
+        size_t room = drawn(call, 50, 16);
+        istrolf_encoding e = istrolf_encode(letter(call, 56), p, buffer, room < 8 ? room : 8);
+        all = mixed_bytes(mixed(mixed(all, e.refusal), e.length), buffer, 8);
+        refused += e.refusal > 0;
+    }
+    line("istrolf_encode", refused, all);
+}
+
+/* The box. */
+
+static istrolf_box any_box(uint64_t call) {
+    istrolf_box b = {{letter(call, 60), mode(call, 61), drawn_byte(call, 62, 9)},
+                     {{movement(call, 63), movement(call, 64)}, {position(call, 65), position(call, 66)}, {position(call, 67), position(call, 68)}},
+                     {0, 0, {0, 0, 0, 0, 0}},
+                     {{0, 0, 0, 0, 0, 0, 0, 0}, 0, 0},
+                     {{sum(call, 79), sum(call, 80)}, {sum(call, 81), sum(call, 82)}},
+                     mark(call, 85),
+                     0};
+    if (drawn(call, 69, 4) == 0) {
+        for (uint64_t i = 0; i < 3; i++) b.going.bytes[i] = drawn_byte(call, 70 + i, 256);
+        b.going.length = drawn_byte(call, 73, 6), b.going.sent = drawn_byte(call, 74, 6);
+    }
+    if (drawn(call, 75, 4) == 0)
+        b.memory.states[0] = drawn_byte(call, 76, 8), b.memory.states[1] = drawn_byte(call, 77, 9), b.memory.count = drawn_byte(call, 78, 10);
+    if (drawn(call, 83, 8) == 0) b.memory.showing = mark(call, 84);
+    if (drawn(call, 86, 8) == 0) b.dormant = mark(call, 87);
+    return b;
+}
+
+static istrolf_box chosen_box(istrolf_box last, uint64_t call) {
+    uint64_t kind = drawn(call, 88, 128);
+    return kind < 6 ? istrolf_box_fresh() : kind < 8 ? any_box(call) : last;
+}
+
+static istrolf_stepped box_step(istrolf_box b, uint64_t call) {
+    switch ((call % 6 + drawn(call / 6, 89, 6)) % 6) {
+    case 0: return istrolf_box_motion(b, movement(call, 90), movement(call, 91));
+    case 1: return istrolf_box_buttons(b, drawn_byte(call, 92, 9));
+    case 2: return istrolf_box_host(b, host(call, 93));
+    case 3: return istrolf_box_latch(b);
+    case 4: return istrolf_box_send(b);
+    default: return istrolf_box_period(b);
+    }
+}
+
+static void box_steps(void) {
+    uint64_t all = 0, refused = 0;
+    istrolf_box last = istrolf_box_fresh();
+    for (uint64_t call = 0; call < 600000; call++) {
+        istrolf_stepped s = box_step(chosen_box(last, call), call);
+        all = mixed(all, mixed_box(mixed(mixed(mixed(0, s.refusal), s.sent), s.word), s.next));
+        refused += s.refusal > 0;
+        last = s.next;
+    }
+    line("istrolf_box", refused, all);
+}
+
+/* The lister. */
+
+static const char text[] = "F\tS\nQ\nB\t148\nB\t5\nB\t3\nB\t148\nB\t152\nX\nB\t154\nB\t7\nB\t9\nF\tV\nB\t108\nB\t5\nB\t61\nB\t236\nQ\nB\t64\nZ\nB\t256\n";
+
+typedef struct {
+    istrolf_lister lister;
+    size_t at; /* in the text */
+} placed;
+
+static placed any_lister(uint64_t call) {
+    placed m = {{(uint32_t)drawn(call, 105, 10002), 0, {0, 0, 0, 0, 0}, 0, any_reader(call)}, drawn(call, 106, 88)};
+    if (drawn(call, 100, 8) == 0) m.lister.ended = mark(call, 101);
+    if (drawn(call, 102, 2) == 0)
+        m.lister.held[0] = 66, m.lister.held[1] = 9, m.lister.held[2] = drawn_byte(call, 103, 64), m.lister.count = drawn(call, 104, 8);
+    return m;
+}
+
+static placed chosen_lister(placed last, uint64_t call) {
+    uint64_t kind = drawn(call, 107, 32);
+    placed fresh = {istrolf_lister_fresh(), 48 * kind};
+    return kind < 2 ? fresh : kind == 2 ? any_lister(call) : last;
+}
+
+static uint64_t mixed_listed(istrolf_listed a, const uint8_t *out) {
+    return mixed_bytes(mixed_lister(mixed(mixed(mixed(mixed(0, a.refusal), a.ended), a.taken), a.written), a.next), out, 60);
+}
+
+static void lister_pieces(void) {
+    uint64_t all = 0, refused = 0;
+    placed last = {istrolf_lister_fresh(), 0};
+    for (uint64_t call = 0; call < 100000; call++) {
+        uint8_t out[60];
+        placed m = chosen_lister(last, call);
+        size_t at = m.at < 88 ? m.at : 0, most = drawn(call, 109, 12);
+        if (most > 88 - at) most = 88 - at;
+        memset(out, 46, 60);
+        istrolf_listed f = istrolf_lister_feed(m.lister, (const uint8_t *)text + at, most, out, drawn(call, 108, 61));
+        all = mixed(all, mixed_listed(f, out));
+        memset(out, 46, 60);
+        istrolf_listed e = istrolf_lister_finish(f.next, out, drawn(call, 110, 61));
+        all = mixed(all, mixed_listed(e, out));
+        refused += (f.refusal > 0) + (e.refusal > 0);
+        last.lister = drawn(call, 111, 16) == 0 ? e.next : f.next;
+        last.at = m.lister.ended > 1 || m.lister.reader.awaiting > 1 ? m.at : at + f.taken;
+    }
+    line("istrolf_lister", refused, all);
+}
+
+int main(void) {
+    readers_fresh();
+    reader_steps();
+    reader_reads();
+    encodes();
+    box_steps();
+    lister_pieces();
+    return 0;
+}

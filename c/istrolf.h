@@ -1,0 +1,199 @@
+/* Istrolf for C99 and C++: reader, encoder, box and lister for a serial trackball and the seven formats of the old mice. Link libistrolf.a.
+ *
+ * Calls. Every function takes every argument, ends, and has one answer; each is proved. There is no set-up and no error but the refusals below.
+ * Nothing is allocated and nothing is kept between calls, so calls from several threads need no lock.
+ *
+ * States. A reader, a box and a lister are values that you own: a function ending in _fresh gives one, each other function takes one by value and
+ * gives the next in its answer. Store the next one over the old one and go on. A copy is a state of its own. Members may be read; leave the writing
+ * to the functions. Whatever bytes stand in a state, a call is safe: what is no state is refused with ISTROLF_BAD_STATE and handed back as it was.
+ *
+ * Refusals. An answer's first member, refusal, is 0 or one of the numbers below. A refusal hands back the old state, writes nothing to what you
+ * lent, and has counts of 0; only istrolf_reader_read does all before a bad word. Behind each function stand its refusals in the order in which they
+ * are tested.
+ *
+ * Pointers. A pointer and the count of elements behind it stand for what you lend for the call alone: it is yours before and after, and nobody keeps
+ * the pointer. It must point at that many elements, aligned as C has them, also when the count is 0 (any address that is not null will do then). What
+ * is const is only read. What is not const is written from its front and must overlap nothing else that you hand to the same call; words or bytes
+ * that are only read may overlap each other. Elements behind what was written keep their values. */
+#ifndef ISTROLF_H
+#define ISTROLF_H
+#include <stddef.h>
+#include <stdint.h>
+#ifdef __cplusplus
+extern "C" {
+#endif
+
+/* Refusals. */
+enum {
+    ISTROLF_OK = 0,
+    ISTROLF_BAD_LETTER = 1,   /* a format letter that is not S, V, A, B, U, T or W */
+    ISTROLF_BAD_BUTTONS = 3,  /* buttons above 7 */
+    ISTROLF_BAD_WORD = 4,     /* a line word above 257 */
+    ISTROLF_SHORT_BUFFER = 5, /* a buffer shorter than the report */
+    ISTROLF_BAD_STATE = 6,    /* a state that no function here gives */
+    ISTROLF_BAD_X1 = 8,       /* a movement that the format does not hold: the first of x1, y1, x2, y2 */
+    ISTROLF_BAD_Y1 = 9,
+    ISTROLF_BAD_X2 = 10,
+    ISTROLF_BAD_Y2 = 11
+};
+
+/* A line word is a byte, 0 to 255, or one of these. */
+enum {
+    ISTROLF_BREAK = 256,  /* a break, or a byte that arrived damaged */
+    ISTROLF_SILENCE = 257 /* a silence of one character time */
+};
+
+/* Buttons are 4L+2M+R. V's reports do not carry M. */
+enum { ISTROLF_R = 1, ISTROLF_M = 2, ISTROLF_L = 4 };
+
+/* Formats are named by their letters: 'S' MM, 'V' Microsoft, 'A' Bit Pad One absolute, 'B' Bit Pad One relative, 'U' five byte, 'T' three byte,
+ * 'W' hexadecimal. Movement is positive to the east and to the north. The second pair is a report's second movement in U, and 0 in all others. */
+typedef struct {
+    uint8_t buttons;
+    int16_t x1, y1, x2, y2;
+} istrolf_report;
+
+/* ---- The reader: line words in, reports out. */
+
+typedef struct {
+    uint8_t format;   /* its letter */
+    uint8_t kept[5];  /* the bytes kept of an unfinished report, the rest 0 */
+    uint8_t count;    /* how many are kept */
+    uint8_t awaiting; /* 1 while it waits for a silence, which only U, T and W do, and else 0 */
+} istrolf_reader;
+
+typedef struct {
+    uint8_t refusal;
+    istrolf_reader reader;
+} istrolf_new_reader;
+
+typedef struct {
+    uint8_t refusal;
+    uint8_t reports; /* 1 if this word ended a report, and else 0 */
+    uint8_t dropped; /* how many bytes were dropped */
+    istrolf_reader next;
+    istrolf_report report; /* the report, or zeros */
+} istrolf_read_word;
+
+typedef struct {
+    uint8_t refusal;
+    istrolf_reader next;
+    size_t taken;   /* words taken */
+    size_t reports; /* reports written */
+    size_t dropped; /* bytes dropped */
+} istrolf_reading;
+
+/* A fresh reader of a format. Refusal: BAD_LETTER, and then the reader is a fresh one of U. */
+istrolf_new_reader istrolf_reader_fresh(uint8_t letter);
+
+/* One word. Refusals: BAD_STATE, BAD_WORD. */
+istrolf_read_word istrolf_reader_step(istrolf_reader reader, uint16_t word);
+
+/* Many words. A report is five numbers of out: buttons, x1, y1, x2, y2; room counts numbers, not reports. Refusals: BAD_STATE; BAD_WORD, with next,
+ * taken, reports, dropped and out as they stand before the bad word. With 0 and taken below count, fewer than five numbers of out were left for the
+ * next report: call again with next, words + taken, count - taken and new room. */
+istrolf_reading istrolf_reader_read(istrolf_reader reader, const uint16_t *words, size_t count, int16_t *out, size_t room);
+
+/* ---- The encoder: a report in, bytes out. */
+
+typedef struct {
+    uint8_t refusal;
+    size_t length; /* bytes written to the front of buffer: 3 in S, V and T, else 5 */
+} istrolf_encoding;
+
+/* The bytes of a report. Refusals: BAD_LETTER, BAD_BUTTONS, one of BAD_X1, BAD_Y1, BAD_X2 and BAD_Y2, SHORT_BUFFER. The format holds movements of
+ * -127 to 127 in S; -128 to 127 in U, T, W and in V, but V's y is -127 to 128; 0 to 4095 in A; -2048 to 2047 in B. */
+istrolf_encoding istrolf_encode(uint8_t letter, istrolf_report report, uint8_t *buffer, size_t room);
+
+/* ---- The box: motion, buttons and bytes of the host in, line words out. */
+
+typedef struct {
+    int16_t x, y;
+} istrolf_pair;
+
+typedef struct {
+    int64_t x, y;
+} istrolf_sum;
+
+typedef struct {
+    struct {
+        uint8_t format;  /* its letter */
+        uint8_t mode;    /* its letter: J K L R M Q N O stream, D prompt */
+        uint8_t buttons; /* the buttons now */
+    } settings;
+    struct {
+        istrolf_pair counter;  /* moved since the last report */
+        istrolf_pair position; /* 0 to 4095 */
+        istrolf_pair last;     /* the position last reported */
+    } track;
+    struct {
+        uint8_t length;   /* bytes of the report or reply that is going, 0 if none is */
+        uint8_t sent;     /* how many of them are sent */
+        uint8_t bytes[5]; /* they, and then zeros */
+    } going;
+    struct {
+        uint8_t states[8]; /* button states that reports have yet to show, oldest first, and then zeros */
+        uint8_t count;     /* how many they are */
+        uint8_t showing;   /* 1 if the report that is going shows the first, and else 0 */
+    } memory;
+    struct {
+        istrolf_sum limit;   /* movement thrown away because a report does not hold it */
+        istrolf_sum counter; /* movement thrown away because the counter's 16 bits do not hold it */
+    } sums;
+    uint8_t due;     /* 1 if a report is due, and else 0 */
+    uint8_t dormant; /* 1 if the box is dormant, and else 0 */
+} istrolf_box;
+
+typedef struct {
+    uint8_t refusal;
+    uint8_t sent;  /* how many words the box sends: 0 or 1 */
+    uint16_t word; /* the word, or 0 */
+    istrolf_box next;
+} istrolf_stepped;
+
+/* A fresh box: format U, mode O, awake, nothing pressed, moved, going, remembered, thrown away or due. */
+istrolf_box istrolf_box_fresh(void);
+
+/* One event each. Refusals: BAD_STATE; BAD_BUTTONS, by istrolf_box_buttons alone. Only istrolf_box_send and istrolf_box_host send a word. */
+istrolf_stepped istrolf_box_motion(istrolf_box box, int16_t dx, int16_t dy); /* the ball moved */
+istrolf_stepped istrolf_box_buttons(istrolf_box box, uint8_t buttons);       /* the buttons are now so */
+istrolf_stepped istrolf_box_host(istrolf_box box, uint8_t byte);             /* the host sent a byte; the word is a break where it broke off bytes */
+istrolf_stepped istrolf_box_latch(istrolf_box box);                          /* a report is latched, if one is wanted and nothing is going */
+istrolf_stepped istrolf_box_send(istrolf_box box);                           /* the next byte is sent, or a silence when nothing is going */
+istrolf_stepped istrolf_box_period(istrolf_box box);                         /* the report interval is over */
+
+/* ---- The lister: a recording in, its listing out, both as text and in pieces of any size. */
+
+typedef struct {
+    uint32_t line;   /* lines passed */
+    uint8_t ended;   /* 1 once the listing has ended, and else 0 */
+    uint8_t held[5]; /* the bytes of the unfinished line */
+    size_t count;    /* how many they are */
+    istrolf_reader reader;
+} istrolf_lister;
+
+typedef struct {
+    uint8_t refusal;
+    uint8_t ended;  /* as in next: nothing need be read after the end */
+    size_t taken;   /* bytes taken */
+    size_t written; /* bytes written to the front of out */
+    istrolf_lister next;
+} istrolf_listed;
+
+/* Room in which a call takes a byte or finishes; so many for each byte, and it takes them all. */
+enum { ISTROLF_LISTER_ROOM = 40 };
+
+/* A lister before the first byte. */
+istrolf_lister istrolf_lister_fresh(void);
+
+/* A piece of the recording. Refusal: BAD_STATE. With taken below count there was no room for the text of the next byte: call again with next, the
+ * rest of the piece and new room. */
+istrolf_listed istrolf_lister_feed(istrolf_lister lister, const uint8_t *input, size_t count, uint8_t *out, size_t room);
+
+/* The end of the recording. Refusal: BAD_STATE. If it has not ended then, there was no room for its text: call again with new room. */
+istrolf_listed istrolf_lister_finish(istrolf_lister lister, uint8_t *out, size_t room);
+
+#ifdef __cplusplus
+}
+#endif
+#endif

@@ -1,0 +1,7 @@
+/* For the kit's compiler, which has no headers. */
+#ifndef KIT_STDDEF_H
+#define KIT_STDDEF_H
+typedef __SIZE_TYPE__ size_t;
+#define NULL ((void *)0)
+#define offsetof(type, member) __builtin_offsetof(type, member)
+#endif

@@ -1,0 +1,18 @@
+// calls: calls of the functions below those for C, with states, words and buffers that look random, wrong ones too. The C program of the same name hands the same
+// to the C functions and must write the same.
+mod boxes;
+mod draws;
+mod encoder;
+mod listers;
+mod mixes;
+mod print;
+mod readers;
+
+fn main() {
+    readers::fresh();
+    readers::steps();
+    readers::reads();
+    encoder::encodes();
+    boxes::steps();
+    listers::recordings();
+}

@@ -1,0 +1,56 @@
+-- "Each public operation's promise determines one answer, and every number in the lent slice after it, refused or not".
+use Prim.Native.Nat.{ℕ}
+use mathlib.Core.Path.{_≡_, sym, _∙_, ap}
+use mathlib.Core.List.{List}
+use lib.IntN.{ℤ}
+use Rattle.wire.specs.Encoder as wire
+use Rattle.wire.specs.declared.Report.{Report}
+use Rattle.ballbox.specs.declared.Event.{Event}
+use Rattle.istrolf.specs.Readers as readers
+use Rattle.istrolf.specs.Listers as listers
+use Rattle.istrolf.specs.Promises.{FreshReaderPromise, ReaderStepPromise, ReadPromise, EncodePromise, FreshBoxPromise, BoxStepPromise, FreshListerPromise, FeedPromise, FinishPromise}
+use Rattle.istrolf.specs.declared.HeldReader.{HeldReader}
+use Rattle.istrolf.specs.declared.FreshReader.{FreshReader}
+use Rattle.istrolf.specs.declared.ReadWord.{ReadWord}
+use Rattle.istrolf.specs.declared.ReadWords.{ReadWords}
+use Rattle.istrolf.specs.declared.Encoding.{Encoding}
+use Rattle.istrolf.specs.declared.HeldBox.{HeldBox}
+use Rattle.istrolf.specs.declared.SteppedBox.{SteppedBox}
+use Rattle.istrolf.specs.declared.HeldLister.{HeldLister}
+use Rattle.istrolf.specs.declared.ListedBytes.{ListedBytes}
+
+listed-same : {a b : ListedBytes} {x y : List ℕ} → listers.whole a x ≡ listers.whole b y → (a ≡ b) × (x ≡ y)
+listed-same e = (ap (λ (l : listers.Whole). l .listed) e, ap (λ (l : listers.Whole). l .out) e)
+
+pub one-fresh-reader : (letter : ℕ) (a b : FreshReader) → FreshReaderPromise letter a → FreshReaderPromise letter b → a ≡ b
+one-fresh-reader letter a b e f = e ∙ sym f
+
+pub one-reader-step : (h : HeldReader) (w : ℕ) (a b : ReadWord) → ReaderStepPromise h w a → ReaderStepPromise h w b → a ≡ b
+one-reader-step h w a b e f = e ∙ sym f
+
+pub one-read : (h : HeldReader) (words : List ℕ) (out : List ℤ) (a b : ReadWords) (x y : List ℤ)
+    → ReadPromise h words out a x → ReadPromise h words out b y → (a ≡ b) × (x ≡ y)
+one-read h words out a b x y e f =
+    (ap (λ (l : readers.Whole). l .reading) (e ∙ sym f), ap (λ (l : readers.Whole). l .out) (e ∙ sym f))
+
+pub one-encoding : (letter : ℕ) (report : Report) (buffer : List ℕ) (a b : Encoding) (x y : List ℕ)
+    → EncodePromise letter report buffer a x → EncodePromise letter report buffer b y → (a ≡ b) × (x ≡ y)
+one-encoding letter report buffer a b x y e f =
+    (λ i. record { refusal = (e ∙ sym f) i .refusal; length = (e ∙ sym f) i .told }, ap (λ (l : wire.Encoding). l .buffer) (e ∙ sym f))
+
+pub one-fresh-box : (a b : HeldBox) → FreshBoxPromise a → FreshBoxPromise b → a ≡ b
+one-fresh-box a b e f = e ∙ sym f
+
+pub one-box-step : (h : HeldBox) (e : Event) (a b : SteppedBox) → BoxStepPromise h e a → BoxStepPromise h e b → a ≡ b
+one-box-step h event a b e f = e ∙ sym f
+
+pub one-fresh-lister : (a b : HeldLister) → FreshListerPromise a → FreshListerPromise b → a ≡ b
+one-fresh-lister a b e f = e ∙ sym f
+
+pub one-feed : (h : HeldLister) (input out : List ℕ) (a b : ListedBytes) (x y : List ℕ)
+    → FeedPromise h input out a x → FeedPromise h input out b y → (a ≡ b) × (x ≡ y)
+one-feed h input out a b x y e f = listed-same (e ∙ sym f)
+
+pub one-finish : (h : HeldLister) (out : List ℕ) (a b : ListedBytes) (x y : List ℕ)
+    → FinishPromise h out a x → FinishPromise h out b y → (a ≡ b) × (x ≡ y)
+one-finish h out a b x y e f = listed-same (e ∙ sym f)
