@@ -26,9 +26,9 @@ use Rattle.demands.specs.Worked.{slots}
 use Rattle.demands.specs.Excess.{sums-plain, fresh-long}
 
 -- a fresh box has nothing going and nothing counted, and is set to U
-fresh-kept : account-of.Kept freshBox nothing
+fresh-standing : account-of.Standing freshBox nothing
 unfolding computing
-fresh-kept = record { good = refl; carries = refl; relative = refl; unpaired = tt }
+fresh-standing = record { good = refl; carries = refl; relative = refl; unpaired = tt }
 
 fresh-counter : (a : Axis) → inCounter a freshBox ≡ pos 0
 unfolding freshBox
@@ -51,7 +51,7 @@ pub account : (a : Axis) (b : BallBox) (events : List Event) (answers : List Ste
     +ℤ over (clearedBy a) b events)))))
 account a b events answers fresh p n =
     rw (last-box b events answers p)
-    (account-of.account a b events (rw fresh fresh-kept) (ap (inCounter a) fresh ∙ fresh-counter a) n)
+    (account-of.account a b events (rw fresh fresh-standing) (ap (inCounter a) fresh ∙ fresh-counter a) n)
 
 -- "While neither held sum of §6 has reached an end, those sums equal the two excesses."
 pub sums-are-excesses : (k : Kind) (a : Axis) (b : BallBox) (events : List Event) (answers : List Stepped)

@@ -18,7 +18,7 @@ module _ {R : Type 0} (F : Frame R) (M : Marked F) where
   unfolding moveOf
   starts (has []) b h = starting F (M .laws) b h
   starts (has (a ∷ k)) b h =
-      let l : b < 256 = M .laws .byte [] b h in rw (ne-eqb b 257 (λ e. omega arith), ne-eqb b 256 (λ e. omega arith), M .apart a k b h, M .is, h)
+      let l : b < 256 = M .laws .byte [] b h in rw (ne-eqb b 257 (λ e. omega arith), ne-eqb b 256 (λ e. omega arith), M .first-only a k b h, M .is, h)
   starts waits b h =
       let l : b < 256 = M .laws .byte [] b h in rw (ne-eqb b 257 (λ e. omega arith), ne-eqb b 256 (λ e. omega arith), M .is, h)
 
@@ -34,7 +34,7 @@ module _ {R : Type 0} (F : Frame R) (M : Marked F) where
   later a k b h = go (F .fits [] b) refl
     where
       go : (t : Bool) → F .fits [] b ≡ t → F .fits [] b ≡ false
-      go true e = e ∙ (sym h ∙ M .apart a k b e)
+      go true e = e ∙ (sym h ∙ M .first-only a k b e)
       go false e = e
 
   -- a byte that no rule takes, and a break

@@ -133,4 +133,4 @@ pub record Laws {R : Type 0} (F : Frame R) : Type 0 where
 pub record Marked {R : Type 0} (F : Frame R) : Type 0 where
   pub laws : Laws F
   pub is : F .marked ≡ true
-  pub apart : (a : ℕ) (k : List ℕ) (b : ℕ) → F .fits [] b ≡ true → F .fits (a ∷ k) b ≡ false
+  pub first-only : (a : ℕ) (k : List ℕ) (b : ℕ) → F .fits [] b ≡ true → F .fits (a ∷ k) b ≡ false

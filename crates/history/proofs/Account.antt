@@ -41,7 +41,7 @@ use Rattle.ballbox.proofs.Obeying.{dropped-settings}
 use Rattle.ballbox.proofs.Goodness.{stepped-good}
 use Rattle.ballbox.proofs.Throwing.{taken-whole, counted-whole}
 use Rattle.ballbox.proofs.Refusals.{ruled}
-use Rattle.history.specs.History.{begun, pairedAt, paired, withPair, isFive, replying, whenAwake, whenAsleep, toldBy, nextBox, passagesOf, goingAfter}
+use Rattle.history.specs.History.{begun, pairedAt, paired, withPair, isFive, unsentReply, whenAwake, whenAsleep, toldBy, nextBox, passagesOf, goingAfter}
 use Rattle.history.specs.Presses.{boxAfter}
 use Rattle.history.specs.Sums.{Kind, over-limit, over-counter, Axis, x-axis, y-axis, excessOf, thrownIn, sumOf}
 use Rattle.history.proofs.Carries.{Carries}
@@ -108,7 +108,7 @@ Unpaired nothing = Unit {0}
 Unpaired (first n (report l)) = n ≤ 3 → (l .report .x2 ≡ pos 0) × (l .report .y2 ≡ pos 0)
 Unpaired (first n (reply bytes)) = Unit {0}
 
-pub record Kept (b : BallBox) (g : UnderWay Message) : Type 0 where
+pub record Standing (b : BallBox) (g : UnderWay Message) : Type 0 where
   pub good : good b ≡ true
   pub carries : Carries b g
   pub relative : isA (b .settings .format) ≡ false
@@ -268,7 +268,7 @@ module _ (a : Axis) where
       ap (λ (x : ℤ). (pos 0 +ℤ x) +ℤ pos 0) (sym e)
       ∙ same-terms (v ∷ l ∷ []) ((none plus (term 0 plus term 1)) plus none) ((none plus term 1 plus none plus none plus none) plus (term 0 plus none)) refl
 
-  latch-accounts : (b : BallBox) (g : UnderWay Message) → Kept b g → Accounts b Latch g (latching b) (told [] (begun b g))
+  latch-accounts : (b : BallBox) (g : UnderWay Message) → Standing b g → Accounts b Latch g (latching b) (told [] (begun b g))
   unfolding latched
   latch-accounts b (first n m) k =
       let l = bytes-left b n m (k .carries) in
@@ -293,12 +293,12 @@ module _ (a : Axis) where
       ∙ same-terms (valueIn a m ∷ cleared ∷ now ∷ []) ((term 0 plus (term 1 plus term 2)) plus none)
       ((none plus none plus none plus (term 0 plus none) plus term 1) plus (none plus term 2)) refl
 
-  reply-value : (bytes : List ℕ) → inGoing a (replying bytes) ≡ pos 0
+  reply-value : (bytes : List ℕ) → inGoing a (unsentReply bytes) ≡ pos 0
   reply-value [] = refl
   reply-value (byte ∷ bytes) = refl
 
   host-accounts : (b : BallBox) (byte : ℕ) (g : UnderWay Message)
-      → Accounts b (Host byte) g (onHost byte b .next) (told (brokenOff g) (replying (replyTo b (commandOf byte))))
+      → Accounts b (Host byte) g (onHost byte b .next) (told (brokenOff g) (unsentReply (replyTo b (commandOf byte))))
   host-accounts b byte g = rw (reply-value (replyTo b (commandOf byte))) (go (known byte) refl)
     where
       go : (t : Bool) → known byte ≡ t
@@ -308,7 +308,7 @@ module _ (a : Axis) where
       go false e = rw (e, host-leaves byte b e .0) (broken-accounts g (inCounter a b) (pos 0) (inCounter a b) (+ℤ-idl _))
 
   -- Send: U's second pair, and then a byte, which may end the report
-  paired-accounts : (b : BallBox) (n : ℕ) (m : Message) → Kept b (first n m)
+  paired-accounts : (b : BallBox) (n : ℕ) (m : Message) → Standing b (first n m)
       → valueIn a m +ℤ inCounter a b ≡ cond (secondNow b) (excessAlong a (takenOver (b .settings .format) (b .track))) (pos 0) +ℤ (valueIn a (pairedAt b n m) +ℤ inCounter a (withByteReady b))
   unfolding withByteReady secondLatched
   paired-accounts b n (reply bytes) k =
@@ -342,7 +342,7 @@ module _ (a : Axis) where
       ap (λ (x : ℤ). x +ℤ pos 0) (e ∙ ap (λ (x : ℤ). l +ℤ (x +ℤ c′)) (sym q))
       ∙ same-terms (l ∷ f ∷ w ∷ c′ ∷ []) ((term 0 plus ((term 1 plus term 2) plus term 3)) plus none) ((term 1 plus term 0 plus none plus none plus none) plus (term 2 plus term 3)) refl
 
-  send-accounts : (b : BallBox) (g : UnderWay Message) → Kept b g → Accounts b Send g (sending b .next) (sentOne messageBytes (paired b g))
+  send-accounts : (b : BallBox) (g : UnderWay Message) → Standing b g → Accounts b Send g (sending b .next) (sentOne messageBytes (paired b g))
   unfolding nextByte
   send-accounts b nothing k = rw (sending-silence b (k .carries), k .carries) (quiet-accounts (pos 0) (inCounter a b))
   send-accounts b (first n m) k =
@@ -358,7 +358,7 @@ module _ (a : Axis) where
   unfolding onButtons
   buttons-track n b = cases (λ (c : BallBox). c .track ≡ b .track) (eqb n (b .settings .buttons)) (λ e. refl) (λ e. refl)
 
-  awake-accounts : (b : BallBox) (e : Event) (g : UnderWay Message) → Kept b g → Accounts b e g (awake b e .next) (whenAwake b e g)
+  awake-accounts : (b : BallBox) (e : Event) (g : UnderWay Message) → Standing b g → Accounts b e g (awake b e .next) (whenAwake b e g)
   unfolding awake onPeriod
   awake-accounts b (Motion dx dy) g k = motion-accounts b dx dy g
   awake-accounts b (Buttons n) g k = rw (buttons-track n b) (quiet-accounts (inGoing a g) (inCounter a b))
@@ -408,10 +408,10 @@ module _ (a : Axis) where
   refused-accounts b Send g k p = absurd (holds p)
   refused-accounts b Period g k p = absurd (holds p)
 
-  pub step-accounts : (b : BallBox) (e : Event) (g : UnderWay Message) → Kept b g → StepAccounts b e g
+  pub step-accounts : (b : BallBox) (e : Event) (g : UnderWay Message) → Standing b g → StepAccounts b e g
   step-accounts b e g k = go (aboveSeven e) refl (b .dormant) refl g k
     where
-      go : (t : Bool) → aboveSeven e ≡ t → (s : Bool) → b .dormant ≡ s → (g : UnderWay Message) → Kept b g → StepAccounts b e g
+      go : (t : Bool) → aboveSeven e ≡ t → (s : Bool) → b .dormant ≡ s → (g : UnderWay Message) → Standing b g → StepAccounts b e g
       go true p s q g k = refused-accounts b e g (k .good) p
       go false p true q (first n m) k = absurd (holds (sym (k .carries .1 .awake) ∙ q))
       go false p true q nothing k =
@@ -446,7 +446,7 @@ asleep-relative b Latch r = r
 asleep-relative b Send r = r
 asleep-relative b Period r = r
 
-reply-unpaired : (bytes : List ℕ) → Unpaired (replying bytes)
+reply-unpaired : (bytes : List ℕ) → Unpaired (unsentReply bytes)
 reply-unpaired [] = tt
 reply-unpaired (byte ∷ bytes) = tt
 
@@ -479,8 +479,8 @@ asleep-unpaired b Latch = tt
 asleep-unpaired b Send = tt
 asleep-unpaired b Period = tt
 
-pub kept-step : (b : BallBox) (e : Event) (g : UnderWay Message) → Kept b g → selectsA b e ≡ false → Kept (nextBox b e) (toldBy b e g .going)
-kept-step b e g k s =
+pub standing-step : (b : BallBox) (e : Event) (g : UnderWay Message) → Standing b g → selectsA b e ≡ false → Standing (nextBox b e) (toldBy b e g .going)
+standing-step b e g k s =
     let r = rest (aboveSeven e) refl (b .dormant) refl g k in
     record { good = stepped-good b e (k .good); carries = step-sends b e g (k .good) (k .carries) .carries; relative = r .0; unpaired = r .1 }
   where
@@ -490,7 +490,7 @@ kept-step b e g k s =
     both : (g : UnderWay Message) (c : BallBox) (t : Told Message) → nextBox b e ≡ c → toldBy b e g ≡ t → Rest c t → Rest (nextBox b e) (toldBy b e g)
     both g c t n d h = (ap (λ (x : BallBox). isA (x .settings .format)) n ∙ h .0, subst (λ (x : Told Message). Unpaired (x .going)) (sym d) (h .1))
 
-    rest : (t : Bool) → aboveSeven e ≡ t → (d : Bool) → b .dormant ≡ d → (g : UnderWay Message) → Kept b g → Rest (nextBox b e) (toldBy b e g)
+    rest : (t : Bool) → aboveSeven e ≡ t → (d : Bool) → b .dormant ≡ d → (g : UnderWay Message) → Standing b g → Rest (nextBox b e) (toldBy b e g)
     rest true p d q g k = both g b (told [] g) (refused-next b e (k .good) p) (refused-told b e g p) (k .relative, k .unpaired)
     rest false p true q (first n m) k = absurd (holds (sym (k .carries .1 .awake) ∙ q))
     rest false p true q nothing k =
@@ -524,7 +524,7 @@ module _ (a : Axis) where
         cleared = over (clearedBy a) b events;
       }
 
-  pub accounts : (b : BallBox) (g : UnderWay Message) (events : List Event) → Kept b g → neverA b events ≡ true
+  pub accounts : (b : BallBox) (g : UnderWay Message) (events : List Event) → Standing b g → neverA b events ≡ true
       → onWay a b g +ℤ over (fedBy a) b events ≡ all (partsOver b g events) +ℤ onWay a (boxAfter b events) (goingAfter b g events)
   unfolding over neverA passagesOver goingOver boxAfter
   accounts b g [] k n = quiet-accounts a (inGoing a g) (inCounter a b)
@@ -537,7 +537,7 @@ module _ (a : Axis) where
       let rest = partsOver c (t .going) events in
       let end = onWay a (boxAfter c events) (goingAfter c (t .going) events) in
       let here = step-accounts a b e g k in
-      let later = accounts c (t .going) events (kept-step b e g k (not-true (selectsA b e) (left (not (selectsA b e)) (neverA c events) n))) (right (not (selectsA b e)) (neverA c events) n) in
+      let later = accounts c (t .going) events (standing-step b e g k (not-true (selectsA b e) (left (not (selectsA b e)) (neverA c events) n))) (right (not (selectsA b e)) (neverA c events) n) in
       sym (+ℤ-assoc (onWay a b g) fed more)
       ∙ (ap (λ (x : ℤ). x +ℤ more) here
       ∙ (+ℤ-assoc (all now) (onWay a c (t .going)) more
@@ -614,7 +614,7 @@ run-throws k a b [] g = refl
 run-throws k a b (e ∷ events) g = ap₂ _+ℤ_ (sym (step-throws k a b e g)) (run-throws k a (nextBox b e) events (stepped-good b e g))
 
 -- The account, from a good box that is not set to A and has nothing going and nothing counted.
-pub account : (a : Axis) (b : BallBox) (events : List Event) → Kept b nothing → inCounter a b ≡ pos 0 → neverA b events ≡ true
+pub account : (a : Axis) (b : BallBox) (events : List Event) → Standing b nothing → inCounter a b ≡ pos 0 → neverA b events ≡ true
     → over (fedBy a) b events
     ≡ inFinished a (passagesOf b nothing events)
     +ℤ (inGoing a (goingAfter b nothing events)

@@ -22,7 +22,7 @@ use Rattle.ballbox.specs.declared.Event.{Event}
 use Rattle.ballbox.specs.declared.Event.the-variants.{Motion, Buttons, Host, Latch, Send, Period}
 use Rattle.ballbox.proofs.Remembering.{remembered-length}
 use Rattle.ballbox.proofs.Parts.{parts}
-use Rattle.history.specs.History.{latchedNow, begun, pairedAt, paired, isFive, replying, toldBy, nextBox, passagesOf, goingAfter}
+use Rattle.history.specs.History.{latchedNow, begun, pairedAt, paired, isFive, unsentReply, toldBy, nextBox, passagesOf, goingAfter}
 use Rattle.history.specs.Asked.{hostsPass, allHosts}
 use Rattle.history.specs.Presses.{empties, noneEmpties, noHost, changeTo, noting, shownBy, Shows, ShowsIn, NextShows, ShownAgain}
 use Rattle.history.proofs.Bridge.{told-is}
@@ -57,7 +57,7 @@ data Decides (state : ℕ) (passages : List (Passage Message)) (b : BallBox) (g 
   decided : ((rest : List (Passage Message)) (end : UnderWay Message) → NextShows state (passages ++ rest) end) → Decides state passages b g
   left-over : First state b g → ((rest : List (Passage Message)) (end : UnderWay Message) → NextShows state rest end → NextShows state (passages ++ rest) end) → Decides state passages b g
 
-reply-shows : (state : ℕ) (bytes : List ℕ) → NextShows state [] (replying bytes)
+reply-shows : (state : ℕ) (bytes : List ℕ) → NextShows state [] (unsentReply bytes)
 reply-shows state [] = tt
 reply-shows state (byte ∷ bytes) = tt
 

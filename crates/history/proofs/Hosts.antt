@@ -16,17 +16,17 @@ use Rattle.ballbox.specs.declared.Command.{Command}
 use Rattle.ballbox.specs.declared.Command.the-variants.{SetFormat, SetStream, SetPrompt, AskReport, AskAck, AskCode, AskLetters, AskButtons, Sleep, Ignored}
 use Rattle.ballbox.proofs.Cases.{dropped-idle}
 use Rattle.ballbox.proofs.Obeying.{dropped-settings, dropped-awake}
-use Rattle.history.specs.History.{replying}
+use Rattle.history.specs.History.{unsentReply}
 use Rattle.history.proofs.Carries.{Carries, Sends}
 use Rattle.history.proofs.Sending.{bytes-left}
 
 -- a reply to be sent, of which nothing has gone
-reply-words : (bytes : List ℕ) → partWords messageBytes (replying bytes) ≡ []
+reply-words : (bytes : List ℕ) → partWords messageBytes (unsentReply bytes) ≡ []
 reply-words [] = refl
 reply-words (b ∷ bytes) = refl
 
 -- what a command leaves, where no bytes are left
-obeyed-carries : (b : BallBox) (c : Command) → bytesLeft b ≡ false → b .dormant ≡ false → Carries (obeyed c b) (replying (replyTo b c))
+obeyed-carries : (b : BallBox) (c : Command) → bytesLeft b ≡ false → b .dormant ≡ false → Carries (obeyed c b) (unsentReply (replyTo b c))
 unfolding obeyed goingFrom
 obeyed-carries b (SetFormat f) e d = e
 obeyed-carries b (SetStream m) e d = e
@@ -60,17 +60,17 @@ none-left b = go (bytesLeft b) refl
     go true e = rw e
     go false e = ap bytesLeft (dropped-idle b e) ∙ e
 
-heard-carries : (b : BallBox) (byte : ℕ) → b .dormant ≡ false → Carries (onHost byte b .next) (replying (replyTo b (commandOf byte)))
+heard-carries : (b : BallBox) (byte : ℕ) → b .dormant ≡ false → Carries (onHost byte b .next) (unsentReply (replyTo b (commandOf byte)))
 unfolding onHost
 heard-carries b byte d =
     rw (← same-reply b (dropped b) (commandOf byte) (dropped-settings b)) (obeyed-carries (dropped b) (commandOf byte) (none-left b) (dropped-awake b ∙ d))
 
-pub host-idle : (b : BallBox) (byte : ℕ) → b .dormant ≡ false → bytesLeft b ≡ false → Sends (onHost byte b) nothing (told [] (replying (replyTo b (commandOf byte))))
+pub host-idle : (b : BallBox) (byte : ℕ) → b .dormant ≡ false → bytesLeft b ≡ false → Sends (onHost byte b) nothing (told [] (unsentReply (replyTo b (commandOf byte))))
 unfolding onHost
 host-idle b byte d e = record { words = rw (e, reply-words (replyTo b (commandOf byte))); carries = heard-carries b byte d }
 
 pub host-busy : (b : BallBox) (byte n : ℕ) (m : Message) → b .dormant ≡ false → Carries b (first n m)
-    → Sends (onHost byte b) (first n m) (told (brokenOff (first n m)) (replying (replyTo b (commandOf byte))))
+    → Sends (onHost byte b) (first n m) (told (brokenOff (first n m)) (unsentReply (replyTo b (commandOf byte))))
 unfolding onHost
 host-busy b byte n m d h =
     let e = bytes-left b n m h in

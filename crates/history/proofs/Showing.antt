@@ -27,7 +27,7 @@ use Rattle.ballbox.specs.declared.Command.{Command}
 use Rattle.ballbox.specs.declared.Command.the-variants.{SetFormat, SetStream, SetPrompt, AskReport, AskAck, AskCode, AskLetters, AskButtons, Sleep, Ignored}
 use Rattle.ballbox.proofs.Remembering.{memory-parts, remembered-length, remembered-behind, remembered-ninth, remembered-shown, remembered-hidden, remembered-showing, shown-none, shows-first}
 use Rattle.ballbox.proofs.Cases.{latching-busy, latching-wanted, latching-idle, sending-byte, sending-silence, dropped-busy, dropped-idle}
-use Rattle.history.specs.History.{latchedNow, begun, pairedAt, isFive, replying, whenAwake}
+use Rattle.history.specs.History.{latchedNow, begun, pairedAt, isFive, unsentReply, whenAwake}
 use Rattle.history.specs.Presses.{empties, changeTo, inPlaceOfLast, noting, shownIn, shownBy}
 use Rattle.history.proofs.Carries.{Carries}
 use Rattle.history.proofs.Sending.{bytes-left, pairs}
@@ -234,7 +234,7 @@ kept-memory AskButtons b k = refl
 kept-memory Sleep b k = absurd k
 kept-memory Ignored b k = refl
 
-reply-showing : (bytes : List ℕ) (b : BallBox) → b .memory .showing ≡ false → Showing b (replying bytes)
+reply-showing : (bytes : List ℕ) (b : BallBox) → b .memory .showing ≡ false → Showing b (unsentReply bytes)
 reply-showing [] b h = h
 reply-showing (byte ∷ bytes) b h = h
 
@@ -248,7 +248,7 @@ broken-shows nothing = refl
 broken-shows (first n m) = refl
 
 pub host-keeps : (b : BallBox) (byte : ℕ) (g : UnderWay Message) → empties byte ≡ false → Carries b g → Showing b g
-    → Keeps (remembered (b .memory)) (onHost byte b .next) (shownBy (brokenOff g)) (replying (replyTo b (commandOf byte)))
+    → Keeps (remembered (b .memory)) (onHost byte b .next) (shownBy (brokenOff g)) (unsentReply (replyTo b (commandOf byte)))
 unfolding onHost
 host-keeps b byte g k c h =
     let e = kept-memory (commandOf byte) (dropped b) (kept-command byte k) in

@@ -53,15 +53,15 @@ paired b nothing = nothing
 paired b (first n m) = first n (pairedAt b n m)
 
 -- a reply of which no byte has gone; none where it has no bytes
-abbrev pub replying : List ℕ → UnderWay Message
-replying [] = nothing
-replying (byte ∷ bytes) = first 0 (reply (byte ∷ bytes))
+abbrev pub unsentReply : List ℕ → UnderWay Message
+unsentReply [] = nothing
+unsentReply (byte ∷ bytes) = first 0 (reply (byte ∷ bytes))
 
 -- an event of a box that is awake, and of one that is dormant
 abbrev pub whenAwake : BallBox → Event → UnderWay Message → Told Message
 whenAwake b (Motion dx dy) g = told [] g
 whenAwake b (Buttons n) g = told [] g
-whenAwake b (Host byte) g = told (brokenOff g) (replying (replyTo b (commandOf byte)))
+whenAwake b (Host byte) g = told (brokenOff g) (unsentReply (replyTo b (commandOf byte)))
 whenAwake b Latch g = told [] (begun b g)
 whenAwake b Send g = sentOne messageBytes (paired b g)
 whenAwake b Period g = told [] g
@@ -69,7 +69,7 @@ whenAwake b Period g = told [] g
 abbrev pub whenAsleep : BallBox → Event → UnderWay Message → Told Message
 whenAsleep b (Motion dx dy) g = told [] g
 whenAsleep b (Buttons n) g = told [] g
-whenAsleep b (Host byte) g = told [] (replying ack)
+whenAsleep b (Host byte) g = told [] (unsentReply ack)
 whenAsleep b Latch g = told [] g
 whenAsleep b Send g = sentOne messageBytes g
 whenAsleep b Period g = told [] g

@@ -52,7 +52,7 @@ laws f = record { byte = λ k b h. fits-byte f (length k) b h; long = λ b h. om
 
 pub is-marked : (f : Format) → markedOf f ≡ true → Marked (frameOf f)
 unfolding fitsAt
-is-marked f m = record { laws = laws f; is = m; apart = λ a k b h. rw (ne-eqb (suc (length k)) 0 (λ e. omega arith)) (mark f b m h) }
+is-marked f m = record { laws = laws f; is = m; first-only = λ a k b h. rw (ne-eqb (suc (length k)) 0 (λ e. omega arith)) (mark f b m h) }
 
 -- what a reader keeps, or that it waits; and what it answers
 abbrev pub stateOf : Reader → State
