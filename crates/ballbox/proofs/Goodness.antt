@@ -2,12 +2,12 @@
 use Prim.Native.Nat.{ℕ, _+_, _-_, _≤_}
 use mathlib.Core.Path.{_≡_, refl, sym, ap, _∙_}
 use mathlib.Core.List.{List}
-use mathlib.Core.Bool.{Bool, true, false, not, _&&_, _||_, and-false, or-true, or-false}
+use mathlib.Core.Bool.{Bool, true, false, not, _&&_, _||_, or-true, or-false}
 use native.Mathlib.Omega.{arith}
 use lib.Dec.{leb, ltb, eqb}
 use lib.ListN.{length}
 use lib.IntN.{ℤ, pos, _+ℤ_}
-use borrow.Author.Tests.{ltb-true, ltb-false, lt-ltb, le-leb, eqb-true, not-true}
+use borrow.Author.Tests.{ltb-true, ltb-false, le-leb, eqb-true, not-true}
 use Rattle.numbers.proofs.Choices.{both, cases}
 use Rattle.numbers.proofs.Held.{held-inside}
 use Rattle.numbers.proofs.Tested.{left, right}
@@ -18,7 +18,7 @@ use Rattle.ballbox.specs.Presses.{anyRemembered, none}
 use Rattle.ballbox.specs.Motion.{placedAt, placed, movedBy}
 use Rattle.ballbox.specs.Latching.{cleared, latchedReport, latched, withSecond, secondLatched}
 use Rattle.ballbox.specs.Commands.{isStream, commandOf, ack, obeyed}
-use Rattle.ballbox.specs.Events.{onButtons, onPeriod, bytesLeft, wanted, latching, secondNow, withByteReady, nextByte, sending, onSlot, dropped, onHost, woken, awake, asleep}
+use Rattle.ballbox.specs.Events.{onButtons, onPeriod, bytesLeft, wanted, latching, secondNow, withByteReady, nextByte, sending, dropped, onHost, woken, awake, asleep}
 use Rattle.ballbox.specs.Good.{onPad, goodSettings, goodTrack, goodGoing, goodMemory, good}
 use Rattle.ballbox.specs.Promises.{aboveSeven, stepOf, FreshPromise, StepPromise}
 use Rattle.ballbox.specs.declared.Pair.{Pair}
@@ -29,14 +29,13 @@ use Rattle.ballbox.specs.declared.BallBox.{BallBox}
 use Rattle.ballbox.specs.declared.Command.{Command}
 use Rattle.ballbox.specs.declared.Command.the-variants.{SetFormat, SetStream, SetPrompt, AskReport, AskAck, AskCode, AskLetters, AskButtons, Sleep, Ignored}
 use Rattle.ballbox.specs.declared.Event.{Event}
-use Rattle.ballbox.specs.declared.Event.the-variants.{Motion, Buttons, Host, Slot, Period}
+use Rattle.ballbox.specs.declared.Event.the-variants.{Motion, Buttons, Host, Latch, Send, Period}
 use Rattle.ballbox.specs.declared.Stepped.{Stepped}
 use Rattle.ballbox.proofs.Letters.{Lettering, lettering}
-use Rattle.ballbox.proofs.Outgoing.{GoodGoing, Idle, idle-good, nothing-idle, left-idle, reply-good, Sendable, after-good, going-sendable, second-sendable, latched-sendable}
+use Rattle.ballbox.proofs.Outgoing.{GoodGoing, Idle, idle-good, nothing-idle, left-idle, reply-good, Sendable, after-good, going-sendable, second-sendable, latched-below, latched-going}
 use Rattle.ballbox.proofs.Accepting.{bytes-by-length}
 use Rattle.ballbox.proofs.Beside.{Remembers, none-remembers, remembering-remembers, showing-remembers, hidden-remembers, after-remembers, idle-remembers}
 use Rattle.ballbox.proofs.Parts.{letter-known, mode-known, few, Good, parts, good-again}
-use Rattle.ballbox.proofs.Slots.{ready-plain}
 
 pub fresh-is-good : (b : BallBox) → FreshPromise b → good b ≡ true
 unfolding freshBox good goodSettings goodTrack goodGoing goodMemory known namedBy
@@ -163,30 +162,25 @@ ready-good b l a =
     (λ e. with-track (withGoing _ b) (with-going b a _ (b .memory) (second-sendable f _ (b .going) (a .going) h (eqb-true _ _ (left u third e)) (eqb-true _ _ (right u third e))) (record { good = m .good; stream = m .stream; shows = m .shows })) _ (cleared-good (b .track) (a .track)))
     (λ e. with-going b a (b .going) (b .memory) (going-sendable f (b .going) (a .going) h) m)
 
-latched-good : (b : BallBox) → Awake GoodGoing b → Awake Sendable (latched b)
+latched-good : (b : BallBox) → Awake GoodGoing b → Awake GoodGoing (latched b)
 unfolding latched goingFrom
 latched-good b a =
     let f = b .settings .format in
-    let s = latched-sendable b (letter-known (b .settings) (a .settings)) in
+    let s = latched-going b (letter-known (b .settings) (a .settings)) in
     let m = showing-remembers (b .settings .mode) f (b .going) (b .memory) (a .memory) (latched b .going) (bytes-by-length f (latchedReport b)) in
     with-due _ (with-track _ (with-going b a _ _ s m) _ (cleared-good (b .track) (a .track))) false
 
 -- the first byte of what is latched is there to be sent
 pub latched-left : (b : BallBox) → Good b → bytesLeft (latched b) ≡ true
-latched-left b g =
-    lt-ltb (latched b .going .sent) (latched b .going .length) (latched-sendable b (letter-known (b .settings) (g .settings)) .below)
+latched-left b g = latched-below b (letter-known (b .settings) (g .settings))
 
--- and is not that of byte 4
-first-plain : (b : BallBox) → withByteReady (latched b) ≡ latched b
-unfolding latched goingFrom
-first-plain b = ready-plain (latched b) (and-false (eqb (b .settings .format) (letterOf FiveByte)))
+latching-good : (b : BallBox) → Awake GoodGoing b → Awake GoodGoing (latching b)
+unfolding latching
+latching-good b a = cases (Awake GoodGoing) (not (bytesLeft b) && wanted b) (λ e. latched-good b a) (λ e. a)
 
-slot-good : (b : BallBox) → Awake GoodGoing b → Awake GoodGoing (onSlot b .next)
-unfolding latching sending
-slot-good b a =
-    cases (λ (x : BallBox). Awake GoodGoing (sending x .next)) (not (bytesLeft b) && wanted b)
-    (λ e. rw (latched-left b (again b a), first-plain b) (sent-good (latched b) (latched-good b a)))
-    (λ e. cases (λ (x : Step). Awake GoodGoing (x .next)) (bytesLeft b) (λ l. sent-good _ (ready-good b l a)) (λ l. a))
+sending-good : (b : BallBox) → Awake GoodGoing b → Awake GoodGoing (sending b .next)
+unfolding sending
+sending-good b a = cases (λ (x : Step). Awake GoodGoing (x .next)) (bytesLeft b) (λ l. sent-good _ (ready-good b l a)) (λ l. a)
 
 dropped-idle : (b : BallBox) → Awake GoodGoing b → Awake Idle (dropped b)
 unfolding dropped
@@ -231,7 +225,8 @@ unfolding awake onPeriod onHost
 awake-good b (Motion dx dy) l a = again _ (with-track b a _ (moved-good (b .track) dx dy (a .track)))
 awake-good b (Buttons n) l a = again _ (buttons-good b n l a)
 awake-good b (Host n) l a = obeyed-good (commandOf n) (lettering n) (dropped b) (dropped-idle b a)
-awake-good b Slot l a = again _ (slot-good b a)
+awake-good b Latch l a = again _ (latching-good b a)
+awake-good b Send l a = again _ (sending-good b a)
 awake-good b Period l a = again _ (with-due b a _)
 
 woken-good : (b : BallBox) → b .dormant ≡ true → Good b → Good (woken b)
@@ -254,7 +249,8 @@ unfolding asleep
 asleep-good b (Motion dx dy) d g = g
 asleep-good b (Buttons n) d g = g
 asleep-good b (Host n) d g = woken-good b d g
-asleep-good b Slot d g = g
+asleep-good b Latch d g = g
+asleep-good b Send d g = g
 asleep-good b Period d g = g
 
 pub stepped-good : (b : BallBox) (e : Event) → good b ≡ true → good (stepOf b e .next) ≡ true

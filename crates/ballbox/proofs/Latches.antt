@@ -18,18 +18,18 @@ use Rattle.wire.specs.declared.Format.{Format}
 use Rattle.wire.specs.declared.Format.the-variants.{Absolute, FiveByte}
 use Rattle.ballbox.specs.Box.{Step, goingFrom, withGoing}
 use Rattle.ballbox.specs.Latching.{limits, limited, movement, taken, latchedReport, latched}
-use Rattle.ballbox.specs.Events.{bytesLeft, wanted, secondNow, nextByte, sending, onSlot, awake}
+use Rattle.ballbox.specs.Events.{bytesLeft, wanted, withByteReady, nextByte, sending, awake}
 use Rattle.ballbox.specs.Good.{onPad, good}
 use Rattle.ballbox.specs.Promises.{sentWords, StepPromise}
-use Rattle.ballbox.specs.declared.Event.the-variants.{Slot}
+use Rattle.ballbox.specs.declared.Event.the-variants.{Latch, Send}
 use Rattle.ballbox.specs.declared.Stepped.{Stepped}
 use Rattle.ballbox.specs.declared.Track.{Track}
 use Rattle.ballbox.specs.declared.BallBox.{BallBox}
 use Rattle.wire.proofs.Letters.{letter-named}
 use Rattle.ballbox.proofs.Accepting.{limited-within}
 use Rattle.ballbox.proofs.Parts.{parts}
-use Rattle.ballbox.proofs.Goodness.{latched-left}
-use Rattle.ballbox.proofs.Slots.{latching-busy, latching-wanted, sending-byte, ready-plain}
+use Rattle.ballbox.proofs.Goodness.{latched-left, step-stays-good}
+use Rattle.ballbox.proofs.Cases.{latching-wanted, sending-byte, ready-plain}
 use Rattle.ballbox.proofs.Refusals.{awake-step}
 
 -- a movement that is taken, of a first or a second pair, lies in the range of its format
@@ -55,39 +55,40 @@ pub latched-bytes : (f : Format) (b : BallBox) → b .settings .format ≡ lette
 unfolding bytesBy
 latched-bytes f b e = rw (ap namedBy e ∙ letter-named f)
 
--- nothing of it is sent: its first byte goes out
+-- nothing of it is sent: its first byte goes out, and U's second pair is still to come
+pub first-plain : (b : BallBox) → b .going .sent ≡ 0 → withByteReady b ≡ b
+first-plain b z = ready-plain b (rw z (and-false (eqb (b .settings .format) (letterOf FiveByte))))
+
 begins : (b : BallBox) → bytesLeft b ≡ true → b .going .sent ≡ 0 → sending b .words ≡ at 0 (b .going .bytes) ∷ []
 unfolding nextByte
 begins b l z =
-    let n : secondNow b ≡ false = rw z (and-false (eqb (b .settings .format) (letterOf FiveByte))) in
     ap (λ (a : Step). a .words) (sending-byte b l) ∙
-    (ap (λ (x : BallBox). nextByte x .words) (ready-plain b n) ∙ ap (λ (k : ℕ). at k (b .going .bytes) ∷ []) z)
+    (ap (λ (x : BallBox). nextByte x .words) (first-plain b z) ∙ ap (λ (k : ℕ). at k (b .going .bytes) ∷ []) z)
 
 -- what is going goes out from its first byte
-slot-first : (b : BallBox) (w : ℕ) (ws : List ℕ) → onSlot (withGoing (goingFrom (w ∷ ws)) b) .words ≡ w ∷ []
+send-first : (b : BallBox) (w : ℕ) (ws : List ℕ) → sending (withGoing (goingFrom (w ∷ ws)) b) .words ≡ w ∷ []
 unfolding goingFrom
-slot-first b w ws =
-    let x = withGoing (goingFrom (w ∷ ws)) b in
-    let l : bytesLeft x ≡ true = lt-ltb 0 (length (w ∷ ws)) (omega arith) in
-    ap (λ (y : BallBox). sending y .words) (latching-busy x l) ∙ begins x l refl
+send-first b w ws = begins (withGoing (goingFrom (w ∷ ws)) b) (lt-ltb 0 (length (w ∷ ws)) (omega arith)) refl
 
-pub first-sent : (b : BallBox) (r : Stepped) (w : ℕ) (ws : List ℕ) → good b ≡ true → b .dormant ≡ false → b .going ≡ goingFrom (w ∷ ws) → StepPromise b Slot r → sentWords (r .sent) ≡ w ∷ []
+pub first-sent : (b : BallBox) (r : Stepped) (w : ℕ) (ws : List ℕ) → good b ≡ true → b .dormant ≡ false → b .going ≡ goingFrom (w ∷ ws) → StepPromise b Send r → sentWords (r .sent) ≡ w ∷ []
 unfolding awake
 first-sent b r w ws g d e s =
     let same : b ≡ withGoing (goingFrom (w ∷ ws)) b = λ i. record { settings = b .settings; track = b .track; going = e i; memory = b .memory; due = b .due; dormant = b .dormant } in
-    ap (λ (a : Step). a .words) (awake-step b Slot r s g refl d) ∙ (ap (λ (x : BallBox). onSlot x .words) same ∙ slot-first b w ws)
+    ap (λ (a : Step). a .words) (awake-step b Send r s g refl d) ∙ (ap (λ (x : BallBox). sending x .words) same ∙ send-first b w ws)
 
--- a report that is wanted is latched, and its first byte goes out
+-- a report that is wanted is latched by Latch, and its first byte goes out with Send
 first-of-five : (bytes : List ℕ) → at 0 (five bytes) ≡ at 0 bytes
 first-of-five [] = refl
 first-of-five (b ∷ bytes) = refl
 
-pub report-begins : (f : Format) (b : BallBox) (r : Stepped) → good b ≡ true → b .dormant ≡ false → b .settings .format ≡ letterOf f → bytesLeft b ≡ false → wanted b ≡ true → StepPromise b Slot r →
+pub report-begins : (f : Format) (b : BallBox) (r : Stepped) → good b ≡ true → b .dormant ≡ false → b .settings .format ≡ letterOf f → bytesLeft b ≡ false → wanted b ≡ true → (p : Stepped) → StepPromise b Latch p → StepPromise (p .next) Send r →
     sentWords (r .sent) ≡ at 0 (bytesOf f (latchedReport b)) ∷ []
 unfolding awake latched goingFrom
-report-begins f b r g d e l w s =
+report-begins f b r g d e l w p q s =
     let bytes = bytesBy (b .settings .format) (latchedReport b) in
-    ap (λ (a : Step). a .words) (awake-step b Slot r s g refl d) ∙
-    (ap (λ (x : BallBox). sending x .words) (latching-wanted b l w) ∙
+    let next : p .next ≡ latched b = ap (λ (a : Step). a .next) (awake-step b Latch p q g refl d) ∙ latching-wanted b l w in
+    let k : good (p .next) ≡ true = step-stays-good b Latch p q g in
+    ap (λ (a : Step). a .words) (awake-step (p .next) Send r s k refl (ap (λ (x : BallBox). x .dormant) next ∙ d)) ∙
+    (ap (λ (x : BallBox). sending x .words) next ∙
     (begins (latched b) (latched-left b (parts b g)) refl ∙
     ap (λ (k : ℕ). k ∷ []) (first-of-five bytes ∙ ap (at 0) (latched-bytes f b e))))

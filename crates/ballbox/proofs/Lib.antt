@@ -2,14 +2,14 @@
 -- what moved means (Moving), what is latched (Latches), the host's bytes (Obeying), what is remembered (Pressing), the dormant box (Dormancy), the useless box (Useless)
 -- and wrong answers (Wrong).
 -- What these and the functions' proofs share: the letters (Letters), that what is latched is accepted (Accepting), what is going (Outgoing), what
--- is remembered (Remembering, Beside), a good box part by part (Parts), and a slot case by case (Slots).
+-- is remembered (Remembering, Beside), a good box part by part (Parts), and latching, sending and breaking off case by case (Cases).
 pub mod Letters
 pub mod Remembering
 pub mod Accepting
 pub mod Outgoing
 pub mod Beside
 pub mod Parts
-pub mod Slots
+pub mod Cases
 pub mod Goodness
 pub mod Answers
 pub mod Refusals

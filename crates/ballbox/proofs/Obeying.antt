@@ -25,7 +25,7 @@ use Rattle.ballbox.specs.declared.Stepped.{Stepped}
 use Rattle.wire.proofs.Letters.{letter-named}
 use Rattle.ballbox.proofs.Parts.{mode-known, parts}
 use Rattle.ballbox.proofs.Refusals.{awake-step}
-use Rattle.ballbox.proofs.Slots.{dropped-busy, dropped-idle}
+use Rattle.ballbox.proofs.Cases.{dropped-busy, dropped-idle}
 
 pub rest-ignored : (n : ℕ) → isCommand n ≡ false → commandOf n ≡ Ignored
 unfolding commandOf known namedBy
@@ -52,7 +52,7 @@ abbrev pub goingOr : Going → List ℕ → Going
 goingOr g [] = g
 goingOr g (b ∷ bytes) = goingFrom (b ∷ bytes)
 
--- it commandEmpties the memory, or leaves it
+-- it empties the memory, or leaves it
 abbrev pub commandEmpties : Command → Bool
 commandEmpties (SetFormat f) = true
 commandEmpties (SetStream m) = false

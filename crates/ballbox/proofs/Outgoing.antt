@@ -7,7 +7,7 @@ use native.Mathlib.Omega.{arith}
 use lib.Dec.{leb, ltb, eqb}
 use lib.ListN.{length, replicate, getD-replicate}
 use lib.Seq.{getD-take, getD-append-add}
-use borrow.Author.Tests.{leb-true, ltb-false, lt-ltb, le-leb, lt-leb, eqb-true, eq-eqb, ne-eqb, not-false}
+use borrow.Author.Tests.{leb-true, ltb-false, lt-ltb, le-leb, lt-leb, eqb-true, eq-eqb, not-false}
 use Rattle.numbers.proofs.Choices.{or-else, other, either, neither, cases}
 use Rattle.numbers.specs.Signed.{twos}
 use Rattle.numbers.proofs.Tested.{left, right, holds, each-at, each-of}
@@ -20,7 +20,7 @@ use Rattle.wire.proofs.Front.{size-between}
 use Rattle.ballbox.specs.Box.{goingFrom, nothing}
 use Rattle.ballbox.specs.Latching.{latchedReport, latched, withSecond}
 use Rattle.ballbox.specs.Events.{after}
-use Rattle.ballbox.specs.Good.{sentBelow, lengthKnown, fiveBegun, secondHeld, zeroFrom, restZero, goodGoing}
+use Rattle.ballbox.specs.Good.{sentBelow, lengthKnown, secondHeld, zeroFrom, restZero, goodGoing}
 use Rattle.ballbox.specs.declared.Pair.{Pair}
 use Rattle.ballbox.specs.declared.Going.{Going}
 use Rattle.ballbox.specs.declared.BallBox.{BallBox}
@@ -31,7 +31,6 @@ use Rattle.ballbox.proofs.Accepting.{bytes-by-length}
 pub record GoodGoing (letter : ℕ) (g : Going) : Type 0 where
   pub below : sentBelow g ≡ true
   pub known : lengthKnown letter g ≡ true
-  pub begun : fiveBegun g ≡ true
   pub second : secondHeld letter g ≡ true
   pub zero : restZero g ≡ true
 
@@ -40,22 +39,19 @@ module _ (letter : ℕ) (g : Going) where
   unfolding goodGoing
   going-parts e =
       let two = sentBelow g && lengthKnown letter g in
-      let three = two && fiveBegun g in
-      let four = three && secondHeld letter g in
-      let e4 = left four (restZero g) e in
-      let e3 = left three (secondHeld letter g) e4 in
-      let e2 = left two (fiveBegun g) e3 in
+      let three = two && secondHeld letter g in
+      let e3 = left three (restZero g) e in
+      let e2 = left two (secondHeld letter g) e3 in
       record {
         below = left (sentBelow g) (lengthKnown letter g) e2;
         known = right (sentBelow g) (lengthKnown letter g) e2;
-        begun = right two (fiveBegun g) e3;
-        second = right three (secondHeld letter g) e4;
-        zero = right four (restZero g) e;
+        second = right two (secondHeld letter g) e3;
+        zero = right three (restZero g) e;
       }
 
   pub going-again : GoodGoing letter g → goodGoing letter g ≡ true
   unfolding goodGoing
-  going-again o = rw (o .below, o .known, o .begun, o .second, o .zero)
+  going-again o = rw (o .below, o .known, o .second, o .zero)
 
 -- what is going when it is made of bytes: behind them the five hold zeros
 behind : (bytes : List ℕ) (i : ℕ) → i < 5 → length bytes ≤ i → at i (five bytes) ≡ 0
@@ -85,7 +81,6 @@ idle-good letter g i =
     record {
       below = rw (i .sent0, i .length0);
       known = rw (i .length0);
-      begun = rw (i .length0);
       second = rw (three, four, or-true);
       zero = i .zero;
     }
@@ -110,12 +105,11 @@ reply-good letter bytes l m =
     record {
       below = rw (lt-ltb 0 (length bytes) l);
       known = rw (le-leb (length bytes) 3 m);
-      begun = rw (ne-eqb (length bytes) 5 (λ e. omega arith));
       second = rw (eq-eqb _ _ (behind bytes 3 (omega arith) m), eq-eqb _ _ (behind bytes 4 (omega arith) (omega arith)), or-true);
       zero = zeros-behind bytes;
     }
 
--- what is going and has a byte to send, whether it has begun or not: the rules that hold when the byte has gone
+-- what is going and has a byte to send, U's second pair put in: the rules that hold when the byte has gone
 abbrev pub onward : Going → Going
 onward g = record { length = g .length; sent = g .sent + 1; bytes = g .bytes }
 
@@ -133,7 +127,6 @@ after-good letter g m =
     record {
       below = rw e;
       known = m .known;
-      begun = either (not (eqb (g .length) 5)) (leb 1 (g .sent + 1)) (λ n. le-leb 1 (g .sent + 1) (omega arith));
       second = m .second;
       zero = m .zero;
     })
@@ -154,7 +147,7 @@ going-sendable letter g o l =
       zero = o .zero;
     }
 
--- at the slot of byte 4 of U all five bytes are to be sent
+-- when byte 4 of U is sent all five bytes are going
 size-U : sizeBy (letterOf FiveByte) ≡ 5
 unfolding sizeBy namedBy
 size-U = refl
@@ -165,7 +158,7 @@ second-sendable letter p g o l u s =
     let all : g .length ≡ 5 = eqb-true _ _ (other (leb (g .length) 3) (eqb (g .length) (sizeBy letter)) (o .known) (lt-leb (g .length) 3 (omega arith))) ∙ (ap sizeBy u ∙ size-U) in
     record { below = l; known = o .known; second = rw (s, or-true); zero = rw all }
 
--- a report is latched, and none of it is sent
+-- a report is latched, and none of it is sent: its first byte is there to be sent
 size-by : (letter : ℕ) → Lettered letter → known letter ≡ true → 3 ≤ sizeBy letter
 unfolding sizeBy
 size-by letter (named f e) h = rw (e, letter-named f) (size-between f .0)
@@ -174,14 +167,20 @@ size-by letter (unnamed e none) h = absurd (holds (sym none ∙ h))
 pub size-known : (letter : ℕ) → known letter ≡ true → 3 ≤ sizeBy letter
 size-known letter = size-by letter (lettered letter)
 
-pub latched-sendable : (b : BallBox) → known (b .settings .format) ≡ true → Sendable (b .settings .format) (latched b .going)
+pub latched-below : (b : BallBox) → known (b .settings .format) ≡ true → ltb (latched b .going .sent) (latched b .going .length) ≡ true
+unfolding latched goingFrom
+latched-below b h =
+    let l = b .settings .format in
+    lt-ltb 0 (length (bytesBy l (latchedReport b))) (omega (arith, bytes-by-length l (latchedReport b), size-known l h))
+
+pub latched-going : (b : BallBox) → known (b .settings .format) ≡ true → GoodGoing (b .settings .format) (latched b .going)
 unfolding latched latchedReport goingFrom bytesBy namedBy bytesU twos
-latched-sendable b h =
+latched-going b h =
     let l = b .settings .format in
     let bytes = bytesBy l (latchedReport b) in
     let size = bytes-by-length l (latchedReport b) in
     record {
-      below = omega (arith, size, size-known l h);
+      below = rw (latched-below b h);
       known = either (leb (length bytes) 3) (eqb (length bytes) (sizeBy l)) (λ n. eq-eqb _ _ size);
       second = either (not (eqb l (letterOf FiveByte)) || false) (eqb (at 3 (five bytes)) 0 && eqb (at 4 (five bytes)) 0) (λ n. rw (eqb-true l (letterOf FiveByte) (not-false _ (neither _ _ n .0))));
       zero = zeros-behind bytes;

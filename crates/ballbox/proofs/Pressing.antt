@@ -10,11 +10,11 @@ use borrow.Author.Tests.{lt-ltb, eqb-true}
 use Rattle.numbers.proofs.Choices.{cases}
 use Rattle.numbers.proofs.Tested.{right}
 use Rattle.wire.specs.Line.{sizeBy}
-use Rattle.ballbox.specs.Box.{goingFrom, Step}
+use Rattle.ballbox.specs.Box.{Step}
 use Rattle.ballbox.specs.Presses.{remembered, anyRemembered, none, remembering, showingFirst}
-use Rattle.ballbox.specs.Latching.{latchedReport, latched, withSecond, secondLatched}
+use Rattle.ballbox.specs.Latching.{latched, withSecond, secondLatched}
 use Rattle.ballbox.specs.Commands.{isStream, commandOf, obeyed}
-use Rattle.ballbox.specs.Events.{onButtons, bytesLeft, wanted, secondNow, withByteReady, memoryAfter, nextByte, sending, onSlot, dropped, onHost, awake}
+use Rattle.ballbox.specs.Events.{onButtons, bytesLeft, wanted, secondNow, withByteReady, memoryAfter, latching, nextByte, sending, dropped, onHost, awake}
 use Rattle.ballbox.specs.Good.{good}
 use Rattle.ballbox.specs.Promises.{StepPromise}
 use Rattle.ballbox.specs.declared.BallBox.{BallBox}
@@ -26,9 +26,7 @@ use Rattle.ballbox.proofs.Parts.{letter-known, parts}
 use Rattle.ballbox.proofs.Remembering.{remembered-none, remembered-hidden, remembered-length}
 use Rattle.ballbox.proofs.Obeying.{commandEmpties, obeyed-leaves}
 use Rattle.ballbox.proofs.Refusals.{awake-step}
-use Rattle.ballbox.proofs.Accepting.{bytes-by-length}
-use Rattle.ballbox.proofs.Goodness.{latched-left}
-use Rattle.ballbox.proofs.Slots.{latching-busy, latching-wanted, latching-idle, sending-byte, sending-silence}
+use Rattle.ballbox.proofs.Cases.{latching-wanted, sending-byte, sending-silence}
 
 -- "Buttons no longer sets due itself"
 pub buttons-due : (n : ℕ) (b : BallBox) → onButtons n b .due ≡ b .due
@@ -78,29 +76,21 @@ host-remembered b n r s g d =
     go true = remembered-none
     go false = dropped-remembered b
 
--- what a slot leaves: "until the report's last byte has gone"; a report that is latched shows the first, if there is one
+-- a report that is latched shows the first, if there is one
+pub latch-shows : (b : BallBox) → bytesLeft b ≡ false → wanted b ≡ true → latching b .memory ≡ showingFirst (b .memory)
+unfolding latched
+latch-shows b l w = ap (λ (x : BallBox). x .memory) (latching-wanted b l w)
+
+-- what sending leaves: "until the report's last byte has gone"
 ready-memory : (b : BallBox) → nextByte (withByteReady b) .next .memory ≡ memoryAfter (b .going) (b .memory)
 unfolding nextByte withByteReady secondLatched withSecond memoryAfter
 ready-memory b = cases (λ (x : BallBox). memoryAfter (x .going) (x .memory) ≡ memoryAfter (b .going) (b .memory)) (secondNow b) (λ e. refl) (λ e. refl)
 
-module _ (b : BallBox) where
-  pub slot-busy : bytesLeft b ≡ true → onSlot b .next .memory ≡ memoryAfter (b .going) (b .memory)
-  slot-busy l = ap (λ (x : BallBox). sending x .next .memory) (latching-busy b l) ∙ (ap (λ (x : Step). x .next .memory) (sending-byte b l) ∙ ready-memory b)
+pub send-busy : (b : BallBox) → bytesLeft b ≡ true → sending b .next .memory ≡ memoryAfter (b .going) (b .memory)
+send-busy b l = ap (λ (x : Step). x .next .memory) (sending-byte b l) ∙ ready-memory b
 
-  pub slot-latches : good b ≡ true → bytesLeft b ≡ false → wanted b ≡ true → onSlot b .next .memory ≡ showingFirst (b .memory)
-  unfolding memoryAfter latched goingFrom
-  slot-latches g l w =
-      let p = parts b g in
-      let f = b .settings .format in
-      let long = size-known f (letter-known (b .settings) (p .settings)) in
-      let size = bytes-by-length f (latchedReport b) in
-      ap (λ (x : BallBox). sending x .next .memory) (latching-wanted b l w) ∙
-      (ap (λ (x : Step). x .next .memory) (sending-byte (latched b) (latched-left b p)) ∙
-      (ready-memory (latched b) ∙ rw (lt-ltb 1 (latched b .going .length) (omega arith))))
-
-  pub slot-idle : bytesLeft b ≡ false → wanted b ≡ false → onSlot b .next .memory ≡ b .memory
-  slot-idle l w =
-      ap (λ (x : BallBox). sending x .next .memory) (latching-idle b l w) ∙ ap (λ (x : Step). x .next .memory) (sending-silence b l)
+pub send-idle : (b : BallBox) → bytesLeft b ≡ false → sending b .next .memory ≡ b .memory
+send-idle b l = ap (λ (x : Step). x .next .memory) (sending-silence b l)
 
 -- where no bytes are left none is being shown, so a reply's last byte removes none
 pub idle-shows-none : (b : BallBox) → good b ≡ true → bytesLeft b ≡ false → b .memory .showing ≡ false

@@ -7,12 +7,12 @@ use borrow.Author.Tests.{lt-ltb}
 use Rattle.numbers.proofs.Choices.{cases}
 use Rattle.wire.specs.Numbers.{success, badState, badButtons, accepted, refusal}
 use Rattle.ballbox.specs.Box.{Step, refused}
-use Rattle.ballbox.specs.Events.{bytesLeft, latching, nextByte, sending, onHost, awake, asleep}
+use Rattle.ballbox.specs.Events.{bytesLeft, nextByte, sending, onHost, awake, asleep}
 use Rattle.ballbox.specs.Good.{good}
 use Rattle.ballbox.specs.Promises.{outcome, aboveSeven, stepOf, StepRefusal, StepPromise}
 use Rattle.ballbox.specs.declared.BallBox.{BallBox}
 use Rattle.ballbox.specs.declared.Event.{Event}
-use Rattle.ballbox.specs.declared.Event.the-variants.{Motion, Buttons, Host, Slot, Period}
+use Rattle.ballbox.specs.declared.Event.the-variants.{Motion, Buttons, Host, Latch, Send, Period}
 use Rattle.ballbox.specs.declared.Stepped.{Stepped}
 
 -- 6: the old box and no word
@@ -46,7 +46,8 @@ unfolding awake onHost
 awake-rightly b (Motion dx dy) = accepted refl
 awake-rightly b (Buttons n) = accepted refl
 awake-rightly b (Host n) = accepted refl
-awake-rightly b Slot = accepted (sends (latching b))
+awake-rightly b Latch = accepted refl
+awake-rightly b Send = accepted (sends b)
 awake-rightly b Period = accepted refl
 
 asleep-rightly : (b : BallBox) (e : Event) → StepRefusal b (asleep b e)
@@ -54,7 +55,8 @@ unfolding asleep
 asleep-rightly b (Motion dx dy) = accepted refl
 asleep-rightly b (Buttons n) = accepted refl
 asleep-rightly b (Host n) = accepted refl
-asleep-rightly b Slot = accepted refl
+asleep-rightly b Latch = accepted refl
+asleep-rightly b Send = accepted refl
 asleep-rightly b Period = accepted refl
 
 step-rightly : (b : BallBox) (e : Event) → StepRefusal b (stepOf b e)

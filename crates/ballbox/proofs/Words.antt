@@ -24,7 +24,7 @@ use Rattle.ballbox.specs.Box.{freshBox, modeO, modeD, Step, nothing, goi
 use Rattle.ballbox.specs.Presses.{hidden}
 use Rattle.ballbox.specs.Latching.{taken, latchedReport, latched, secondOnly, withSecond, secondLatched}
 use Rattle.ballbox.specs.Commands.{isStream, codeOf, codeByte, commandOf, replyTo, obeyed}
-use Rattle.ballbox.specs.Events.{Speaks, onButtons, onPeriod, bytesLeft, wanted, latching, secondNow, withByteReady, after, nextByte, sending, onSlot, dropped, onHost, woken, awake, asleep}
+use Rattle.ballbox.specs.Events.{Speaks, onButtons, onPeriod, bytesLeft, wanted, latching, secondNow, withByteReady, after, nextByte, sending, dropped, onHost, woken, awake, asleep}
 use Rattle.ballbox.specs.Good.{good, goodSettings}
 use Rattle.ballbox.specs.Promises.{sentWords, aboveSeven, stepOf, FreshPromise, StepPromise}
 use Rattle.ballbox.specs.declared.Going.{Going}
@@ -32,7 +32,7 @@ use Rattle.ballbox.specs.declared.BallBox.{BallBox}
 use Rattle.ballbox.specs.declared.Command.{Command}
 use Rattle.ballbox.specs.declared.Command.the-variants.{SetFormat, SetStream, SetPrompt, AskReport, AskAck, AskCode, AskLetters, AskButtons, Sleep, Ignored}
 use Rattle.ballbox.specs.declared.Event.{Event}
-use Rattle.ballbox.specs.declared.Event.the-variants.{Motion, Buttons, Host, Slot, Period}
+use Rattle.ballbox.specs.declared.Event.the-variants.{Motion, Buttons, Host, Latch, Send, Period}
 use Rattle.ballbox.specs.declared.Stepped.{Stepped}
 use Rattle.ballbox.proofs.Letters.{Lettered, named, unnamed, lettered}
 use Rattle.ballbox.proofs.Accepting.{latched-accepted, second-accepted}
@@ -51,7 +51,8 @@ unfolding awake
 awake-speaks b (Motion dx dy) w ws d = no-word
 awake-speaks b (Buttons n) w ws d = no-word
 awake-speaks b (Host n) w ws d = λ e. (d, breaks n b w ws e)
-awake-speaks b Slot w ws d = λ e. tt
+awake-speaks b Latch w ws d = no-word
+awake-speaks b Send w ws d = λ e. tt
 awake-speaks b Period w ws d = no-word
 
 asleep-speaks : (b : BallBox) (e : Event) (w : ℕ) (ws : List ℕ) → asleep b e .words ≡ w ∷ ws → Speaks b e
@@ -59,7 +60,8 @@ unfolding asleep
 asleep-speaks b (Motion dx dy) w ws = no-word
 asleep-speaks b (Buttons n) w ws = no-word
 asleep-speaks b (Host n) w ws = no-word
-asleep-speaks b Slot w ws = λ e. tt
+asleep-speaks b Latch w ws = no-word
+asleep-speaks b Send w ws = λ e. tt
 asleep-speaks b Period w ws = no-word
 
 speaks : (b : BallBox) (e : Event) (w : ℕ) (ws : List ℕ) → stepOf b e .words ≡ w ∷ ws → Speaks b e
@@ -72,9 +74,9 @@ speaks b e w ws =
     Says : Step → Type 0
     Says x = x .words ≡ w ∷ ws → Speaks b e
 
--- "Only Slot, and Host when it breaks off, give a word; the other steps give none."
-pub only-slot-and-host : (b : BallBox) (e : Event) (r : Stepped) (w : ℕ) (ws : List ℕ) → StepPromise b e r → sentWords (r .sent) ≡ w ∷ ws → Speaks b e
-only-slot-and-host b e r w ws s h = speaks b e w ws (sym (ap (λ (x : Step). x .words) s) ∙ h)
+-- "Only" Send, "and Host when it breaks off, give a word; the other steps give none."
+pub only-send-and-host : (b : BallBox) (e : Event) (r : Stepped) (w : ℕ) (ws : List ℕ) → StepPromise b e r → sentWords (r .sent) ≡ w ∷ ws → Speaks b e
+only-send-and-host b e r w ws s h = speaks b e w ws (sym (ap (λ (x : Step). x .words) s) ∙ h)
 
 -- bytes, place by place and part by part
 bytes-at : (bs : List ℕ) (i : ℕ) → Bytes bs → at i bs < 256
@@ -227,11 +229,9 @@ unfolding sending lineWords
 sending-sound b h =
     cases Sound (bytesLeft b) (λ e. next-sound (withByteReady b) (ready-five b h)) (λ e. record { bytes = h; legal = refl })
 
-slot-sound : (b : BallBox) → good b ≡ true → FiveBytes (b .going) → Sound (onSlot b)
+latching-five : (b : BallBox) → good b ≡ true → FiveBytes (b .going) → FiveBytes (latching b .going)
 unfolding latching
-slot-sound b g h =
-    sending-sound (latching b)
-    (cases (λ (x : BallBox). FiveBytes (x .going)) (not (bytesLeft b) && wanted b) (λ e. latched-five b g) (λ e. h))
+latching-five b g h = cases (λ (x : BallBox). FiveBytes (x .going)) (not (bytesLeft b) && wanted b) (λ e. latched-five b g) (λ e. h)
 
 host-sound : (n : ℕ) (b : BallBox) → good b ≡ true → FiveBytes (b .going) → Sound (onHost n b)
 unfolding onHost dropped lineWords
@@ -249,7 +249,8 @@ awake-sound b (Motion dx dy) g h = record { bytes = h; legal = refl }
 awake-sound b (Buttons n) g h =
     record { bytes = cases (λ (x : BallBox). FiveBytes (x .going)) (eqb n (b .settings .buttons)) (λ e. h) (λ e. h); legal = refl }
 awake-sound b (Host n) g h = host-sound n b g h
-awake-sound b Slot g h = slot-sound b g h
+awake-sound b Latch g h = record { bytes = latching-five b g h; legal = refl }
+awake-sound b Send g h = sending-sound b h
 awake-sound b Period g h = record { bytes = h; legal = refl }
 
 asleep-sound : (b : BallBox) (e : Event) → FiveBytes (b .going) → Sound (asleep b e)
@@ -257,7 +258,8 @@ unfolding asleep woken lineWords
 asleep-sound b (Motion dx dy) h = record { bytes = h; legal = refl }
 asleep-sound b (Buttons n) h = record { bytes = h; legal = refl }
 asleep-sound b (Host n) h = record { bytes = let l : 6 < 256 = omega arith in going-five _ (l, tt); legal = refl }
-asleep-sound b Slot h = record { bytes = h; legal = refl }
+asleep-sound b Latch h = record { bytes = h; legal = refl }
+asleep-sound b Send h = record { bytes = h; legal = refl }
 asleep-sound b Period h = record { bytes = h; legal = refl }
 
 step-sound : (b : BallBox) (e : Event) → FiveBytes (b .going) → Sound (stepOf b e)

@@ -1,4 +1,4 @@
--- The five events, awake and dormant.
+-- The six events, awake and dormant.
 use Prim.Native.Nat.{ℕ, _+_}
 use mathlib.Core.Path.{_≡_}
 use mathlib.Core.Bool.{Bool, true, false, not, cond, _&&_, _||_}
@@ -19,7 +19,7 @@ use Rattle.ballbox.specs.declared.Going.{Going}
 use Rattle.ballbox.specs.declared.Memory.{Memory}
 use Rattle.ballbox.specs.declared.BallBox.{BallBox}
 use Rattle.ballbox.specs.declared.Event.{Event}
-use Rattle.ballbox.specs.declared.Event.the-variants.{Motion, Buttons, Host, Slot, Period}
+use Rattle.ballbox.specs.declared.Event.the-variants.{Motion, Buttons, Host, Latch, Send, Period}
 
 -- the box and the words that a step gives
 abbrev pub gives : List ℕ → BallBox → Step
@@ -55,11 +55,11 @@ bytesLeft b = ltb (b .going .sent) (b .going .length)
 abbrev pub wanted : BallBox → Bool
 wanted b = b .due || anyRemembered (b .memory) || (eqb (b .settings .mode) modeO && moved b)
 
--- Slot, its first part: where no bytes are left and a report is wanted, one is latched
+-- Latch: "which does the latching when nothing is going and sends no word"
 unfoldable pub latching : BallBox → BallBox
 latching b = cond (not (bytesLeft b) && wanted b) (latched b) b
 
--- "In U, the second pair is latched [..] at the slot of byte 4"
+-- "U's second pair is still latched when byte 4 is sent."
 abbrev pub secondNow : BallBox → Bool
 secondNow b = eqb (b .settings .format) (letterOf FiveByte) && eqb (b .going .sent) 3
 
@@ -82,13 +82,9 @@ nextByte b =
     gives (at (b .going .sent) (b .going .bytes) ∷ [])
     (withMemory (memoryAfter (b .going) (b .memory)) (withGoing (after (b .going)) b))
 
--- Slot, its second part: "If bytes are left, the next goes out"; "Otherwise 257 goes out."
+-- Send: "which sends the next byte, or 257 when nothing is going"
 unfoldable pub sending : BallBox → Step
 sending b = cond (bytesLeft b) (nextByte (withByteReady b)) (gives (silence ∷ []) b)
-
--- Slot is latching and then sending
-abbrev pub onSlot : BallBox → Step
-onSlot b = sending (latching b)
 
 -- Host: "if bytes are left, 256 goes out and they are dropped. Then the byte is obeyed."; the state that they showed "keeps its place"
 unfoldable pub dropped : BallBox → BallBox
@@ -109,21 +105,24 @@ unfoldable pub awake : BallBox → Event → Step
 awake b (Motion dx dy) = quietly (onMotion dx dy b)
 awake b (Buttons n) = quietly (onButtons n b)
 awake b (Host byte) = onHost byte b
-awake b Slot = onSlot b
+awake b Latch = quietly (latching b)
+awake b Send = sending b
 awake b Period = quietly (onPeriod b)
 
--- "Dormant: Motion, Buttons and Period do nothing and Slot gives 257."
+-- "Dormant: Motion, Buttons and Period do nothing" and Send "gives 257"; "Dormant, Latch does nothing."
 unfoldable pub asleep : BallBox → Event → Step
 asleep b (Motion dx dy) = quietly b
 asleep b (Buttons n) = quietly b
 asleep b (Host byte) = quietly (woken b)
-asleep b Slot = gives (silence ∷ []) b
+asleep b Latch = quietly b
+asleep b Send = gives (silence ∷ []) b
 asleep b Period = quietly b
 
--- "Only Slot, and Host when it breaks off, give a word; the other steps give none."
+-- "Only" Send, "and Host when it breaks off, give a word; the other steps give none."
 abbrev pub Speaks : BallBox → Event → Type 0
 Speaks b (Motion dx dy) = ⊥
 Speaks b (Buttons n) = ⊥
 Speaks b (Host n) = (b .dormant ≡ false) × (bytesLeft b ≡ true)
-Speaks b Slot = Unit {0}
+Speaks b Latch = ⊥
+Speaks b Send = Unit {0}
 Speaks b Period = ⊥

@@ -34,15 +34,11 @@ goodTrack t = onPad (t .position) && onPad (t .last)
 abbrev pub sentBelow : Going → Bool
 sentBelow g = ltb (g .sent) (g .length) || (eqb (g .sent) 0 && eqb (g .length) 0)
 
--- "a report's length is 3 in S, T, V and else 5, a reply's 1 to 3"
+-- "a report's length is 3 in S, T, V and else 5, a reply's 1 to 3"; "the good-state rules let a report have sent 0"
 abbrev pub lengthKnown : ℕ → Going → Bool
 lengthKnown letter g = leb (g .length) 3 || eqb (g .length) (sizeBy letter)
 
--- "with length 5 sent is at least 1"
-abbrev pub fiveBegun : Going → Bool
-fiveBegun g = not (eqb (g .length) 5) || leb 1 (g .sent)
-
--- "and in U bytes 4 and 5 are 0 while sent is below 4"
+-- "in U bytes 4 and 5 are 0 while sent is below 4"
 abbrev pub secondHeld : ℕ → Going → Bool
 secondHeld letter g =
     not (eqb letter (letterOf FiveByte)) || leb 4 (g .sent) || (eqb (at 3 (g .bytes)) 0 && eqb (at 4 (g .bytes)) 0)
@@ -55,7 +51,7 @@ abbrev pub restZero : Going → Bool
 restZero g = each (λ i. zeroFrom i g) 5
 
 unfoldable pub goodGoing : ℕ → Going → Bool
-goodGoing letter g = sentBelow g && lengthKnown letter g && fiveBegun g && secondHeld letter g && restZero g
+goodGoing letter g = sentBelow g && lengthKnown letter g && secondHeld letter g && restZero g
 
 -- "dormant only with nothing going or due"
 abbrev pub dormantRightly : BallBox → Bool

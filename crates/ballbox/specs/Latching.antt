@@ -68,7 +68,7 @@ withSecond p g =
       bytes = set (set (g .bytes) 3 (at 3 (bytesOf FiveByte (secondOnly p)))) 4 (at 4 (bytesOf FiveByte (secondOnly p)));
     }
 
--- "In U, the second pair is latched the same way, without buttons, at the slot of byte 4; due stays"
+-- "In U, the second pair is latched the same way, without buttons"; "due stays"
 unfoldable pub secondLatched : BallBox → BallBox
 secondLatched b =
     withTrack (cleared (b .track)) (withGoing (withSecond (taken (b .settings .format) (b .track)) (b .going)) b)

@@ -10,7 +10,7 @@ use Rattle.ballbox.specs.Events.{awake, asleep}
 use Rattle.ballbox.specs.Good.{good}
 use Rattle.ballbox.specs.declared.BallBox.{BallBox}
 use Rattle.ballbox.specs.declared.Event.{Event}
-use Rattle.ballbox.specs.declared.Event.the-variants.{Motion, Buttons, Host, Slot, Period}
+use Rattle.ballbox.specs.declared.Event.the-variants.{Motion, Buttons, Host, Latch, Send, Period}
 use Rattle.ballbox.specs.declared.Sent.{Sent}
 use Rattle.ballbox.specs.declared.Sent.the-variants.{Nothing, Word}
 use Rattle.ballbox.specs.declared.Stepped.{Stepped}
@@ -28,7 +28,8 @@ abbrev pub aboveSeven : Event → Bool
 aboveSeven (Motion dx dy) = false
 aboveSeven (Buttons n) = ltb 7 n
 aboveSeven (Host byte) = false
-aboveSeven Slot = false
+aboveSeven Latch = false
+aboveSeven Send = false
 aboveSeven Period = false
 
 -- "Refusals 6 and 3 come before any rule here, dormant or not."

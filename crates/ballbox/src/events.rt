@@ -1,9 +1,9 @@
-// The five events, awake and dormant.
+// The six events, awake and dormant.
 ghost use mathlib.Core.Path.{_≡_};
 ghost use mathlib.Core.Bool.{true};
 ghost use mathlib.Core.List.{[], _∷_};
 ghost use Prim.Native.Nat.{_≤_, _<_};
-ghost use Rattle.ballbox.specs.Events.{gives, quietly, moved, onMotion, onButtons, onPeriod, bytesLeft, wanted, latching, withByteReady, moreBehind, after, memoryAfter, nextByte, sending, onSlot, dropped, onHost, woken, awake, asleep};
+ghost use Rattle.ballbox.specs.Events.{gives, quietly, moved, onMotion, onButtons, onPeriod, bytesLeft, wanted, latching, withByteReady, moreBehind, after, memoryAfter, nextByte, sending, dropped, onHost, woken, awake, asleep};
 ghost use Rattle.ballbox.specs.Good.{good};
 ghost use Rattle.ballbox.specs.Presses.{toShow};
 ghost use Rattle.ballbox.specs.Promises.{outcome};
@@ -149,7 +149,7 @@ impl BallBox {
         }
     }
 
-    // In U, the second pair is latched at the slot of byte 4.
+    // In U, the second pair is latched when byte 4 is sent.
     fn with_byte_ready(self) -> BallBox
         ensures { λ r. ⌜ r ≡ withByteReady self ⌝ }
     {
@@ -183,13 +183,6 @@ impl BallBox {
         } else {
             self.gives(SILENCE)
         }
-    }
-
-    fn on_slot(self) -> Stepped
-        requires { ⌜ good self ≡ true ⌝ }
-        ensures { λ r. ⌜ outcome r ≡ onSlot self ⌝ }
-    {
-        self.latching().sending()
     }
 
     // Bytes that are left are dropped.
@@ -233,7 +226,8 @@ impl BallBox {
             Event::Motion(dx, dy) => self.on_motion(dx, dy).quietly(),
             Event::Buttons(n) => self.on_buttons(n).quietly(),
             Event::Host(byte) => self.on_host(byte),
-            Event::Slot => self.on_slot(),
+            Event::Latch => self.latching().quietly(),
+            Event::Send => self.sending(),
             Event::Period => self.on_period().quietly(),
         }
     }
@@ -246,7 +240,8 @@ impl BallBox {
             Event::Motion(_, _) => self.quietly(),
             Event::Buttons(_) => self.quietly(),
             Event::Host(_) => self.woken().quietly(),
-            Event::Slot => self.gives(SILENCE),
+            Event::Latch => self.quietly(),
+            Event::Send => self.gives(SILENCE),
             Event::Period => self.quietly(),
         }
     }

@@ -1,6 +1,6 @@
 // The good box, rule by rule.
 ghost use mathlib.Core.Path.{_≡_};
-ghost use Rattle.ballbox.specs.Good.{goodSettings, onPad, goodTrack, sentBelow, lengthKnown, fiveBegun, secondHeld, restZero, goodGoing, dormantRightly, statesSmall, unusedZero, goodMemory, remembersRightly, showsRightly, good};
+ghost use Rattle.ballbox.specs.Good.{goodSettings, onPad, goodTrack, sentBelow, lengthKnown, secondHeld, restZero, goodGoing, dormantRightly, statesSmall, unusedZero, goodMemory, remembersRightly, showsRightly, good};
 use crate::BallBox;
 use crate::FORMAT_U;
 use crate::Going;
@@ -57,13 +57,7 @@ impl Going {
         (self.length <= 3) | (self.length as usize == wire::size(letter))
     }
 
-    fn five_begun(self) -> bool
-        ensures { λ r. ⌜ r ≡ fiveBegun self ⌝ }
-    {
-        !(self.length == 5) | (1 <= self.sent)
-    }
-
-    // In U, bytes 4 and 5 are 0 until their slot.
+    // In U, bytes 4 and 5 are 0 until byte 4 is sent.
     fn second_held(self, letter: u8) -> bool
         ensures { λ r. ⌜ r ≡ secondHeld letter self ⌝ }
     {
@@ -85,11 +79,7 @@ impl Going {
     fn good(self, letter: u8) -> bool
         ensures { λ r. ⌜ r ≡ goodGoing letter self ⌝ }
     {
-        self.sent_below()
-            & self.length_known(letter)
-            & self.five_begun()
-            & self.second_held(letter)
-            & self.rest_zero()
+        self.sent_below() & self.length_known(letter) & self.second_held(letter) & self.rest_zero()
     }
 }
 

@@ -89,13 +89,15 @@ pub struct BallBox {
     pub dormant: bool,
 }
 
-// "Events: Motion(dx, dy), 16-bit signed; Buttons(n); Host(byte); Slot (time for one character); Period (the report interval is over)."
+// "Events: Motion(dx, dy), 16-bit signed; Buttons(n); Host(byte); [..] Period (the report interval is over)." and, for "Slot (time for one
+// character)", "Latch, which does the latching when nothing is going and sends no word, and Send, which sends the next byte".
 // Buttons are 4L+2M+R.
 pub enum Event {
     Motion(i16, i16),
     Buttons(u8),
     Host(u8),
-    Slot,
+    Latch,
+    Send,
     Period,
 }
 
@@ -135,7 +137,8 @@ impl Event {
             Event::Motion(_, _) => false,
             Event::Buttons(n) => MOST_BUTTONS < n,
             Event::Host(_) => false,
-            Event::Slot => false,
+            Event::Latch => false,
+            Event::Send => false,
             Event::Period => false,
         }
     }

@@ -18,8 +18,8 @@ use Rattle.ballbox.specs.Promises.{stepOf}
 use Rattle.history.specs.Runs.{sentAs, answerTo, answersTo}
 use Rattle.history.specs.History.{toldBy}
 use Rattle.history.specs.Asked.{allHosts}
-use Rattle.history.specs.Presses.{changesIn, statesOver, neverNinth, slotsIn, boxAfter, lastBox}
+use Rattle.history.specs.Presses.{changesIn, statesOver, neverNinth, slotsFrom, boxAfter, lastBox}
 
 unfoldable pub computing : Unit {0}
-unfolding reader.computing ones onesIn held heldSum withParity digit undigit rowsV bytesV rowsA bytesB rowsW bytesW bytesBy readW freshBox goingFrom counted placedAt placed movedBy apart hasMoved limits limited movement taken cleared latchedReport latched withSecond secondLatched commandOf codeByte obeyed onButtons latching withByteReady after memoryAfter nextByte sending dropped onHost awake good goodSettings goodTrack goodGoing goodMemory remembered remembering toShow showingFirst shown hidden stepOf passagesOver goingOver sentAs answerTo answersTo toldBy allHosts changesIn statesOver neverNinth slotsIn boxAfter lastBox
+unfolding reader.computing ones onesIn held heldSum withParity digit undigit rowsV bytesV rowsA bytesB rowsW bytesW bytesBy readW freshBox goingFrom counted placedAt placed movedBy apart hasMoved limits limited movement taken cleared latchedReport latched withSecond secondLatched commandOf codeByte obeyed onButtons latching withByteReady after memoryAfter nextByte sending dropped onHost awake good goodSettings goodTrack goodGoing goodMemory remembered remembering toShow showingFirst shown hidden stepOf passagesOver goingOver sentAs answerTo answersTo toldBy allHosts changesIn statesOver neverNinth slotsFrom boxAfter lastBox
 computing = tt

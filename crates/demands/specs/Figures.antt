@@ -26,7 +26,7 @@ use Rattle.ballbox.specs.Commands.{letterf, lettert}
 use Rattle.ballbox.specs.Good.{good}
 use Rattle.ballbox.specs.Promises.{sentWords, FreshPromise, StepPromise}
 use Rattle.ballbox.specs.declared.BallBox.{BallBox}
-use Rattle.ballbox.specs.declared.Event.the-variants.{Host, Slot}
+use Rattle.ballbox.specs.declared.Event.the-variants.{Host, Send}
 use Rattle.ballbox.specs.declared.Stepped.{Stepped}
 use Rattle.ballbox.proofs.Goodness.{step-stays-good}
 use Rattle.ballbox.proofs.Obeying.{reply-to-f, awake-after-f}
@@ -43,12 +43,12 @@ pub record Figures : Type 0 where
       → b .dormant ≡ false
       → b .settings .format ≡ letterOf Mm
       → StepPromise b (Host letterf) r
-      → StepPromise (r .next) Slot s
+      → StepPromise (r .next) Send s
       → sentWords (s .sent) ≡ 0x1A ∷ []
   -- p2 `t` when fresh: 55 4F
   pub p2 : (b : BallBox) (run : List Stepped)
       → FreshPromise b
-      → RunPromise b (Host lettert ∷ Slot ∷ Slot ∷ []) run
+      → RunPromise b (Host lettert ∷ Send ∷ Send ∷ []) run
       → wordsGiven run ≡ 0x55 ∷ 0x4F ∷ []
   -- p3 W 36 33 45 35 32: L and M, -29, 37 (000)
   pub p3 : Reads Hexadecimal (0x36 ∷ 0x33 ∷ 0x45 ∷ 0x35 ∷ 0x32 ∷ []) (report 6 (minus 29) (pos 37))
@@ -89,7 +89,7 @@ unfolding computing
 figures =
     record {
       p1 = λ b r s g d f p q. first-sent (r .next) s 0x1A [] (step-stays-good b (Host letterf) r p g) (awake-after-f b r g d p) (reply-to-f b r g d Mm f p) q;
-      p2 = λ b run f p. run-passages b (Host lettert ∷ Slot ∷ Slot ∷ []) run (ap good f) (rw f) p ∙ rw f;
+      p2 = λ b run f p. run-passages b (Host lettert ∷ Send ∷ Send ∷ []) run (ap good f) (rw f) p ∙ rw f;
       p3 = reads refl;
       p3-encoded = encodes refl refl;
       p4 = encodes refl refl;

@@ -1,5 +1,5 @@
 -- The user's demands (Demand1, Demand2, Demand3, and runs of the box worked out in Worked), the eighth bit of a Microsoft byte (EighthBit),
--- presses that outlive a busy line (Presses, worked out in Taps),
+-- presses that outlive a busy line (Presses, worked out in Taps), latch and send apart (LatchAndSend),
 -- the paper's figures (Figures, in the words of Said) and the useless programs that are shut out (Strength), as theorems over what the other crates promise; and what examples compute with (Computing).
 pub mod Demand1
 pub mod Demand2
@@ -9,6 +9,7 @@ pub mod Presses
 pub mod Computing
 pub mod Worked
 pub mod Taps
+pub mod LatchAndSend
 pub mod Said
 pub mod Figures
 pub mod Strength

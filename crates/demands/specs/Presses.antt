@@ -1,6 +1,6 @@
 -- Presses that outlive a busy line: "In stream modes the box shall remember button states in order, up to eight, each shown by a report of its own."
 -- Over the public step, for every good box that is awake in a stream mode and has no report going, whatever it remembers, and every list of events:
--- motion, periods, buttons, slots, and any byte of the host's but D, P, `d` and the formats.
+-- motion, periods, buttons, Latch and Send in any order, and any byte of the host's but D, P, `d` and the formats.
 use Prim.Native.Nat.{ℕ, suc, _*_, _≤_}
 use mathlib.Core.Path.{_≡_, refl, sym, _∙_, ap}
 use mathlib.Core.Bool.{true, false}
@@ -80,15 +80,15 @@ module _ {b : BallBox} {going : UnderWay Message} {events : List Event} {answers
   pub shown-again : ShownAgain sent (goingAfter b going events)
   shown-again = again.shown-again b going events streams (run .keeps)
 
-  -- Within so many slots, on a busy line: with k remembered, whatever else happens in between but a byte of the host's, after (k + 1) reports' worth of
-  -- slots those k have been shown
+  -- Within so many slots, each a Send with a Latch since the Send before: with k remembered, whatever else happens in between but a byte of the host's,
+  -- after (k + 1) reports' worth of slots those k have been shown
   pub within-slots : noHost events ≡ true
       → suc (length (remembered (b .memory))) * sizeBy (b .settings .format) ≤ slotsIn events
       → AllShown b events shown last
   within-slots quiet slots =
       let k = length (remembered (b .memory)) in
       let enough = within.enough-slots b going k streams in
-      let most : k ≤ length shown = within.shown-within b going events quiet k streams (omega arith) (omega arith) in
+      let most : k ≤ length shown = within.shown-within b going false events quiet k streams tt (omega arith) (omega arith) in
       record {
         all = most;
         first-seven = λ j few l.

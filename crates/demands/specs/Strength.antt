@@ -31,7 +31,7 @@ use Rattle.ballbox.specs.Good as boxes
 use Rattle.ballbox.specs.Promises as box
 use Rattle.ballbox.specs.declared.BallBox.{BallBox}
 use Rattle.ballbox.specs.declared.Event.{Event}
-use Rattle.ballbox.specs.declared.Event.the-variants.{Slot}
+use Rattle.ballbox.specs.declared.Event.the-variants.{Send}
 use Rattle.ballbox.specs.declared.Stepped.{Stepped}
 use Rattle.ballbox.proofs.Useless.{not-only-silence}
 use Rattle.demands.specs.Figures.{figures}
@@ -129,10 +129,10 @@ no-refusing-reader p k n =
     let z : _≡_ {A = ℕ} 0 1 = cc in
     omega arith
 
--- "a box that sends only silence (2, Slot)": one by which every good box that is asked by Slot sends 257
+-- "a box that sends only silence (2, Slot)": one by which every good box that is asked by Send sends 257
 pub no-silent-box : (step : BallBox → Event → Stepped)
     → ((b : BallBox) (e : Event) → box.StepPromise b e (step b e))
-    → ((b : BallBox) → boxes.good b ≡ true → box.sentWords (step b Slot .sent) ≡ silence ∷ [])
+    → ((b : BallBox) → boxes.good b ≡ true → box.sentWords (step b Send .sent) ≡ silence ∷ [])
     → ⊥
 no-silent-box = not-only-silence
 

@@ -24,16 +24,17 @@ use Rattle.ballbox.specs.Events.{quietly}
 use Rattle.ballbox.specs.Promises.{stepOf}
 use Rattle.ballbox.specs.declared.BallBox.{BallBox}
 use Rattle.ballbox.specs.declared.Event.{Event}
-use Rattle.ballbox.specs.declared.Event.the-variants.{Motion, Buttons, Host, Slot, Period}
+use Rattle.ballbox.specs.declared.Event.the-variants.{Motion, Buttons, Host, Latch, Send, Period}
 use Rattle.history.specs.Runs.{wordsGiven, answersTo}
 use Rattle.history.specs.History.{nextBox, passagesOf}
 use Rattle.history.specs.Presses.{boxAfter, shownBy, nothing-going}
 use Rattle.history.proofs.Permitted.{answers-permitted}
 use Rattle.demands.specs.Computing.{computing}
+use Rattle.demands.specs.Worked.{slots}
 use Rattle.demands.specs.Presses.{Streaming, seen-marked, seen-without-host}
 
 -- a fresh box that is set to f by its letter: it is in the stream mode O
-abbrev boxIn : Format → BallBox
+abbrev pub boxIn : Format → BallBox
 boxIn f = nextBox freshBox (Host (letterOf f))
 
 -- over the events it sends these words, which are these passages, and then remembers these states
@@ -43,15 +44,12 @@ pub record Sends (f : Format) (events : List Event) (words : List ℕ) (passages
   pub after : remembered (boxAfter (boxIn f) events .memory) ≡ states
 
 -- a movement, and a report of it with these buttons
-abbrev moved : ℕ → ℕ → Report
+abbrev pub moved : ℕ → ℕ → Report
 moved buttons x = report buttons (pos x) (pos 0)
 
 -- S: a long move. The middle button is pressed and released between the bytes of its first report.
 abbrev tapS : List Event
-tapS =
-    Motion (pos 5) (pos 0) ∷ Slot ∷ Buttons 2 ∷ Slot ∷ Buttons 0 ∷ Slot
-    ∷ Motion (pos 7) (pos 0) ∷ Slot ∷ Slot ∷ Slot
-    ∷ Slot ∷ Slot ∷ Slot ∷ []
+tapS = Motion (pos 5) (pos 0) ∷ slots 1 (Buttons 2 ∷ slots 1 (Buttons 0 ∷ slots 1 (Motion (pos 7) (pos 0) ∷ slots 6 [])))
 
 pub tap-in-S : Sends Mm tapS
     (0x98 ∷ 0x05 ∷ 0x00 ∷ 0x9A ∷ 0x07 ∷ 0x00 ∷ 0x98 ∷ 0x00 ∷ 0x00 ∷ [])
@@ -70,10 +68,7 @@ tap-seen-in-S =
 
 -- U: the same
 abbrev tapU : List Event
-tapU =
-    Motion (pos 5) (pos 0) ∷ Slot ∷ Buttons 2 ∷ Slot ∷ Buttons 0 ∷ Slot ∷ Slot ∷ Slot
-    ∷ Motion (pos 7) (pos 0) ∷ Slot ∷ Slot ∷ Slot ∷ Slot ∷ Slot
-    ∷ Slot ∷ Slot ∷ Slot ∷ Slot ∷ Slot ∷ []
+tapU = Motion (pos 5) (pos 0) ∷ slots 1 (Buttons 2 ∷ slots 1 (Buttons 0 ∷ slots 3 (Motion (pos 7) (pos 0) ∷ slots 10 [])))
 
 pub tap-in-U : Sends FiveByte tapU
     (0x87 ∷ 0x05 ∷ 0x00 ∷ 0x00 ∷ 0x00 ∷ 0x85 ∷ 0x07 ∷ 0x00 ∷ 0x00 ∷ 0x00 ∷ 0x87 ∷ 0x00 ∷ 0x00 ∷ 0x00 ∷ 0x00 ∷ [])
@@ -99,7 +94,8 @@ abbrev baseStep : BallBox → Event → Step
 baseStep b (Motion dx dy) = stepOf b (Motion dx dy)
 baseStep b (Buttons n) = quietly (baseButtons n b)
 baseStep b (Host byte) = stepOf b (Host byte)
-baseStep b Slot = stepOf b Slot
+baseStep b Latch = stepOf b Latch
+baseStep b Send = stepOf b Send
 baseStep b Period = stepOf b Period
 
 abbrev baseWords : BallBox → List Event → List ℕ
@@ -115,11 +111,8 @@ base-loses-it = (refl, refl)
 -- nine changes within one report: the ninth, 5, is shown in place of the eighth, 6
 abbrev nine : List Event
 nine =
-    Motion (pos 5) (pos 0) ∷ Slot
-    ∷ Buttons 1 ∷ Buttons 2 ∷ Buttons 3 ∷ Buttons 4 ∷ Buttons 5 ∷ Buttons 6 ∷ Buttons 7 ∷ Buttons 6 ∷ Buttons 5
-    ∷ Slot ∷ Slot
-    ∷ Slot ∷ Slot ∷ Slot ∷ Slot ∷ Slot ∷ Slot ∷ Slot ∷ Slot ∷ Slot ∷ Slot ∷ Slot ∷ Slot
-    ∷ Slot ∷ Slot ∷ Slot ∷ Slot ∷ Slot ∷ Slot ∷ Slot ∷ Slot ∷ Slot ∷ Slot ∷ Slot ∷ Slot ∷ Slot ∷ []
+    Motion (pos 5) (pos 0)
+    ∷ slots 1 (Buttons 1 ∷ Buttons 2 ∷ Buttons 3 ∷ Buttons 4 ∷ Buttons 5 ∷ Buttons 6 ∷ Buttons 7 ∷ Buttons 6 ∷ Buttons 5 ∷ slots 27 [])
 
 pub nine-changes : (shownBy (passagesOf (boxIn Mm) nothing nine) ≡ 1 ∷ 2 ∷ 3 ∷ 4 ∷ 5 ∷ 6 ∷ 7 ∷ 5 ∷ [])
     × (remembered (boxAfter (boxIn Mm) nine .memory) ≡ [])
@@ -127,7 +120,7 @@ unfolding computing
 nine-changes = (refl, refl)
 
 -- a break by `f` in the middle of a report that shows a press: behind the reply another shows it
-pub broken-by-f : Sends Mm (Buttons 2 ∷ Slot ∷ Host letterf ∷ Slot ∷ Slot ∷ Slot ∷ Slot ∷ [])
+pub broken-by-f : Sends Mm (Buttons 2 ∷ slots 1 (Host letterf ∷ slots 4 []))
     (0x9A ∷ 256 ∷ 0x1A ∷ 0x9A ∷ 0x00 ∷ 0x00 ∷ [])
     (broken 1 (showingIn Mm (moved 2 0)) ∷ finished (reply (0x1A ∷ [])) ∷ finished (showingIn Mm (moved 2 0)) ∷ [])
     []
@@ -135,7 +128,7 @@ unfolding computing
 broken-by-f = record { line = refl; is = refl; after = refl }
 
 -- P in the middle empties the memory: its report shows the present buttons
-pub emptied-by-P : Sends Mm (Buttons 2 ∷ Slot ∷ Buttons 0 ∷ Host letterP ∷ Slot ∷ Slot ∷ Slot ∷ Slot ∷ [])
+pub emptied-by-P : Sends Mm (Buttons 2 ∷ slots 1 (Buttons 0 ∷ Host letterP ∷ slots 4 []))
     (0x9A ∷ 256 ∷ 0x98 ∷ 0x00 ∷ 0x00 ∷ 257 ∷ [])
     (broken 1 (showingIn Mm (moved 2 0)) ∷ finished (latchedIn Mm (moved 0 0)) ∷ silent ∷ [])
     []

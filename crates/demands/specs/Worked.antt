@@ -1,6 +1,6 @@
 -- Worked runs: demand 3 at small runs of the box, with the words, the passages and the answers computed. Runs that lack just one of its conditions,
 -- where the report is not handed out as sent, stand in crates/reader/proofs/DamagedRuns.antt.
-use Prim.Native.Nat.{ℕ}
+use Prim.Native.Nat.{ℕ, zero, suc}
 use mathlib.Core.Path.{_≡_, refl}
 use mathlib.Core.Bool.{true}
 use mathlib.Core.List.{List, [], _∷_}
@@ -18,12 +18,17 @@ use Rattle.reader.specs.DamagedLines.{HandsOut, HandsOutAt}
 use Rattle.ballbox.specs.Box.{freshBox}
 use Rattle.ballbox.specs.declared.Stepped.{Stepped}
 use Rattle.ballbox.specs.declared.Event.{Event}
-use Rattle.ballbox.specs.declared.Event.the-variants.{Motion, Buttons, Host, Slot}
+use Rattle.ballbox.specs.declared.Event.the-variants.{Motion, Buttons, Host, Latch, Send}
 use Rattle.history.specs.Runs.{wordsGiven, answerTo, answersTo}
 use Rattle.history.specs.Asked.{onlyAsks}
 use Rattle.history.proofs.Permitted.{answer-permitted, answers-permitted}
 use Rattle.demands.specs.Computing.{computing}
 use Rattle.demands.specs.Demand3.{Run, sent, stillGoing, from-then-on, marked, unmarked, exactly}
+
+-- time for so many characters, and then the others: each is latched for, and sent
+abbrev pub slots : ℕ → List Event → List Event
+slots zero events = events
+slots (suc n) events = Latch ∷ Send ∷ slots n events
 
 -- a fresh box that is set to f by its letter, and the answers of the rules
 abbrev setTo : Format → Stepped
@@ -49,9 +54,9 @@ run-of {f} {events} sends =
       permitted = answers-permitted (setTo f .next) events;
     }
 
--- S: a movement, a slot with nothing to send, and a press
+-- S: a movement, a character's time with nothing to send, and a press
 abbrev eventsS : List Event
-eventsS = Motion (pos 5) (minus 3) ∷ Slot ∷ Slot ∷ Slot ∷ Slot ∷ Buttons 4 ∷ Slot ∷ Slot ∷ Slot ∷ []
+eventsS = Motion (pos 5) (minus 3) ∷ slots 4 (Buttons 4 ∷ slots 3 [])
 
 abbrev moved : Report
 moved = report 0 (pos 5) (minus 3)
@@ -65,13 +70,10 @@ pub in-S : Sends Mm eventsS
 unfolding computing
 in-S = record { asked = refl; line = refl; is = refl; ends = refl }
 
--- U, the user's disaster: a fast move to the left, a slot with nothing to send, and a press of the left button; 85, which would be a header with the
+-- U, the user's disaster: a fast move to the left, a character's time with nothing to send, and a press of the left button; 85, which would be a header with the
 -- middle button down, stands twice in the first report
 abbrev eventsU : List Event
-eventsU =
-    Motion (minus 123) (pos 0) ∷ Slot ∷ Slot ∷ Slot
-    ∷ Motion (minus 123) (pos 0) ∷ Slot ∷ Slot ∷ Slot
-    ∷ Buttons 4 ∷ Slot ∷ Slot ∷ Slot ∷ Slot ∷ Slot ∷ []
+eventsU = Motion (minus 123) (pos 0) ∷ slots 3 (Motion (minus 123) (pos 0) ∷ slots 3 (Buttons 4 ∷ slots 5 []))
 
 abbrev fast : Report
 fast = record { buttons = 0; x1 = minus 123; y1 = pos 0; x2 = minus 123; y2 = pos 0 }

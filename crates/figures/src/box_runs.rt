@@ -6,13 +6,13 @@ use crate::steps::slots;
 use ballbox::BallBox;
 use ballbox::Event;
 
-// "T, Motion(200, 0), Period, Slot: x 127, counter 0": the slots that follow send x and y, and then silence.
+// "T, Motion(200, 0), Period, Slot: x 127, counter 0", with Latch and Send for Slot: what follows sends x and y, and then silence.
 fn held_movement() {
     print::say(b"T");
     let b = after(BallBox::fresh(), Event::Host(b'T'));
     let b = after(b, Event::Motion(200, 0));
     let b = after(b, Event::Period);
-    let b = after(b, Event::Slot);
+    let b = slots(b, 1);
     let going = b.going;
     let bytes = going.bytes;
     print::say(b", x ");
@@ -39,7 +39,7 @@ fn broken_off() {
     let b = after(BallBox::fresh(), Event::Host(b'S'));
     let b = after(b, Event::Buttons(4));
     let b = after(b, Event::Motion(5, -3));
-    let b = after(b, Event::Slot);
+    let b = slots(b, 1);
     let b = after(b, Event::Host(b'R'));
     slots(b, 4);
     print::say(b"\n");

@@ -33,8 +33,11 @@ fn event(e: Event) {
             print::say(b", Host ");
             host(byte);
         }
-        Event::Slot => {
-            print::say(b", Slot");
+        Event::Latch => {
+            print::say(b", Latch");
+        }
+        Event::Send => {
+            print::say(b", Send");
         }
         Event::Period => {
             print::say(b", Period");
@@ -111,12 +114,13 @@ pub(crate) fn on(run: Run, e: Event) -> Run {
     r
 }
 
-// The run after so many slots.
+// The run after time for so many characters: each is latched for, and sent.
 pub(crate) fn on_slots(run: Run, count: u8) -> Run {
     let mut next = run;
     let mut left = count;
     while left > 0 {
-        next = on(next, Event::Slot);
+        next = on(next, Event::Latch);
+        next = on(next, Event::Send);
         left -= 1;
     }
     next
@@ -128,7 +132,7 @@ pub(crate) fn after(b: BallBox, e: Event) -> BallBox {
     run.ball
 }
 
-// The box after so many slots.
+// The box after time for so many characters.
 pub(crate) fn slots(b: BallBox, count: u8) -> BallBox {
     let run = on_slots(started(b), count);
     run.ball

@@ -19,13 +19,12 @@ use Rattle.ballbox.specs.Events.{wanted}
 use Rattle.ballbox.specs.Good.{good}
 use Rattle.ballbox.specs.declared.BallBox.{BallBox}
 use Rattle.ballbox.specs.declared.Event.{Event}
-use Rattle.ballbox.specs.declared.Event.the-variants.{Motion, Buttons, Host, Slot, Period}
+use Rattle.ballbox.specs.declared.Event.the-variants.{Motion, Buttons, Host, Latch, Send, Period}
 use Rattle.ballbox.proofs.Remembering.{remembered-length}
 use Rattle.ballbox.proofs.Parts.{parts}
 use Rattle.history.specs.History.{latchedNow, begun, pairedAt, paired, isFive, replying, toldBy, nextBox, passagesOf, goingAfter}
 use Rattle.history.specs.Asked.{hostsPass, allHosts}
 use Rattle.history.specs.Presses.{empties, noneEmpties, noHost, changeTo, noting, shownBy, Shows, ShowsIn, NextShows, ShownAgain}
-use Rattle.history.proofs.Slots.{not-yet}
 use Rattle.history.proofs.Bridge.{told-is}
 use Rattle.history.proofs.Showing.{first-shown}
 use Rattle.history.proofs.Presses.{Streams, Step, streams-step, first-noted, Quiet, motion, buttons, period, quiet-told}
@@ -82,23 +81,23 @@ host-decides state b byte (first n (reply bytes)) h s =
     let f = still-first state b (Host byte) (first n (reply bytes)) h s (rw d refl) (rw d (reply-shows state (replyTo b (commandOf byte)))) in
     rw d (left-over (rw d at f) (λ rest end k. k))
 
--- a slot sends one byte more of this, which shows the state if it is a report
-slot-sends : (state : ℕ) (b : BallBox) (g : UnderWay Message) (n : ℕ) (m : Message) → First state b g → Step b Slot g → toldBy b Slot g ≡ sentOne messageBytes (first n m) → ShowsIn state m
-    → Decides state (toldBy b Slot g .passages) (nextBox b Slot) (toldBy b Slot g .going)
-slot-sends state b g n m h s d k = go m (eqb (n + 1) (length (messageBytes m))) d k refl
+-- one byte more of this goes out, which shows the state if it is a report
+byte-decides : (state : ℕ) (b : BallBox) (g : UnderWay Message) (n : ℕ) (m : Message) → First state b g → Step b Send g → toldBy b Send g ≡ sentOne messageBytes (first n m) → ShowsIn state m
+    → Decides state (toldBy b Send g .passages) (nextBox b Send) (toldBy b Send g .going)
+byte-decides state b g n m h s d k = go m (eqb (n + 1) (length (messageBytes m))) d k refl
   where
-    go : (m : Message) (t : Bool) → toldBy b Slot g ≡ sentOne messageBytes (first n m) → ShowsIn state m → eqb (n + 1) (length (messageBytes m)) ≡ t
-        → Decides state (toldBy b Slot g .passages) (nextBox b Slot) (toldBy b Slot g .going)
+    go : (m : Message) (t : Bool) → toldBy b Send g ≡ sentOne messageBytes (first n m) → ShowsIn state m → eqb (n + 1) (length (messageBytes m)) ≡ t
+        → Decides state (toldBy b Send g .passages) (nextBox b Send) (toldBy b Send g .going)
     go (report l) true d k e =
-        let is : toldBy b Slot g ≡ told (finished (report l) ∷ []) nothing = d ∙ rw e in
+        let is : toldBy b Send g ≡ told (finished (report l) ∷ []) nothing = d ∙ rw e in
         rw is (decided (λ rest end. k))
     go (reply bytes) true d k e =
-        let is : toldBy b Slot g ≡ told (finished (reply bytes) ∷ []) nothing = d ∙ rw e in
-        let f = still-first state b Slot g h s (rw is refl) (rw is tt) in
+        let is : toldBy b Send g ≡ told (finished (reply bytes) ∷ []) nothing = d ∙ rw e in
+        let f = still-first state b Send g h s (rw is refl) (rw is tt) in
         rw is (left-over (rw is at f) (λ rest end j. j))
     go m false d k e =
-        let is : toldBy b Slot g ≡ told [] (first (n + 1) m) = d ∙ rw e in
-        let f = still-first state b Slot g h s (rw is refl) (rw is k) in
+        let is : toldBy b Send g ≡ told [] (first (n + 1) m) = d ∙ rw e in
+        let f = still-first state b Send g h s (rw is refl) (rw is k) in
         rw is (left-over (rw is at f) (λ rest end j. j))
 
 -- a report that is latched now shows it
@@ -119,27 +118,31 @@ pair-shows state b n (report l) k = go (isFive (l .format) && eqb n 3) refl
     go false e = rw e k
 pair-shows state b n (reply bytes) k = tt
 
-slot-decides : (state : ℕ) (b : BallBox) (g : UnderWay Message) → First state b g → Step b Slot g → Decides state (toldBy b Slot g .passages) (nextBox b Slot) (toldBy b Slot g .going)
-slot-decides state b (first n m) h s =
-    slot-sends state b (first n m) n (pairedAt b n m) h s (told-is b Slot (first n m) false refl (h .streams .awake)) (pair-shows state b n m (h .shows))
-slot-decides state b nothing h s = go (wanted b) refl
-  where
-    is : toldBy b Slot nothing ≡ sentOne messageBytes (paired b (begun b nothing))
-    is = told-is b Slot nothing false refl (h .streams .awake)
+send-decides : (state : ℕ) (b : BallBox) (g : UnderWay Message) → First state b g → Step b Send g → Decides state (toldBy b Send g .passages) (nextBox b Send) (toldBy b Send g .going)
+send-decides state b (first n m) h s =
+    byte-decides state b (first n m) n (pairedAt b n m) h s (told-is b Send (first n m) false refl (h .streams .awake)) (pair-shows state b n m (h .shows))
+send-decides state b nothing h s =
+    let d : toldBy b Send nothing ≡ told (silent ∷ []) nothing = told-is b Send nothing false refl (h .streams .awake) in
+    let f = still-first state b Send nothing h s (rw d refl) (rw d tt) in
+    rw d (left-over (rw d at f) (λ rest end j. j))
 
-    go : (t : Bool) → wanted b ≡ t → Decides state (toldBy b Slot nothing .passages) (nextBox b Slot) (toldBy b Slot nothing .going)
-    go true e = slot-sends state b nothing 0 (report (latchedNow b)) h s (is ∙ rw (e, not-yet b (latchedNow b))) (latched-shows state b nothing h)
-    go false e =
-        let d : toldBy b Slot nothing ≡ told (silent ∷ []) nothing = is ∙ rw e in
-        let f = still-first state b Slot nothing h s (rw d refl) (rw d tt) in
-        rw d (left-over (rw d at f) (λ rest end j. j))
+begun-shows : (state : ℕ) (b : BallBox) (g : UnderWay Message) → First state b g → NextShows state [] (begun b g)
+begun-shows state b (first n m) h = h .shows
+begun-shows state b nothing h = cases (NextShows state []) (wanted b) (λ e. latched-shows state b nothing h) (λ e. tt)
+
+latch-decides : (state : ℕ) (b : BallBox) (g : UnderWay Message) → First state b g → Step b Latch g → Decides state (toldBy b Latch g .passages) (nextBox b Latch) (toldBy b Latch g .going)
+latch-decides state b g h s =
+    let d = told-is b Latch g false refl (h .streams .awake) in
+    let f = still-first state b Latch g h s (rw d refl) (rw d (begun-shows state b g h)) in
+    rw d (left-over (rw d at f) (λ rest end k. k))
 
 step-decides : (state : ℕ) (b : BallBox) (e : Event) (g : UnderWay Message) → First state b g → hostsPass (λ byte. not (empties byte)) e ≡ true
     → Decides state (toldBy b e g .passages) (nextBox b e) (toldBy b e g .going)
 step-decides state b (Motion dx dy) g h a = quiet-decides state b (Motion dx dy) g h motion (streams-step b (Motion dx dy) g (h .streams) a)
 step-decides state b (Buttons n) g h a = quiet-decides state b (Buttons n) g h buttons (streams-step b (Buttons n) g (h .streams) a)
 step-decides state b (Host byte) g h a = host-decides state b byte g h (streams-step b (Host byte) g (h .streams) a)
-step-decides state b Slot g h a = slot-decides state b g h (streams-step b Slot g (h .streams) a)
+step-decides state b Latch g h a = latch-decides state b g h (streams-step b Latch g (h .streams) a)
+step-decides state b Send g h a = send-decides state b g h (streams-step b Send g (h .streams) a)
 step-decides state b Period g h a = quiet-decides state b Period g h period (streams-step b Period g (h .streams) a)
 
 -- so that the next report shows it
@@ -170,8 +173,11 @@ sent-unbroken (first n m) = cases (λ (t : Told Message). Unbroken (t .passages)
 quiet-unbroken : (b : BallBox) (e : Event) (g : UnderWay Message) → b .dormant ≡ false → Quiet e → Unbroken (toldBy b e g .passages)
 quiet-unbroken b e g d q = rw (quiet-told b e g d q) tt
 
-slot-unbroken : (b : BallBox) (g : UnderWay Message) → b .dormant ≡ false → Unbroken (toldBy b Slot g .passages)
-slot-unbroken b g d = rw (told-is b Slot g false refl d) (sent-unbroken (paired b (begun b g)))
+latch-unbroken : (b : BallBox) (g : UnderWay Message) → b .dormant ≡ false → Unbroken (toldBy b Latch g .passages)
+latch-unbroken b g d = rw (told-is b Latch g false refl d) tt
+
+send-unbroken : (b : BallBox) (g : UnderWay Message) → b .dormant ≡ false → Unbroken (toldBy b Send g .passages)
+send-unbroken b g d = rw (told-is b Send g false refl d) (sent-unbroken (paired b g))
 
 -- a report that a byte of the host's broke off, and what comes behind it
 host-again : (b : BallBox) (byte : ℕ) (g : UnderWay Message) (events : List Event) → Streams b g → Step b (Host byte) g → noneEmpties events ≡ true
@@ -212,9 +218,12 @@ shown-again b g (Host byte ∷ events) h a =
     let s = streams-step b (Host byte) g h (left (not (empties byte)) (noneEmpties events) a) in
     let more = right (not (empties byte)) (noneEmpties events) a in
     host-again b byte g events h s more (shown-again _ _ events (s .next) more)
-shown-again b g (Slot ∷ events) h a =
-    let s = streams-step b Slot g h refl in
-    again-behind (toldBy b Slot g .passages) _ _ (slot-unbroken b g (h .awake)) (shown-again _ _ events (s .next) a)
+shown-again b g (Latch ∷ events) h a =
+    let s = streams-step b Latch g h refl in
+    again-behind (toldBy b Latch g .passages) _ _ (latch-unbroken b g (h .awake)) (shown-again _ _ events (s .next) a)
+shown-again b g (Send ∷ events) h a =
+    let s = streams-step b Send g h refl in
+    again-behind (toldBy b Send g .passages) _ _ (send-unbroken b g (h .awake)) (shown-again _ _ events (s .next) a)
 shown-again b g (Period ∷ events) h a =
     let s = streams-step b Period g h refl in
     again-behind (toldBy b Period g .passages) _ _ (quiet-unbroken b Period g (h .awake) period) (shown-again _ _ events (s .next) a)
@@ -236,7 +245,9 @@ no-host-unbroken b g (Buttons n ∷ events) h a =
     unbroken-append (toldBy b (Buttons n) g .passages) _ (quiet-unbroken b (Buttons n) g (h .awake) buttons)
     (no-host-unbroken _ _ events (streams-step b (Buttons n) g h refl .next) a)
 no-host-unbroken b g (Host byte ∷ events) h a = absurd (holds a)
-no-host-unbroken b g (Slot ∷ events) h a =
-    unbroken-append (toldBy b Slot g .passages) _ (slot-unbroken b g (h .awake)) (no-host-unbroken _ _ events (streams-step b Slot g h refl .next) a)
+no-host-unbroken b g (Latch ∷ events) h a =
+    unbroken-append (toldBy b Latch g .passages) _ (latch-unbroken b g (h .awake)) (no-host-unbroken _ _ events (streams-step b Latch g h refl .next) a)
+no-host-unbroken b g (Send ∷ events) h a =
+    unbroken-append (toldBy b Send g .passages) _ (send-unbroken b g (h .awake)) (no-host-unbroken _ _ events (streams-step b Send g h refl .next) a)
 no-host-unbroken b g (Period ∷ events) h a =
     unbroken-append (toldBy b Period g .passages) _ (quiet-unbroken b Period g (h .awake) period) (no-host-unbroken _ _ events (streams-step b Period g h refl .next) a)

@@ -28,14 +28,14 @@ use Rattle.ballbox.specs.declared.BallBox.{BallBox}
 use Rattle.ballbox.specs.declared.Command.{Command}
 use Rattle.ballbox.specs.declared.Command.the-variants.{SetFormat, SetStream, SetPrompt, AskReport, AskAck, AskCode, AskLetters, AskButtons, Sleep, Ignored}
 use Rattle.ballbox.specs.declared.Event.{Event}
-use Rattle.ballbox.specs.declared.Event.the-variants.{Motion, Buttons, Host, Slot, Period}
+use Rattle.ballbox.specs.declared.Event.the-variants.{Motion, Buttons, Host, Latch, Send, Period}
 use Rattle.ballbox.proofs.Goodness.{stepped-good}
 use Rattle.ballbox.proofs.Refusals.{ruled}
 use Rattle.ballbox.proofs.Obeying.{dropped-settings, dropped-awake}
-use Rattle.history.specs.History.{formatOf, latchedNow, begun, pairedAt, paired, isFive, whenAwake, toldBy, nextBox, passagesOf, goingAfter}
+use Rattle.history.specs.History.{formatOf, begun, pairedAt, paired, isFive, whenAwake, toldBy, nextBox, passagesOf, goingAfter}
 use Rattle.history.specs.Asked.{allHosts, asks, onlyAsks}
 use Rattle.history.proofs.Carries.{Alike, Carries}
-use Rattle.history.proofs.Slots.{latched-carries, not-yet, five-is, pair-accepted, pairs}
+use Rattle.history.proofs.Sending.{latched-carries, five-is, pair-accepted, pairs}
 use Rattle.history.proofs.Bridge.{step-sends, told-is, buttons-line}
 
 -- the box is set to f, good and awake, and this, which is sound, is going
@@ -49,7 +49,7 @@ pub record SetTo (f : Format) (b : BallBox) (g : UnderWay Message) : Type 0 wher
 same-format : (b : BallBox) (f : Format) → b .settings .format ≡ letterOf f → formatOf b ≡ f
 same-format b f e = rw (e, letter-named f)
 
--- what is ready to be sent at a slot is sound
+-- what is ready to be sent is sound, and so is what is latched
 pair-held : (f : Format) (b : BallBox) (n : ℕ) (l : Latched) → b .settings .format ≡ letterOf f → HeldBy f (report l) → HeldBy f (pairedAt b n (report l))
 pair-held f b n l s h = go (isFive (l .format) && eqb n 3) refl
   where
@@ -59,15 +59,15 @@ pair-held f b n l s h = go (isFive (l .format) && eqb n 3) refl
         rw e (h .0, rw (s, u) (pair-accepted (b .track) (l .report) (rw u at (h .1))))
     go false e = rw e h
 
-sound-ready : (f : Format) (b : BallBox) (g : UnderWay Message) → SetTo f b g → SoundEnd f (paired b (begun b g))
-sound-ready f b nothing h = go (wanted b) refl
-  where
-    go : (t : Bool) → wanted b ≡ t → SoundEnd f (paired b (begun b nothing))
-    go true e =
-        let k = latched-carries b (h .good) (h .awake) .1 in
-        let s = same-format b f (h .format) in
-        rw (e, not-yet b (latchedNow b)) ((s, rw s at (k .sendable .1)), k .left)
-    go false e = rw e tt
+sound-latched : (f : Format) (b : BallBox) (g : UnderWay Message) → SetTo f b g → SoundEnd f (begun b g)
+sound-latched f b nothing h =
+    let k = latched-carries b (h .good) (h .awake) .1 in
+    let s = same-format b f (h .format) in
+    cases (SoundEnd f) (wanted b) (λ e. ((s, rw s at (k .sendable .1)), k .left)) (λ e. tt)
+sound-latched f b (first n m) h = h .sound
+
+sound-ready : (f : Format) (b : BallBox) (g : UnderWay Message) → SetTo f b g → SoundEnd f (paired b g)
+sound-ready f b nothing h = tt
 sound-ready f b (first n (report l)) h =
     let p = pairs b n (report l) (h .carries) .carries in
     (pair-held f b n l (h .format) (h .sound .0), p .1 .left)
@@ -93,7 +93,7 @@ alike-then p q = record { format = q .format ∙ p .format; dormant = q .dormant
 alike : (b : BallBox) → Alike b b
 alike b = record { format = refl; dormant = refl }
 
-latching-alike : (b : BallBox) → Alike b (latching b)
+pub latching-alike : (b : BallBox) → Alike b (latching b)
 unfolding latching latched
 latching-alike b = cases (Alike b) (not (bytesLeft b) && wanted b) (λ _. (record { format = refl; dormant = refl })) (λ _. alike b)
 
@@ -170,7 +170,8 @@ unfolding awake onPeriod onHost
 awake-alike b (Motion dx dy) a = record { format = refl; dormant = refl }
 awake-alike b (Buttons n) a = buttons-line n b .1
 awake-alike b (Host byte) a = alike-then (dropped-alike b) (asking-alike (dropped b) (commandOf byte) (asking-command byte a))
-awake-alike b Slot a = alike-then (latching-alike b) (sending-alike (latching b))
+awake-alike b Latch a = latching-alike b
+awake-alike b Send a = sending-alike b
 awake-alike b Period a = record { format = refl; dormant = refl }
 
 -- and ends sound passages only
@@ -178,7 +179,8 @@ awake-told : (f : Format) (b : BallBox) (e : Event) (g : UnderWay Message) → a
 awake-told f b (Motion dx dy) g a h = (tt, h .sound)
 awake-told f b (Buttons n) g a h = (tt, h .sound)
 awake-told f b (Host byte) g a h = (sound-broken f g (h .sound), rw (asking-reply b (commandOf byte) (asking-command byte a)) tt)
-awake-told f b Slot g a h = sound-sent f (paired b (begun b g)) (sound-ready f b g h)
+awake-told f b Latch g a h = (tt, sound-latched f b g h)
+awake-told f b Send g a h = sound-sent f (paired b g) (sound-ready f b g h)
 awake-told f b Period g a h = (tt, h .sound)
 
 pub refused-next : (b : BallBox) (e : Event) → good b ≡ true → aboveSeven e ≡ true → stepOf b e .next ≡ b
@@ -234,5 +236,6 @@ hosts-by P Q by [] h = refl
 hosts-by P Q by (Motion dx dy ∷ events) h = hosts-by P Q by events h
 hosts-by P Q by (Buttons n ∷ events) h = hosts-by P Q by events h
 hosts-by P Q by (Host byte ∷ events) h = both (Q byte) (allHosts Q events) (by byte (left (P byte) (allHosts P events) h)) (hosts-by P Q by events (right (P byte) (allHosts P events) h))
-hosts-by P Q by (Slot ∷ events) h = hosts-by P Q by events h
+hosts-by P Q by (Latch ∷ events) h = hosts-by P Q by events h
+hosts-by P Q by (Send ∷ events) h = hosts-by P Q by events h
 hosts-by P Q by (Period ∷ events) h = hosts-by P Q by events h

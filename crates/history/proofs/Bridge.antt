@@ -18,13 +18,13 @@ use Rattle.ballbox.specs.Promises.{aboveSeven, stepOf}
 use Rattle.ballbox.specs.declared.BallBox.{BallBox}
 use Rattle.ballbox.specs.declared.Stepped.{Stepped}
 use Rattle.ballbox.specs.declared.Event.{Event}
-use Rattle.ballbox.specs.declared.Event.the-variants.{Motion, Buttons, Host, Slot, Period}
+use Rattle.ballbox.specs.declared.Event.the-variants.{Motion, Buttons, Host, Latch, Send, Period}
 use Rattle.ballbox.proofs.Goodness.{stepped-good}
 use Rattle.ballbox.proofs.Refusals.{ruled}
 use Rattle.history.specs.Runs.{RunPromise, wordsGiven}
 use Rattle.history.specs.History.{whenAwake, whenAsleep, toldBy, nextBox, passagesOf, goingAfter}
 use Rattle.history.proofs.Carries.{Alike, Carries, same-line, Sends}
-use Rattle.history.proofs.Slots.{slot-busy, slot-idle}
+use Rattle.history.proofs.Sending.{send-sends, latch-sends}
 use Rattle.history.proofs.Hosts.{host-busy, host-idle}
 
 -- a step without a word, which leaves the line, the format and the sleep as they are
@@ -44,17 +44,13 @@ unfolding awake
 awake-host b byte nothing d h = host-idle b byte d h
 awake-host b byte (first n m) d h = host-busy b byte n m d h
 
-awake-slot : (b : BallBox) (g : UnderWay Message) → good b ≡ true → b .dormant ≡ false → Carries b g → Sends (awake b Slot) g (whenAwake b Slot g)
-unfolding awake
-awake-slot b nothing k d h = slot-idle b k d h
-awake-slot b (first n m) k d h = slot-busy b n m h
-
 awake-sends : (b : BallBox) (e : Event) (g : UnderWay Message) → good b ≡ true → b .dormant ≡ false → Carries b g → Sends (awake b e) g (whenAwake b e g)
 unfolding awake onPeriod
 awake-sends b (Motion dx dy) g k d h = quiet b _ g refl (alike refl refl) h
 awake-sends b (Buttons n) g k d h = let l = buttons-line n b in quiet b (onButtons n b) g (l .0) (l .1) h
 awake-sends b (Host byte) g k d h = awake-host b byte g d h
-awake-sends b Slot g k d h = awake-slot b g k d h
+awake-sends b Latch g k d h = latch-sends b g k d h
+awake-sends b Send g k d h = send-sends b g h
 awake-sends b Period g k d h = quiet b _ g refl (alike refl refl) h
 
 -- a dormant box has nothing going
@@ -63,7 +59,8 @@ unfolding asleep woken goingFrom
 idle-asleep b (Motion dx dy) h = record { words = refl; carries = h }
 idle-asleep b (Buttons n) h = record { words = refl; carries = h }
 idle-asleep b (Host byte) h = record { words = refl; carries = (refl, record { left = lit< tt; sendable = lit≤ tt; awake = refl }) }
-idle-asleep b Slot h = record { words = refl; carries = h }
+idle-asleep b Latch h = record { words = refl; carries = h }
+idle-asleep b Send h = record { words = refl; carries = h }
 idle-asleep b Period h = record { words = refl; carries = h }
 
 asleep-sends : (b : BallBox) (e : Event) (g : UnderWay Message) → b .dormant ≡ true → Carries b g → Sends (asleep b e) g (whenAsleep b e g)

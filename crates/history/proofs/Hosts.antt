@@ -14,11 +14,11 @@ use Rattle.ballbox.specs.Events.{bytesLeft, dropped, onHost}
 use Rattle.ballbox.specs.declared.BallBox.{BallBox}
 use Rattle.ballbox.specs.declared.Command.{Command}
 use Rattle.ballbox.specs.declared.Command.the-variants.{SetFormat, SetStream, SetPrompt, AskReport, AskAck, AskCode, AskLetters, AskButtons, Sleep, Ignored}
-use Rattle.ballbox.proofs.Slots.{dropped-idle}
+use Rattle.ballbox.proofs.Cases.{dropped-idle}
 use Rattle.ballbox.proofs.Obeying.{dropped-settings, dropped-awake}
 use Rattle.history.specs.History.{replying}
 use Rattle.history.proofs.Carries.{Carries, Sends}
-use Rattle.history.proofs.Slots.{bytes-left}
+use Rattle.history.proofs.Sending.{bytes-left}
 
 -- a reply to be sent, of which nothing has gone
 reply-words : (bytes : List ℕ) → partWords messageBytes (replying bytes) ≡ []

@@ -5,12 +5,12 @@ use mathlib.Core.Bool.{not}
 use mathlib.Core.List.{List, [], _∷_}
 use Rattle.numbers.proofs.Choices.{cases}
 use Rattle.ballbox.specs.Box.{Step}
-use Rattle.ballbox.specs.Events.{bytesLeft, latching, nextByte, sending, onHost, awake, asleep}
+use Rattle.ballbox.specs.Events.{bytesLeft, nextByte, sending, onHost, awake, asleep}
 use Rattle.ballbox.specs.Good.{good}
 use Rattle.ballbox.specs.Promises.{sentWords, aboveSeven, stepOf, StepPromise}
 use Rattle.ballbox.specs.declared.BallBox.{BallBox}
 use Rattle.ballbox.specs.declared.Event.{Event}
-use Rattle.ballbox.specs.declared.Event.the-variants.{Motion, Buttons, Host, Slot, Period}
+use Rattle.ballbox.specs.declared.Event.the-variants.{Motion, Buttons, Host, Latch, Send, Period}
 use Rattle.history.specs.Runs.{RunPromise, sentAs, answerTo, answersTo}
 
 -- one word or none
@@ -22,7 +22,8 @@ unfolding OneWord sentAs awake onHost sending nextByte
 awake-one b (Motion dx dy) = refl
 awake-one b (Buttons n) = refl
 awake-one b (Host byte) = cases (λ (words : List ℕ). sentWords (sentAs words) ≡ words) (bytesLeft b) (λ e. refl) (λ e. refl)
-awake-one b Slot = cases OneWord (bytesLeft (latching b)) (λ e. refl) (λ e. refl)
+awake-one b Latch = refl
+awake-one b Send = cases OneWord (bytesLeft b) (λ e. refl) (λ e. refl)
 awake-one b Period = refl
 
 asleep-one : (b : BallBox) (e : Event) → OneWord (asleep b e)
@@ -30,7 +31,8 @@ unfolding OneWord sentAs asleep
 asleep-one b (Motion dx dy) = refl
 asleep-one b (Buttons n) = refl
 asleep-one b (Host byte) = refl
-asleep-one b Slot = refl
+asleep-one b Latch = refl
+asleep-one b Send = refl
 asleep-one b Period = refl
 
 step-gives-one : (b : BallBox) (e : Event) → OneWord (stepOf b e)

@@ -29,7 +29,7 @@ use Rattle.ballbox.specs.Promises.{aboveSeven, stepOf}
 use Rattle.ballbox.specs.declared.BallBox.{BallBox}
 use Rattle.ballbox.specs.declared.Settings.{Settings}
 use Rattle.ballbox.specs.declared.Event.{Event}
-use Rattle.ballbox.specs.declared.Event.the-variants.{Motion, Buttons, Host, Slot, Period}
+use Rattle.ballbox.specs.declared.Event.the-variants.{Motion, Buttons, Host, Latch, Send, Period}
 use Rattle.ballbox.specs.declared.Command.{Command}
 use Rattle.ballbox.specs.declared.Command.the-variants.{SetFormat, SetStream, SetPrompt, AskReport, AskAck, AskCode, AskLetters, AskButtons, Sleep, Ignored}
 use Rattle.ballbox.specs.declared.Stepped.{Stepped}
@@ -46,7 +46,7 @@ use Rattle.history.specs.Presses.{NoReport, nothing-going, a-reply, empt
 use Rattle.history.proofs.Carries.{Carries}
 use Rattle.history.proofs.Bridge.{step-sends, told-is}
 use Rattle.history.proofs.Asking.{refused-next, refused-told}
-use Rattle.history.proofs.Showing.{Showing, same-showing, Keeps, slot-keeps, buttons-keep, Kept, kept-command, host-keeps}
+use Rattle.history.proofs.Showing.{Showing, same-showing, Keeps, send-keeps, latch-keeps, buttons-keep, Kept, kept-command, host-keeps}
 
 -- a good box, awake in a stream mode, and what is going in it
 pub record Streams (b : BallBox) (g : UnderWay Message) : Type 0 where
@@ -104,7 +104,8 @@ unfolding awake onHost onPeriod
 awake-listens b (Motion dx dy) a h = record { awake = h .awake; stream = h .stream }
 awake-listens b (Buttons n) a h = buttons-listens n b h
 awake-listens b (Host byte) a h = obeyed-listens (commandOf byte) (dropped b) (kept-command byte (not-true (empties byte) a)) (dropped-listens b h)
-awake-listens b Slot a h = sending-listens (latching b) (latching-listens b h)
+awake-listens b Latch a h = latching-listens b h
+awake-listens b Send a h = sending-listens b h
 awake-listens b Period a h = record { awake = h .awake; stream = h .stream }
 
 -- one step: what is remembered and then the change is what finished reports showed and then what is remembered
@@ -114,14 +115,16 @@ unfolding awake onPeriod
 awake-keeps b (Motion dx dy) g h a s = record { showing = same-showing g b _ refl (h .showing); order = refl }
 awake-keeps b (Buttons n) g h a s = buttons-keep b n g (parts b (h .good) .memory) (h .stream) (ltb-false 7 n s) (h .showing)
 awake-keeps b (Host byte) g h a s = host-keeps b byte g (not-true (empties byte) a) (h .carries) (h .showing)
-awake-keeps b Slot g h a s = slot-keeps b g (h .good) (h .awake) (h .carries) (h .showing)
+awake-keeps b Latch g h a s = latch-keeps b g (parts b (h .good) .memory) (h .carries) (h .showing)
+awake-keeps b Send g h a s = send-keeps b g (parts b (h .good) .memory) (h .carries) (h .showing)
 awake-keeps b Period g h a s = record { showing = same-showing g b _ refl (h .showing); order = refl }
 
 no-change : (b : BallBox) (e : Event) → aboveSeven e ≡ true → changeTo b e ≡ []
 no-change b (Motion dx dy) s = refl
 no-change b (Buttons n) s = rw (lt-leb n 7 (ltb-true 7 n s))
 no-change b (Host byte) s = refl
-no-change b Slot s = refl
+no-change b Latch s = refl
+no-change b Send s = refl
 no-change b Period s = refl
 
 pub record Step (b : BallBox) (e : Event) (g : UnderWay Message) : Type 0 where
@@ -201,7 +204,8 @@ unfolding OneAtMost
 one-at-most b (Motion dx dy) = tt
 one-at-most b (Buttons n) = cases OneAtMost (leb n 7 && not (eqb n (b .settings .buttons))) (λ _. tt) (λ _. tt)
 one-at-most b (Host byte) = tt
-one-at-most b Slot = tt
+one-at-most b Latch = tt
+one-at-most b Send = tt
 one-at-most b Period = tt
 
 noted-behind : (b : BallBox) (change states : List ℕ) → OneAtMost change → noNinth b change ≡ true → noting (full (b .memory)) change states ≡ states ++ change
@@ -229,7 +233,7 @@ last-box b (e ∷ events) (a ∷ answers) p =
     let n : a .next ≡ nextBox b e = ap (λ (x : box.Step). x .next) (p .0) in
     last-box (a .next) events answers (p .1) ∙ rw n
 
--- an event that is no slot and no byte of the host's sends nothing
+-- Motion, Buttons and Period leave the line
 pub data Quiet : Event → Type 0 where
   motion : {dx dy : ℤ} → Quiet (Motion dx dy)
   buttons : {n : ℕ} → Quiet (Buttons n)

@@ -17,21 +17,20 @@ use Rattle.ballbox.specs.Box.{modeD}
 use Rattle.ballbox.specs.Presses.{remembered, anyRemembered, full, remembering, toShow, showingFirst, shown, hidden}
 use Rattle.ballbox.specs.Latching.{latched, latchedReport, secondLatched}
 use Rattle.ballbox.specs.Commands.{isStream, letterP, space, letterf, lettert, byte05, letterd, commandOf, replyTo, obeyed}
-use Rattle.ballbox.specs.Events.{wanted, secondNow, withByteReady, memoryAfter, nextByte, onSlot, dropped, onHost, onButtons}
-use Rattle.ballbox.specs.Good.{good, goodMemory}
+use Rattle.ballbox.specs.Events.{wanted, secondNow, withByteReady, memoryAfter, latching, nextByte, sending, dropped, onHost, onButtons}
+use Rattle.ballbox.specs.Good.{goodMemory}
 use Rattle.ballbox.specs.declared.BallBox.{BallBox}
 use Rattle.ballbox.specs.declared.Memory.{Memory}
 use Rattle.ballbox.specs.declared.Going.{Going}
-use Rattle.ballbox.specs.declared.Event.the-variants.{Buttons, Slot}
+use Rattle.ballbox.specs.declared.Event.the-variants.{Buttons, Send}
 use Rattle.ballbox.specs.declared.Command.{Command}
 use Rattle.ballbox.specs.declared.Command.the-variants.{SetFormat, SetStream, SetPrompt, AskReport, AskAck, AskCode, AskLetters, AskButtons, Sleep, Ignored}
-use Rattle.ballbox.proofs.Remembering.{memory-parts, memory-again, showing-good, remembered-length, remembered-behind, remembered-ninth, remembered-shown, remembered-hidden, remembered-showing, shown-none, shows-first}
-use Rattle.ballbox.proofs.Parts.{parts}
-use Rattle.ballbox.proofs.Slots.{latching-busy, latching-wanted, latching-idle, sending-byte, sending-silence, dropped-busy, dropped-idle}
-use Rattle.history.specs.History.{latchedNow, pairedAt, isFive, replying, whenAwake}
+use Rattle.ballbox.proofs.Remembering.{memory-parts, remembered-length, remembered-behind, remembered-ninth, remembered-shown, remembered-hidden, remembered-showing, shown-none, shows-first}
+use Rattle.ballbox.proofs.Cases.{latching-busy, latching-wanted, latching-idle, sending-byte, sending-silence, dropped-busy, dropped-idle}
+use Rattle.history.specs.History.{latchedNow, begun, pairedAt, isFive, replying, whenAwake}
 use Rattle.history.specs.Presses.{empties, changeTo, inPlaceOfLast, noting, shownIn, shownBy}
 use Rattle.history.proofs.Carries.{Carries}
-use Rattle.history.proofs.Slots.{bytes-left, pairs, latched-carries, not-yet}
+use Rattle.history.proofs.Sending.{bytes-left, pairs}
 
 -- the report that is going shows the first state that is remembered, or none
 abbrev pub Showing : BallBox → UnderWay Message → Type 0
@@ -116,14 +115,15 @@ pair-showing b c n (report l) h = go (isFive (l .format) && eqb n 3) refl
     go false e = rw e h
 pair-showing b c n (reply bytes) h = h
 
--- a slot of a box that has bytes to send
-busy-keeps : (b : BallBox) (n : ℕ) (m : Message) → goodMemory (b .memory) ≡ true → Carries b (first n m) → Showing b (first n m)
-    → Keeps (remembered (b .memory)) (nextByte (withByteReady b) .next) (shownBy (sentOne messageBytes (first n (pairedAt b n m)) .passages)) (sentOne messageBytes (first n (pairedAt b n m)) .going)
-busy-keeps b n m g c h =
+-- a byte goes out, or a silence
+pub send-keeps : (b : BallBox) (g : UnderWay Message) → goodMemory (b .memory) ≡ true → Carries b g → Showing b g
+    → Keeps (remembered (b .memory)) (sending b .next) (shownBy (whenAwake b Send g .passages)) (whenAwake b Send g .going)
+send-keeps b nothing g c h = rw (sending-silence b c) (record { showing = h; order = refl })
+send-keeps b (first n m) g c h =
     let c′ = withByteReady b in
     let e = ready-memory b in
     let k = byte-keeps c′ n (pairedAt b n m) (rw e g) (pairs b n m c .carries) (pair-showing b c′ n m (same-showing (first n m) b c′ e h)) in
-    record { showing = k .showing; order = ap remembered (sym e) ∙ k .order }
+    rw (sending-byte b (bytes-left b n m c)) (record { showing = k .showing; order = ap remembered (sym e) ∙ k .order })
 
 -- a report is latched to show the first state that is remembered, or the present buttons
 pub first-shown : (b : BallBox) → goodMemory (b .memory) ≡ true → anyRemembered (b .memory) ≡ true → take 1 (remembered (b .memory)) ≡ toShow b ∷ []
@@ -137,32 +137,18 @@ latched-showing : (b : BallBox) → goodMemory (b .memory) ≡ true → Showing 
 unfolding latched latchedReport showingFirst remembered
 latched-showing b g = (refl, λ a. first-shown b g a)
 
-latched-memory : (b : BallBox) → goodMemory (b .memory) ≡ true → goodMemory (latched b .memory) ≡ true
-unfolding latched
-latched-memory b g = memory-again (showingFirst (b .memory)) (showing-good (b .memory) (memory-parts (b .memory) g))
-
 latched-keeps : (b : BallBox) → remembered (latched b .memory) ≡ remembered (b .memory)
 unfolding latched
 latched-keeps b = remembered-showing (b .memory)
 
--- a slot
-pub slot-keeps : (b : BallBox) (g : UnderWay Message) → good b ≡ true → b .dormant ≡ false → Carries b g → Showing b g
-    → Keeps (remembered (b .memory)) (onSlot b .next) (shownBy (whenAwake b Slot g .passages)) (whenAwake b Slot g .going)
-slot-keeps b (first n m) k d c h =
-    let e = bytes-left b n m c in
-    rw (latching-busy b e, sending-byte b e) (busy-keeps b n m (parts b k .memory) c h)
-slot-keeps b nothing k d c h = go (wanted b) refl
+pub latch-keeps : (b : BallBox) (g : UnderWay Message) → goodMemory (b .memory) ≡ true → Carries b g → Showing b g
+    → Keeps (remembered (b .memory)) (latching b) [] (begun b g)
+latch-keeps b (first n m) g c h = rw (latching-busy b (bytes-left b n m c)) (record { showing = h; order = refl })
+latch-keeps b nothing g c h = go (wanted b) refl
   where
-    go : (t : Bool) → wanted b ≡ t → Keeps (remembered (b .memory)) (onSlot b .next) (shownBy (whenAwake b Slot nothing .passages)) (whenAwake b Slot nothing .going)
-    go true e =
-        let m = report (latchedNow b) in
-        let l = latched-carries b k d in
-        let g = parts b k .memory in
-        let good-now : goodMemory (latched b .memory) ≡ true = latched-memory b g in
-        let s = rw (not-yet (latched b) (latchedNow b)) at (busy-keeps (latched b) 0 m good-now l (latched-showing b g)) in
-        rw (e, latching-wanted b c e, sending-byte (latched b) (bytes-left (latched b) 0 m l), not-yet b (latchedNow b))
-        (record { showing = s .showing; order = sym (latched-keeps b) ∙ s .order })
-    go false e = rw (e, latching-idle b c e, sending-silence b c) (record { showing = h; order = refl })
+    go : (t : Bool) → wanted b ≡ t → Keeps (remembered (b .memory)) (latching b) [] (begun b nothing)
+    go true e = rw (e, latching-wanted b c e) (record { showing = latched-showing b g; order = sym (latched-keeps b) })
+    go false e = rw (e, latching-idle b c e) (record { showing = h; order = refl })
 
 -- a change is remembered behind the others, or in place of the newest
 last-replaced : (k n : ℕ) (l : List ℕ) → length l ≡ suc k → inPlaceOfLast n l ≡ take k l ++ (n ∷ [])

@@ -1,17 +1,16 @@
--- Within so many slots: on a busy line, each state that is remembered has been shown after as many reports' worth of slots.
+-- Within so many slots, each a Send with a Latch since the Send before: each state that is remembered has been shown after as many reports' worth of them.
 use Prim.Native.Nat.{ℕ, zero, suc, _+_, _-_, _*_, _≤_, _<_}
 use mathlib.Core.Path.{_≡_, refl, sym, _∙_, ap}
 use mathlib.Core.Bool.{Bool, true, false, cond, _&&_}
 use mathlib.Core.List.{List, [], _∷_, _++_}
-use native.Mathlib.Numerals.{one-add}
 use native.Mathlib.Omega.{arith}
 use lib.ListN.{length, length-append}
 use lib.Dec.{eqb}
 use borrow.Author.Tests.{eqb-true, eqb-false, lt-ltb}
 use Rattle.numbers.proofs.Choices.{cases}
 use Rattle.numbers.proofs.Tested.{holds}
-use Rattle.frames.specs.Passages.{UnderWay, nothing, first}
-use Rattle.frames.specs.Sender.{sentOne, passagesOver}
+use Rattle.frames.specs.Passages.{silent, UnderWay, nothing, first}
+use Rattle.frames.specs.Sender.{told, sentOne, passagesOver}
 use Rattle.frames.proofs.Passages.{finished-append}
 use Rattle.wire.specs.Line.{letterOf, sizeBy}
 use Rattle.wire.specs.Messages.{Message, report, reply, messageBytes}
@@ -23,13 +22,13 @@ use Rattle.ballbox.specs.Latching.{latchedReport}
 use Rattle.ballbox.specs.Events.{wanted}
 use Rattle.ballbox.specs.declared.BallBox.{BallBox}
 use Rattle.ballbox.specs.declared.Event.{Event}
-use Rattle.ballbox.specs.declared.Event.the-variants.{Motion, Buttons, Host, Slot, Period}
+use Rattle.ballbox.specs.declared.Event.the-variants.{Motion, Buttons, Host, Latch, Send, Period}
 use Rattle.ballbox.proofs.Remembering.{remembered-length}
 use Rattle.ballbox.proofs.Parts.{parts}
-use Rattle.history.specs.History.{formatOf, latchedNow, pairedAt, isFive, toldBy, nextBox, passagesOf}
+use Rattle.history.specs.History.{formatOf, latchedNow, begun, pairedAt, isFive, toldBy, nextBox, passagesOf}
 use Rattle.history.specs.Asked.{allHosts}
-use Rattle.history.specs.Presses.{noHost, changeTo, noting, shownIn, shownBy, slotsIn}
-use Rattle.history.proofs.Slots.{known-format, not-yet}
+use Rattle.history.specs.Presses.{noHost, changeTo, noting, shownIn, shownBy, slotsFrom}
+use Rattle.history.proofs.Sending.{known-format}
 use Rattle.history.proofs.Bridge.{told-is}
 use Rattle.history.proofs.Asking.{step-alike}
 use Rattle.history.proofs.Presses.{Streams, Step, streams-step, noting-length, Quiet, motion, buttons, period, quiet-passes, quiet-told}
@@ -48,7 +47,7 @@ abbrev pub need : ℕ → ℕ → UnderWay Message → ℕ
 need size zero g = 0
 need size (suc t) g = toCome size g + t * size
 
--- one slot more: none is shown by it, and the next is nearer; or one is
+-- one byte more: none is shown by it, and the next is nearer; or one is
 data Nearer (size t slots : ℕ) (shows : List ℕ) (g : UnderWay Message) : Type 0 where
   on-its-way : shows ≡ [] → need size (suc t) g ≤ slots → Nearer size t slots shows g
   one-shown : length shows ≡ 1 → need size t g ≤ slots → Nearer size t slots shows g
@@ -105,23 +104,28 @@ some-wanted b a = go (b .due) refl
     go true e = rw e
     go false e = rw (e, a)
 
--- a slot of a box that remembers a state
-slot-nearer : (b : BallBox) (g : UnderWay Message) (t slots : ℕ) → Streams b g → suc t ≤ length (remembered (b .memory))
-    → need (sizeBy (b .settings .format)) (suc t) g ≤ suc slots
-    → Nearer (sizeBy (b .settings .format)) t slots (shownBy (toldBy b Slot g .passages)) (toldBy b Slot g .going)
-slot-nearer b nothing t slots h k n =
-    let size = sizeBy (b .settings .format) in
-    let m = report (latchedNow b) in
+-- what Latch leaves of a box that remembers a state: something is going, and the state is as near
+pub data Underway : UnderWay Message → Type 0 where
+  under-way : {n : ℕ} {m : Message} → Underway (first n m)
+
+record Begun (b : BallBox) (t : ℕ) (g : UnderWay Message) : Type 0 where
+  going : Underway (begun b g)
+  near : need (sizeBy (b .settings .format)) (suc t) (begun b g) ≡ need (sizeBy (b .settings .format)) (suc t) g
+
+latch-near : (b : BallBox) (g : UnderWay Message) (t : ℕ) → Streams b g → suc t ≤ length (remembered (b .memory)) → Begun b t g
+latch-near b (first n m) t h k = record { going = under-way; near = refl }
+latch-near b nothing t h k =
     let some : anyRemembered (b .memory) ≡ true = lt-ltb 0 (b .memory .count) (omega (arith, remembered-length (b .memory) (parts b (h .good) .memory))) in
-    let long = latched-size b h in
-    let least = size-between (formatOf b) .0 in
-    let bytes = bytes-length (formatOf b) (latchedReport b) in
-    rw (told-is b Slot nothing false refl (h .awake), some-wanted b some, not-yet b (latchedNow b))
-    (byte-nearer size t slots 0 m (omega arith) (rw some (omega arith)))
-slot-nearer b (first i m) t slots h k n =
-    rw (told-is b Slot (first i m) false refl (h .awake))
-    (byte-nearer (sizeBy (b .settings .format)) t slots i (pairedAt b i m) (rw (pair-length b i m) (h .carries .1 .left))
-    (rw (pair-shows b i m, pair-length b i m) n))
+    let w = some-wanted b some in
+    record { going = rw w under-way; near = rw (w, some) (omega (arith, latched-size b h)) }
+
+-- a byte more of what is going
+send-nearer : (b : BallBox) (n : ℕ) (m : Message) (t slots : ℕ) → Streams b (first n m) → need (sizeBy (b .settings .format)) (suc t) (first n m) ≤ suc slots
+    → Nearer (sizeBy (b .settings .format)) t slots (shownBy (toldBy b Send (first n m) .passages)) (toldBy b Send (first n m) .going)
+send-nearer b n m t slots h k =
+    rw (told-is b Send (first n m) false refl (h .awake))
+    (byte-nearer (sizeBy (b .settings .format)) t slots n (pairedAt b n m) (rw (pair-length b n m) (h .carries .1 .left))
+    (rw (pair-shows b n m, pair-length b n m) k))
 
 size-three : (b : BallBox) (g : UnderWay Message) → Streams b g → 3 ≤ sizeBy (b .settings .format)
 size-three b g h = rw (known-format b (h .good), size-named (letterOf (formatOf b)) (letter-named (formatOf b))) (size-between (formatOf b) .0)
@@ -134,67 +138,101 @@ some-come b (first n m) h = go (showsIn m) refl
     go true e = rw e (omega (arith, h .carries .1 .left))
     go false e = rw e (omega (arith, h .carries .1 .left))
 
+-- since a Latch, where a state is to be shown, something is going
+abbrev Ready : Bool → ℕ → UnderWay Message → Type 0
+Ready false t g = Unit {0}
+Ready true zero g = Unit {0}
+Ready true (suc t) g = Underway g
+
 -- so many states have been shown over these events
-abbrev ShownOver : BallBox → UnderWay Message → List Event → Type 0
-ShownOver b g events =
-    (t : ℕ) → Streams b g → t ≤ length (remembered (b .memory)) → need (sizeBy (b .settings .format)) t g ≤ slotsIn events → t ≤ length (shownBy (passagesOf b g events))
+abbrev ShownOver : BallBox → UnderWay Message → Bool → List Event → Type 0
+ShownOver b g latched events =
+    (t : ℕ) → Streams b g → Ready latched t g → t ≤ length (remembered (b .memory)) → need (sizeBy (b .settings .format)) t g ≤ slotsFrom latched events
+    → t ≤ length (shownBy (passagesOf b g events))
 
 -- an event in front of them
-over-quiet : (b : BallBox) (g : UnderWay Message) (e : Event) (events : List Event) → Quiet e → slotsIn (e ∷ events) ≡ slotsIn events → ShownOver (nextBox b e) g events → ShownOver b g (e ∷ events)
+over-quiet : (b : BallBox) (g : UnderWay Message) (latched : Bool) (e : Event) (events : List Event) → Quiet e → slotsFrom latched (e ∷ events) ≡ slotsFrom latched events
+    → ShownOver (nextBox b e) g latched events → ShownOver b g latched (e ∷ events)
 unfolding passagesOver
-over-quiet b g e events q same rest t h l n =
+over-quiet b g latched e events q same rest t h r l n =
     let s = streams-step b e g h (quiet-passes q .0) in
     let d = quiet-told b e g (h .awake) q in
     let f = step-alike b e (quiet-passes q .1) (h .good) (h .awake) .format in
     let more = noting-length (full (b .memory)) (changeTo b e) (remembered (b .memory)) in
     let kept : noting (full (b .memory)) (changeTo b e) (remembered (b .memory)) ≡ remembered (nextBox b e .memory) = rw d at (s .order) in
-    rw d (rest t (rw d at (s .next)) (omega (arith, ap length kept)) (rw (f, ← same) n))
+    rw d (rest t (rw d at (s .next)) r (omega (arith, ap length kept)) (rw (f, ← same) n))
 
-over-slot : (b : BallBox) (g : UnderWay Message) (events : List Event) → slotsIn (Slot ∷ events) ≡ suc (slotsIn events) → ShownOver (nextBox b Slot) (toldBy b Slot g .going) events
-    → ShownOver b g (Slot ∷ events)
+over-latch : (b : BallBox) (g : UnderWay Message) (latched : Bool) (events : List Event) → slotsFrom latched (Latch ∷ events) ≡ slotsFrom true events
+    → ShownOver (nextBox b Latch) (toldBy b Latch g .going) true events → ShownOver b g latched (Latch ∷ events)
 unfolding passagesOver
-over-slot b g events same rest zero h l n = omega arith
-over-slot b g events same rest (suc t) h l n = go (slot-nearer b g t (slotsIn events) h l (rw (← same) n))
+over-latch b g latched events same rest zero h r l n = omega arith
+over-latch b g latched events same rest (suc t) h r l n =
+    let s = streams-step b Latch g h refl in
+    let d = told-is b Latch g false refl (h .awake) in
+    let f = step-alike b Latch refl (h .good) (h .awake) .format in
+    let kept : remembered (b .memory) ≡ remembered (nextBox b Latch .memory) = rw d at (s .order) in
+    let k = latch-near b g t h l in
+    rw d ((rw d at rest) (suc t) (rw d at (s .next)) (k .going) (omega (arith, ap length kept)) (rw (f, k .near, ← same) n))
+
+over-send : (b : BallBox) (g : UnderWay Message) (latched : Bool) (events : List Event) → slotsFrom latched (Send ∷ events) ≡ cond latched 1 0 + slotsFrom false events
+    → ShownOver (nextBox b Send) (toldBy b Send g .going) false events → ShownOver b g latched (Send ∷ events)
+unfolding passagesOver
+over-send b g latched events same rest zero h r l n = omega arith
+over-send b nothing false events same rest (suc t) h r l n =
+    let s = streams-step b Send nothing h refl in
+    let d : toldBy b Send nothing ≡ told (silent ∷ []) nothing = told-is b Send nothing false refl (h .awake) in
+    let f = step-alike b Send refl (h .good) (h .awake) .format in
+    let kept : remembered (b .memory) ≡ remembered (nextBox b Send .memory) = rw d at (s .order) in
+    rw d ((rw d at rest) (suc t) (rw d at (s .next)) tt (omega (arith, ap length kept)) (rw f (omega (arith, n, same))))
+over-send b (first i m) latched events same rest (suc t) h r l n =
+    go (send-nearer b i m t (slotsFrom false events) h (omega (arith, n, same, one-slot)))
   where
+    one-slot : cond latched 1 0 ≤ 1
+    one-slot = cases (λ (k : ℕ). k ≤ 1) latched (λ e. omega arith) (λ e. omega arith)
+
+    g : UnderWay Message
+    g = first i m
+
     size : ℕ
     size = sizeBy (b .settings .format)
 
     now : List ℕ
-    now = shownBy (toldBy b Slot g .passages)
+    now = shownBy (toldBy b Send g .passages)
 
     later : List ℕ
-    later = shownBy (passagesOf (nextBox b Slot) (toldBy b Slot g .going) events)
+    later = shownBy (passagesOf (nextBox b Send) (toldBy b Send g .going) events)
 
-    s : Step b Slot g
-    s = streams-step b Slot g h refl
+    s : Step b Send g
+    s = streams-step b Send g h refl
 
-    order : length (remembered (b .memory)) ≡ length now + length (remembered (nextBox b Slot .memory))
-    order = ap length (s .order) ∙ length-append now (remembered (nextBox b Slot .memory))
+    order : length (remembered (b .memory)) ≡ length now + length (remembered (nextBox b Send .memory))
+    order = ap length (s .order) ∙ length-append now (remembered (nextBox b Send .memory))
 
-    format : nextBox b Slot .settings .format ≡ b .settings .format
-    format = step-alike b Slot refl (h .good) (h .awake) .format
+    format : nextBox b Send .settings .format ≡ b .settings .format
+    format = step-alike b Send refl (h .good) (h .awake) .format
 
-    all : shownBy (passagesOf b g (Slot ∷ events)) ≡ now ++ later
-    all = finished-append shownIn (toldBy b Slot g .passages) (passagesOf (nextBox b Slot) (toldBy b Slot g .going) events)
+    all : shownBy (passagesOf b g (Send ∷ events)) ≡ now ++ later
+    all = finished-append shownIn (toldBy b Send g .passages) (passagesOf (nextBox b Send) (toldBy b Send g .going) events)
 
-    go : Nearer size t (slotsIn events) now (toldBy b Slot g .going) → suc t ≤ length (shownBy (passagesOf b g (Slot ∷ events)))
+    go : Nearer size t (slotsFrom false events) now (toldBy b Send g .going) → suc t ≤ length (shownBy (passagesOf b g (Send ∷ events)))
     go (on-its-way none near) =
-        let k = rest (suc t) (s .next) (omega (arith, order, ap length none)) (rw format near) in
+        let k = rest (suc t) (s .next) tt (omega (arith, order, ap length none)) (rw format near) in
         rw (all, length-append now later) (omega (arith, k))
     go (one-shown one near) =
-        let k = rest t (s .next) (omega (arith, order)) (rw format near) in
+        let k = rest t (s .next) tt (omega (arith, order)) (rw format near) in
         rw (all, length-append now later) (omega (arith, k))
 
 -- with as many slots as t states need, t have been shown
-pub shown-within : (b : BallBox) (g : UnderWay Message) (events : List Event) → noHost events ≡ true → ShownOver b g events
-unfolding allHosts slotsIn
-shown-within b g [] a zero h l n = omega arith
-shown-within b g [] a (suc t) h l n = absurd (omega (arith, some-come b g h))
-shown-within b g (Motion dx dy ∷ events) a t h l n = over-quiet b g (Motion dx dy) events motion refl (shown-within _ g events a) t h l n
-shown-within b g (Buttons k ∷ events) a t h l n = over-quiet b g (Buttons k) events buttons refl (shown-within _ g events a) t h l n
-shown-within b g (Host byte ∷ events) a t h l n = absurd (holds a)
-shown-within b g (Slot ∷ events) a t h l n = over-slot b g events (one-add (slotsIn events)) (shown-within _ _ events a) t h l n
-shown-within b g (Period ∷ events) a t h l n = over-quiet b g Period events period refl (shown-within _ g events a) t h l n
+pub shown-within : (b : BallBox) (g : UnderWay Message) (latched : Bool) (events : List Event) → noHost events ≡ true → ShownOver b g latched events
+unfolding allHosts slotsFrom
+shown-within b g latched [] a zero h r l n = omega arith
+shown-within b g latched [] a (suc t) h r l n = absurd (omega (arith, some-come b g h))
+shown-within b g latched (Motion dx dy ∷ events) a t h r l n = over-quiet b g latched (Motion dx dy) events motion refl (shown-within _ g latched events a) t h r l n
+shown-within b g latched (Buttons k ∷ events) a t h r l n = over-quiet b g latched (Buttons k) events buttons refl (shown-within _ g latched events a) t h r l n
+shown-within b g latched (Host byte ∷ events) a t h r l n = absurd (holds a)
+shown-within b g latched (Latch ∷ events) a t h r l n = over-latch b g latched events refl (shown-within _ _ true events a) t h r l n
+shown-within b g latched (Send ∷ events) a t h r l n = over-send b g latched events refl (shown-within _ _ false events a) t h r l n
+shown-within b g latched (Period ∷ events) a t h r l n = over-quiet b g latched Period events period refl (shown-within _ g latched events a) t h r l n
 
 message-size : (b : BallBox) (n : ℕ) (m : Message) → Streams b (first n m) → length (messageBytes m) ≤ sizeBy (b .settings .format)
 message-size b n (report l) h =

@@ -4,14 +4,15 @@ use mathlib.Core.Bool.{Bool, true, _&&_}
 use mathlib.Core.List.{List, [], _∷_}
 use Rattle.ballbox.specs.Commands.{asksForReports}
 use Rattle.ballbox.specs.declared.Event.{Event}
-use Rattle.ballbox.specs.declared.Event.the-variants.{Motion, Buttons, Host, Slot, Period}
+use Rattle.ballbox.specs.declared.Event.the-variants.{Motion, Buttons, Host, Latch, Send, Period}
 
 -- an event that is no byte of the host's, or one that passes a test; and events that all are
 abbrev pub hostsPass : (ℕ → Bool) → Event → Bool
 hostsPass test (Motion dx dy) = true
 hostsPass test (Buttons n) = true
 hostsPass test (Host byte) = test byte
-hostsPass test Slot = true
+hostsPass test Latch = true
+hostsPass test Send = true
 hostsPass test Period = true
 
 unfoldable pub allHosts : (ℕ → Bool) → List Event → Bool

@@ -18,7 +18,7 @@ use Rattle.ballbox.specs.Promises.{aboveSeven, stepOf}
 use Rattle.ballbox.specs.declared.BallBox.{BallBox}
 use Rattle.ballbox.specs.declared.Pair.{Pair}
 use Rattle.ballbox.specs.declared.Event.{Event}
-use Rattle.ballbox.specs.declared.Event.the-variants.{Motion, Buttons, Host, Slot, Period}
+use Rattle.ballbox.specs.declared.Event.the-variants.{Motion, Buttons, Host, Latch, Send, Period}
 
 -- the format that is set
 abbrev pub formatOf : BallBox → Format
@@ -28,7 +28,7 @@ formatOf b = ofNamed FiveByte (λ f. f) (namedBy (b .settings .format))
 abbrev pub latchedNow : BallBox → Latched
 latchedNow b = record { format = formatOf b; report = latchedReport b; shows = anyRemembered (b .memory) }
 
--- where nothing is going and a report is wanted, one is latched, and none of its bytes has gone
+-- Latch: where nothing is going and a report is wanted, one is latched, and none of its bytes has gone
 abbrev pub begun : BallBox → UnderWay Message → UnderWay Message
 begun b nothing = cond (wanted b) (first 0 (report (latchedNow b))) nothing
 begun b (first n m) = first n m
@@ -40,7 +40,7 @@ withPair p r = record { buttons = r .buttons; x1 = r .x1; y1 = r .y1; x2 = p .x;
 abbrev pub isFive : Format → Bool
 isFive f = eqb (letterOf f) (letterOf FiveByte)
 
--- "In U, the second pair is latched the same way, without buttons, at the slot of byte 4"
+-- "U's second pair is still latched when byte 4 is sent."
 abbrev pub pairedAt : BallBox → ℕ → Message → Message
 pairedAt b n (report l) =
     cond (isFive (l .format) && eqb n 3)
@@ -62,14 +62,16 @@ abbrev pub whenAwake : BallBox → Event → UnderWay Message → Told Message
 whenAwake b (Motion dx dy) g = told [] g
 whenAwake b (Buttons n) g = told [] g
 whenAwake b (Host byte) g = told (brokenOff g) (replying (replyTo b (commandOf byte)))
-whenAwake b Slot g = sentOne messageBytes (paired b (begun b g))
+whenAwake b Latch g = told [] (begun b g)
+whenAwake b Send g = sentOne messageBytes (paired b g)
 whenAwake b Period g = told [] g
 
 abbrev pub whenAsleep : BallBox → Event → UnderWay Message → Told Message
 whenAsleep b (Motion dx dy) g = told [] g
 whenAsleep b (Buttons n) g = told [] g
 whenAsleep b (Host byte) g = told [] (replying ack)
-whenAsleep b Slot g = sentOne messageBytes g
+whenAsleep b Latch g = told [] g
+whenAsleep b Send g = sentOne messageBytes g
 whenAsleep b Period g = told [] g
 
 -- a refused event ends nothing and changes nothing

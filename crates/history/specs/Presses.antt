@@ -15,7 +15,7 @@ use Rattle.ballbox.specs.Commands.{isStream, letterP, letterd}
 use Rattle.ballbox.specs.Events.{bytesLeft}
 use Rattle.ballbox.specs.declared.BallBox.{BallBox}
 use Rattle.ballbox.specs.declared.Event.{Event}
-use Rattle.ballbox.specs.declared.Event.the-variants.{Motion, Buttons, Host, Slot, Period}
+use Rattle.ballbox.specs.declared.Event.the-variants.{Motion, Buttons, Host, Latch, Send, Period}
 use Rattle.ballbox.specs.declared.Stepped.{Stepped}
 use Rattle.history.specs.History.{nextBox}
 use Rattle.history.specs.Asked.{allHosts}
@@ -49,7 +49,8 @@ abbrev pub changeTo : BallBox → Event → List ℕ
 changeTo b (Motion dx dy) = []
 changeTo b (Buttons n) = cond (leb n 7 && not (eqb n (b .settings .buttons))) (n ∷ []) []
 changeTo b (Host byte) = []
-changeTo b Slot = []
+changeTo b Latch = []
+changeTo b Send = []
 changeTo b Period = []
 
 unfoldable pub changesIn : BallBox → List Event → List ℕ
@@ -114,14 +115,18 @@ ShownAgain (finished m ∷ passages) g = ShownAgain passages g
 ShownAgain (broken n (report l) ∷ passages) g = (l .shows ≡ true → NextShows (l .report .buttons) passages g) × ShownAgain passages g
 ShownAgain (broken n (reply bytes) ∷ passages) g = ShownAgain passages g
 
--- the slots of a run
-unfoldable pub slotsIn : List Event → ℕ
-slotsIn [] = 0
-slotsIn (Motion dx dy ∷ events) = slotsIn events
-slotsIn (Buttons n ∷ events) = slotsIn events
-slotsIn (Host byte ∷ events) = slotsIn events
-slotsIn (Slot ∷ events) = 1 + slotsIn events
-slotsIn (Period ∷ events) = slotsIn events
+-- the slots of a run: each Send with a Latch between it and the Send before it; told whether a Latch has come since
+unfoldable pub slotsFrom : Bool → List Event → ℕ
+slotsFrom latched [] = 0
+slotsFrom latched (Motion dx dy ∷ events) = slotsFrom latched events
+slotsFrom latched (Buttons n ∷ events) = slotsFrom latched events
+slotsFrom latched (Host byte ∷ events) = slotsFrom latched events
+slotsFrom latched (Latch ∷ events) = slotsFrom true events
+slotsFrom latched (Send ∷ events) = cond latched 1 0 + slotsFrom false events
+slotsFrom latched (Period ∷ events) = slotsFrom latched events
+
+abbrev pub slotsIn : List Event → ℕ
+slotsIn events = slotsFrom false events
 
 -- the box after a run, by the rules and by the answers to it
 unfoldable pub boxAfter : BallBox → List Event → BallBox

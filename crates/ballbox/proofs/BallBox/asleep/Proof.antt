@@ -18,11 +18,15 @@ returns-3 c = rw (c .before .before .enum-told3 .given .1) (rw (c .before .woken
 
 returns-4 : tie.Need-returns-4
 unfolding asleep
-returns-4 c = rw (c .before .enum-told4 .given .1) (c .gives .ensures)
+returns-4 c = rw (c .before .enum-told4 .given .1) (c .quietly4 .ensures)
 
 returns-5 : tie.Need-returns-5
 unfolding asleep
-returns-5 c = rw (c .before .enum-told5 .given .1) (c .quietly4 .ensures)
+returns-5 c = rw (c .before .enum-told5 .given .1) (c .gives .ensures)
+
+returns-6 : tie.Need-returns-6
+unfolding asleep
+returns-6 c = rw (c .before .enum-told6 .given .1) (c .quietly5 .ensures)
 
 pub asleep-spec : {M : Type 1} → statement M
 asleep-spec =
@@ -39,8 +43,11 @@ asleep-spec =
     (λ c κs. search needs)
     (λ c. search needs)
     (λ c κs. search needs)
+    (λ c. search needs)
+    (λ c κs. search needs)
     returns
     returns-2
     returns-3
     returns-4
-    returns-5)
+    returns-5
+    returns-6)

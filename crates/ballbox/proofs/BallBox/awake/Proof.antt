@@ -4,11 +4,15 @@ use mir.Syntax.{w16}
 use mir.Val.{SFits}
 use Rattle.ballbox.specs.Events.{onMotion, awake}
 use Rattle.numbers.proofs.Machine.{passed}
+use Rattle.ballbox.proofs.Parts.{good-shown, good-length}
 use Rattle.ballbox.proofs.BallBox.awake.Statement.{statement}
 use Rattle.ballbox.proofs.BallBox.awake.Tie as tie
 
-on-slot-requires : tie.Need-on-slot-requires
-on-slot-requires c κs = c .before .before .pre
+latching-requires : tie.Need-latching-requires
+latching-requires c κs = good-shown _ (c .before .before .pre)
+
+sending-requires : tie.Need-sending-requires
+sending-requires c κs = good-length _ (c .before .before .pre)
 
 returns : tie.Need-returns
 unfolding awake
@@ -29,11 +33,15 @@ returns-3 c = rw (c .before .before .event3 .given .1) (c .on-host .ensures)
 
 returns-4 : tie.Need-returns-4
 unfolding awake
-returns-4 c = rw (c .before .enum-told .given .1) (c .on-slot .ensures)
+returns-4 c = rw (c .before .before .enum-told .given .1) (rw (c .before .latching .ensures) at (c .quietly3 .ensures))
 
 returns-5 : tie.Need-returns-5
 unfolding awake
-returns-5 c = rw (c .before .before .enum-told2 .given .1) (rw (c .before .on-period .ensures) at (c .quietly3 .ensures))
+returns-5 c = rw (c .before .enum-told2 .given .1) (c .sending .ensures)
+
+returns-6 : tie.Need-returns-6
+unfolding awake
+returns-6 c = rw (c .before .before .enum-told3 .given .1) (rw (c .before .on-period .ensures) at (c .quietly4 .ensures))
 
 pub awake-spec : {M : Type 1} → statement M
 awake-spec =
@@ -48,7 +56,10 @@ awake-spec =
     (λ c. search needs)
     (λ c κs. search needs)
     (λ c. search needs)
-    on-slot-requires
+    latching-requires
+    (λ c κs. search needs)
+    (λ c. search needs)
+    sending-requires
     (λ c. search needs)
     (λ c κs. search needs)
     (λ c κs. search needs)
@@ -56,4 +67,5 @@ awake-spec =
     returns-2
     returns-3
     returns-4
-    returns-5)
+    returns-5
+    returns-6)

@@ -2,7 +2,7 @@
 use borrow.Author.Needs.{needs}
 use borrow.Author.Tests.{not-true, not-false}
 use mathlib.Core.Path.{sym, _∙_}
-use Rattle.ballbox.proofs.Slots.{host-busy, host-idle}
+use Rattle.ballbox.proofs.Cases.{host-busy, host-idle}
 use Rattle.ballbox.proofs.BallBox.on_host.Statement.{statement}
 use Rattle.ballbox.proofs.BallBox.on_host.Tie as tie
 

@@ -1,8 +1,8 @@
--- `with_byte_ready`: the slot of byte 4 in U, or another.
+-- `with_byte_ready`: byte 4 of U is to be sent, or another.
 use borrow.Author.Tests.{eqb-true}
 use mathlib.Core.Path.{sym, _∙_}
 use Rattle.numbers.proofs.Tested.{left}
-use Rattle.ballbox.proofs.Slots.{ready-plain, ready-second}
+use Rattle.ballbox.proofs.Cases.{ready-plain, ready-second}
 use Rattle.ballbox.proofs.BallBox.with_byte_ready.Statement.{statement}
 use Rattle.ballbox.proofs.BallBox.with_byte_ready.Tie as tie
 

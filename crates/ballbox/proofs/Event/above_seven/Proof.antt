@@ -20,6 +20,9 @@ returns-4 c = ap aboveSeven (sym (c .enum-told3 .given .1))
 returns-5 : tie.Need-returns-5
 returns-5 c = ap aboveSeven (sym (c .enum-told4 .given .1))
 
+returns-6 : tie.Need-returns-6
+returns-6 c = ap aboveSeven (sym (c .enum-told5 .given .1))
+
 pub above-seven-spec : {M : Type 1} → statement M
 above-seven-spec =
     tie.close
@@ -29,8 +32,10 @@ above-seven-spec =
     (λ c. search needs)
     (λ c. search needs)
     (λ c. search needs)
+    (λ c. search needs)
     returns
     returns-2
     returns-3
     returns-4
-    returns-5)
+    returns-5
+    returns-6)

@@ -1,4 +1,4 @@
--- `on_slots`: the slots left fall.
+-- `on_slots`: the characters left fall.
 use borrow.Author.Needs.{needs}
 use Rattle.figures.proofs.steps.on_slots.Statement.{statement}
 use Rattle.figures.proofs.steps.on_slots.Tie as tie
@@ -15,6 +15,9 @@ loop-holds c = search needs
 on-requires : tie.Need-on-requires Inv-loop μ-loop
 on-requires c κs = search needs
 
+on-requires-2 : tie.Need-on-requires-2 Inv-loop μ-loop
+on-requires-2 c κs = search needs
+
 sub-left : tie.Need-sub-left Inv-loop μ-loop
 sub-left c = search needs
 
@@ -30,4 +33,4 @@ returns c = search needs
 pub on-slots-spec : {M : Type 1} → statement M
 on-slots-spec =
     tie.close
-    (tie.spec Inv-loop μ-loop loop-holds on-requires sub-left loop-less loop-again returns)
+    (tie.spec Inv-loop μ-loop loop-holds on-requires on-requires-2 sub-left loop-less loop-again returns)

@@ -34,7 +34,7 @@ module _ (b : BallBox) where
   unfolding sending
   sending-silence l = ap (λ (t : Bool). cond t (nextByte (withByteReady b)) (gives (silence ∷ []) b)) l
 
-  -- not the slot of byte 4 in U
+  -- byte 4 of U is to be sent, or another
   pub ready-plain : secondNow b ≡ false → withByteReady b ≡ b
   unfolding withByteReady
   ready-plain e = ap (λ (t : Bool). cond t (secondLatched b) b) e
