@@ -118,11 +118,11 @@ impl Reader {
         ensures { λ r. ⌜ Begins size marked self (now (words .entry)) (now (out .entry)) r (now (out .exit)) ⌝ }
     {
         let t = self.slowly(size, marked, words, out);
+        let next = t.next;
         let at = t.taken;
         if at == 0 {
             return t;
         }
-        let next = t.next;
         let used = 5 * t.reports;
         let q = next.quickly(size, marked, &words[at..], &mut out[used..]);
         reading(

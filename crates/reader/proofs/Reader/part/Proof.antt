@@ -63,7 +63,7 @@ all : (c : tie.After-quickly) → let l = c .before .before .before .before .bef
     Begins (a .size) (a .marked) (a .self) (a .words .now) (a .out .now)
     (record { refusal = 0; next = t .next; taken = t .taken + q .taken; reports = t .reports + q .used / 5; dropped = t .dropped })
     (putMid (5 * t .reports) (length mid - 5 * t .reports) mid (c .quickly .last .1 .1 .1 .1 .0))
-all c = and-run (c .before .before .before .before .before .before .before .slowly .ensures) (c .before .before .before .before .before .if1 .left) (c .quickly .ensures)
+all c = and-run (c .before .before .before .before .before .before .before .slowly .ensures) (c .before .before .before .before .if1 .left) (c .quickly .ensures)
 
 add-reading : tie.Need-add-reading
 add-reading c = let s = c .before .before .before .before .before .before .before .before .before .before .before .before in omega (arith, far (all (c .before .before) .stands), s .good .1 .1 .1 .0 .1)
