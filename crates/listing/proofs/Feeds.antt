@@ -9,7 +9,7 @@ use lib.Dec.{leb}
 use lib.ListN.{length, take, drop, length-drop}
 use lib.Seq.{drop-drop}
 use borrow.Author.Tests.{lt-ltb, le-ltb, leb-true, leb-false, le-leb}
-use Rattle.numbers.proofs.Tested.{left, right}
+use Rattle.numbers.proofs.Tested.{right}
 use Rattle.fold.specs.Fold.{ran, run, Part}
 use Rattle.fold.proofs.Parts.{none, part-within, part-room, part-long, joins, part-ends, part-all}
 use Rattle.text.specs.Growth.{shown, textOf, fitsAt, putOf}

@@ -2,21 +2,20 @@
 use Prim.Native.Nat.{ℕ, suc, _+_, _-_, _<_, _≤_}
 use mathlib.Core.Path.{_≡_, refl, sym, _∙_, ap}
 use mathlib.Core.Bool.{Bool, true, false, _&&_}
-use mathlib.Core.List.{List, [], _∷_, _++_, append-nil, append-assoc}
+use mathlib.Core.List.{List, [], _∷_, _++_, append-nil}
 use native.Mathlib.Omega.{arith}
 use native.Mathlib.Numerals.{add-one}
 use lib.Dec.{eqb, ltb, leb}
-use lib.ListN.{length, getD, take, set, length-set, length-append}
+use lib.ListN.{length, getD, take, length-set, length-append}
 use lib.Seq.{take-append-le, take-suc-set, append-snoc}
 use borrow.Author.Tests.{eqb-true, ltb-true, leb-true, lt-leb}
 use Rattle.numbers.proofs.Tested.{left, right}
-use Rattle.fold.specs.Fold.{run, behind}
+use Rattle.fold.specs.Fold.{run}
 use Rattle.fold.proofs.Laws as laws
 use Rattle.listing.specs.Lines.{newline, lengthIn, saidBy}
 use Rattle.listing.specs.Scanning.{unfinished, more, takenOf, scannedByte}
 use Rattle.listing.specs.Items.{gaveOf}
 use Rattle.listing.specs.Feeding.{Turning, frontOf, turning, fedByte, turned, feeds, Together, Goes}
-use Rattle.listing.specs.declared.Line.{Line}
 use Rattle.listing.specs.declared.Lister.{Lister}
 use Rattle.listing.proofs.Few.{few-line, few-byte}
 use Rattle.listing.proofs.Whole.{opened, byte-opened}
