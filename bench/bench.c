@@ -2,7 +2,7 @@
  *
  *   bench check          compares all answers; the first difference is told, and the status is 1
  *   bench time PART      a line for each stream: its name, nanoseconds a word of the library and of plain.c, each the best of several
- *   bench count PART     a line for each stream: its name; runs each side over a stream and over its first half, and calls mark behind each run
+ *   bench count PART     a line for each stream: its name, and half its words; runs each side over that half and over all, with a call of mark before and behind each
  *
  * A part is read (the long read), step, encode, box or list. A word is a line word; of the encoder a report, of the box an event, of the lister a line. */
 #include "plain.h"
@@ -481,9 +481,8 @@ static void counted(run *f) {
 
 static void measured(const char *part, const char *format, const char *stream, run *ours, run *plain) {
     printf("%s\t%s\t%s", part, stream, format);
-    if (counting) counted(ours), counted(plain);
-    else printf("\t%.2f\t%.2f", best(ours), best(plain));
-    printf("\n");
+    if (counting) counted(ours), counted(plain), printf("\t%d\n", WORDS / 2);
+    else printf("\t%.2f\t%.2f\n", best(ours), best(plain));
 }
 
 /* Every stream of line words, with what is to be done with it. */

@@ -32,42 +32,43 @@ static int fits(uint8_t letter, unsigned place, uint8_t byte) {
     }
 }
 
-static int16_t two_s(unsigned value, unsigned bits) { return (int16_t)(value >> (bits - 1) ? (int)value - (1 << bits) : (int)value); }
+/* A number of so many bits, two's complement. */
+static int16_t signed_of(unsigned value, unsigned bits) { return (int16_t)(value >> (bits - 1) ? (int)value - (1 << bits) : (int)value); }
 
-static void decode(uint8_t letter, const uint8_t *b, istrolf_report *p) {
-    p->x2 = p->y2 = 0;
+/* The five numbers of a report: buttons, x1, y1, x2, y2. */
+static void decode(uint8_t letter, const uint8_t *b, int16_t *out) {
+    out[3] = out[4] = 0;
     switch (letter) {
     case 'S':
-        p->buttons = b[0] & 7;
-        p->x1 = b[0] & 16 ? b[1] : -b[1];
-        p->y1 = b[0] & 8 ? b[2] : -b[2];
+        out[0] = b[0] & 7;
+        out[1] = b[0] & 16 ? b[1] : -b[1];
+        out[2] = b[0] & 8 ? b[2] : -b[2];
         break;
     case 'V':
-        p->buttons = (b[0] >> 3 & 4) | (b[0] >> 4 & 1);
-        p->x1 = two_s((b[0] & 3u) << 6 | b[1], 8);
-        p->y1 = -two_s((b[0] & 12u) << 4 | b[2], 8);
+        out[0] = (b[0] >> 3 & 4) | (b[0] >> 4 & 1);
+        out[1] = signed_of((b[0] & 3u) << 6 | b[1], 8);
+        out[2] = -signed_of((b[0] & 12u) << 4 | b[2], 8);
         break;
     case 'A':
     case 'B': {
         unsigned x = (b[2] & 63u) << 6 | (b[1] & 63u), y = (b[4] & 63u) << 6 | (b[3] & 63u);
-        p->buttons = b[0] >> 2 & 7;
-        p->x1 = letter == 'A' ? (int16_t)x : two_s(x, 12);
-        p->y1 = letter == 'A' ? (int16_t)y : two_s(y, 12);
+        out[0] = b[0] >> 2 & 7;
+        out[1] = letter == 'A' ? (int16_t)x : signed_of(x, 12);
+        out[2] = letter == 'A' ? (int16_t)y : signed_of(y, 12);
         break;
     }
     case 'U':
-        p->buttons = ~b[0] & 7;
-        p->x1 = two_s(b[1], 8), p->y1 = two_s(b[2], 8);
-        p->x2 = two_s(b[3], 8), p->y2 = two_s(b[4], 8);
+        out[0] = ~b[0] & 7;
+        for (int i = 1; i < 5; i++) out[i] = signed_of(b[i], 8);
         break;
     case 'T':
-        p->buttons = b[0];
-        p->x1 = two_s(b[1], 8), p->y1 = two_s(b[2], 8);
+        out[0] = b[0];
+        out[1] = signed_of(b[1], 8), out[2] = signed_of(b[2], 8);
         break;
     case 'W':
-        p->buttons = b[0] - '0';
-        p->x1 = two_s((unsigned)(digit(b[2]) << 4 | digit(b[1])), 8);
-        p->y1 = two_s((unsigned)(digit(b[4]) << 4 | digit(b[3])), 8);
+        out[0] = b[0] - '0';
+        out[1] = signed_of((unsigned)(digit(b[2]) << 4 | digit(b[1])), 8);
+        out[2] = signed_of((unsigned)(digit(b[4]) << 4 | digit(b[3])), 8);
         break;
     }
 }
@@ -131,93 +132,89 @@ uint8_t plain_encode(uint8_t letter, const istrolf_report *p, uint8_t *buffer, s
 
 /* ---- The reader */
 
-static void clear(istrolf_reader *r, int awaiting) {
-    memset(r->kept, 0, 5);
-    r->count = 0;
-    r->awaiting = awaiting && !is_marked(r->format);
-}
-
-static int good_reader(const istrolf_reader *r) {
-    if (r->count >= size_of(r->format) || r->awaiting > (r->count == 0 && !is_marked(r->format))) return 0;
+static inline int good_reader(uint8_t letter, const istrolf_reader *r) {
+    if (r->count >= size_of(letter) || r->awaiting > (r->count == 0 && !is_marked(letter))) return 0;
     for (unsigned i = 0; i < 5; i++)
-        if (i < r->count ? !fits(r->format, i, r->kept[i]) : r->kept[i] != 0) return 0;
+        if (i < r->count ? !fits(letter, i, r->kept[i]) : r->kept[i] != 0) return 0;
     return 1;
 }
 
-/* A legal word to a good reader: the bytes dropped, or WHOLE, and then the report's bytes are in kept and count is not yet 0. */
-enum { WHOLE = 255 };
-
-static inline uint8_t hear(istrolf_reader *r, unsigned size, int marked, uint16_t word) {
-    uint8_t kept = r->count, byte = (uint8_t)(r->format == 'V' ? word & 0x7F : word);
-    if (word >= 256) {
-        clear(r, word == 256);
-        return kept;
+/* The reader of one format: called with a constant letter, so that the compiler makes a loop for each. */
+static inline uint8_t read_in(uint8_t letter, istrolf_reader *r, const uint16_t *words, size_t count, int16_t *out, size_t room, plain_counts *counts) {
+    unsigned size = size_of(letter), n = r->count;
+    int marked = is_marked(letter), awaiting = r->awaiting;
+    size_t at = 0, reports = 0, dropped = 0;
+    uint8_t kept[5], refusal = ISTROLF_OK;
+    if (!good_reader(letter, r)) return ISTROLF_BAD_STATE;
+    memcpy(kept, r->kept, 5);
+    for (; at < count; at++) {
+        uint8_t byte = (uint8_t)(letter == 'V' ? words[at] & 0x7F : words[at]);
+        if (words[at] >= 256) {
+            if (words[at] > 257) {
+                refusal = ISTROLF_BAD_WORD;
+                break;
+            }
+            dropped += n;
+            n = 0;
+            awaiting = words[at] == 256 && !marked;
+        } else if (awaiting) {
+            dropped++;
+        } else if (fits(letter, n, byte)) {
+            if (n + 1 == size && room < 5) break;
+            kept[n++] = byte;
+            if (n == size) {
+                decode(letter, kept, out);
+                out += 5, room -= 5, reports++;
+                n = 0;
+            }
+        } else if (marked && fits(letter, 0, byte)) {
+            dropped += n;
+            kept[0] = byte;
+            n = 1;
+        } else {
+            dropped += n + 1;
+            n = 0;
+            awaiting = !marked;
+        }
     }
-    if (r->awaiting) return 1;
-    if (fits(r->format, kept, byte)) {
-        r->kept[kept] = byte;
-        if (kept + 1u == size) return WHOLE;
-        r->count++;
-        return 0;
-    }
-    if (marked && fits(r->format, 0, byte)) {
-        clear(r, 0);
-        r->kept[0] = byte;
-        r->count = 1;
-        return kept;
-    }
-    clear(r, 1);
-    return kept + 1;
+    for (unsigned i = 0; i < 5; i++) r->kept[i] = i < n ? kept[i] : 0;
+    r->count = (uint8_t)n, r->awaiting = (uint8_t)awaiting;
+    counts->taken = at, counts->reports = reports, counts->dropped = dropped;
+    return refusal;
 }
 
 uint8_t plain_fresh(istrolf_reader *r, uint8_t letter) {
     int known = size_of(letter) > 0;
+    memset(r, 0, sizeof *r);
     r->format = known ? letter : 'U';
-    clear(r, 1);
+    r->awaiting = !is_marked(r->format);
     return known ? ISTROLF_OK : ISTROLF_BAD_LETTER;
 }
 
-uint8_t plain_step(istrolf_reader *r, uint16_t word, plain_answer *answer) {
-    answer->reports = answer->dropped = 0;
-    if (!good_reader(r)) return ISTROLF_BAD_STATE;
-    if (word > 257) return ISTROLF_BAD_WORD;
-    uint8_t said = hear(r, size_of(r->format), is_marked(r->format), word);
-    if (said == WHOLE) {
-        decode(r->format, r->kept, &answer->report);
-        clear(r, 0);
-        answer->reports = 1;
-    } else {
-        answer->dropped = said;
+uint8_t plain_read(istrolf_reader *r, const uint16_t *words, size_t count, int16_t *out, size_t room, plain_counts *counts) {
+    counts->taken = counts->reports = counts->dropped = 0;
+    switch (r->format) {
+    case 'S': return read_in('S', r, words, count, out, room, counts);
+    case 'V': return read_in('V', r, words, count, out, room, counts);
+    case 'A': return read_in('A', r, words, count, out, room, counts);
+    case 'B': return read_in('B', r, words, count, out, room, counts);
+    case 'U': return read_in('U', r, words, count, out, room, counts);
+    case 'T': return read_in('T', r, words, count, out, room, counts);
+    case 'W': return read_in('W', r, words, count, out, room, counts);
+    default: return ISTROLF_BAD_STATE;
     }
-    return ISTROLF_OK;
 }
 
-uint8_t plain_read(istrolf_reader *r, const uint16_t *words, size_t count, int16_t *out, size_t room, plain_counts *counts) {
-    plain_counts c = {0, 0, 0};
-    istrolf_reader s = *r;
-    unsigned size = size_of(s.format);
-    int marked = is_marked(s.format);
-    *counts = c;
-    if (!good_reader(r)) return ISTROLF_BAD_STATE;
-    for (; c.taken < count && words[c.taken] <= 257; c.taken++) {
-        uint8_t said = hear(&s, size, marked, words[c.taken]);
-        if (said != WHOLE) {
-            c.dropped += said;
-            continue;
-        }
-        if (room < 5) {
-            s.kept[size - 1] = 0;
-            *r = s, *counts = c;
-            return ISTROLF_OK;
-        }
-        istrolf_report p;
-        decode(s.format, s.kept, &p);
-        out[0] = p.buttons, out[1] = p.x1, out[2] = p.y1, out[3] = p.x2, out[4] = p.y2;
-        out += 5, room -= 5, c.reports++;
-        clear(&s, 0);
+uint8_t plain_step(istrolf_reader *r, uint16_t word, plain_answer *answer) {
+    int16_t out[5];
+    plain_counts c;
+    uint8_t refusal = plain_read(r, &word, 1, out, 5, &c);
+    answer->reports = (uint8_t)c.reports, answer->dropped = (uint8_t)c.dropped;
+    if (c.reports > 0) {
+        istrolf_report p = {(uint8_t)out[0], out[1], out[2], out[3], out[4]};
+        answer->report = p;
     }
-    *r = s, *counts = c;
-    return c.taken < count ? ISTROLF_BAD_WORD : ISTROLF_OK;
+    return refusal;
 }
 
 /* ---- The box */
@@ -412,13 +409,13 @@ static uint8_t *put_number(uint8_t *to, int number, int width) {
 
 static uint8_t *put_line(uint8_t *to, const char *letter, uint32_t line) { return put_number(put_text(to, letter), (int)line, 4); }
 
-static uint8_t *put_report(uint8_t *to, uint8_t format, uint32_t line, const istrolf_report *p) {
+static uint8_t *put_report(uint8_t *to, uint8_t format, uint32_t line, const int16_t *p) {
     to = put_text(put_line(to, "R\t", line), "\t");
-    *to++ = p->buttons & 4 ? 'L' : '-';
-    *to++ = format == 'V' ? '?' : p->buttons & 2 ? 'M' : '-';
-    *to++ = p->buttons & 1 ? 'R' : '-';
-    to = put_number(put_text(to, "\t"), p->x1 + p->x2, 1);
-    return put_text(put_number(put_text(to, "\t"), p->y1 + p->y2, 1), "\n");
+    *to++ = p[0] & 4 ? 'L' : '-';
+    *to++ = format == 'V' ? '?' : p[0] & 2 ? 'M' : '-';
+    *to++ = p[0] & 1 ? 'R' : '-';
+    to = put_number(put_text(to, "\t"), p[1] + p[3], 1);
+    return put_text(put_number(put_text(to, "\t"), p[2] + p[4], 1), "\n");
 }
 
 /* The word of a line, or -1. */
@@ -448,32 +445,20 @@ static uint8_t *take_line(istrolf_lister *m, uint8_t *to) {
         m->ended = 1;
         to = put_text(put_line(to, "E\t", m->line), "\n");
     } else {
-        uint8_t said = hear(r, size_of(r->format), is_marked(r->format), (uint16_t)word);
-        if (said == WHOLE) {
-            istrolf_report p;
-            decode(r->format, r->kept, &p);
-            clear(r, 0);
-            to = put_report(to, r->format, m->line, &p);
-        } else if (said > 0) {
-            to = put_text(put_number(put_text(put_line(to, "D\t", m->line), "\t"), said, 1), "\n");
-        }
+        int16_t report[5];
+        plain_counts c;
+        uint16_t one = (uint16_t)word;
+        plain_read(r, &one, 1, report, 5, &c);
+        if (c.reports > 0) to = put_report(to, r->format, m->line, report);
+        if (c.dropped > 0) to = put_text(put_number(put_text(put_line(to, "D\t", m->line), "\t"), (int)c.dropped, 1), "\n");
     }
     m->count = 0;
     return to;
 }
 
-static int good_lister(const istrolf_lister *m) { return m->ended <= 1 && m->line <= MOST_LINES && m->count <= 5 && good_reader(&m->reader); }
+static int good_lister(const istrolf_lister *m) { return m->ended <= 1 && m->line <= MOST_LINES && m->count <= 5 && good_reader(m->reader.format, &m->reader); }
 
 static uint8_t *open_listing(const istrolf_lister *m, uint8_t *to) { return m->line == 0 && m->count == 0 && !m->ended ? put_text(to, "L\t4\n") : to; }
-
-/* What was written to text goes out, if there is room. */
-static int put_out(const uint8_t *text, const uint8_t *end, uint8_t *out, size_t room, size_t *written) {
-    size_t length = (size_t)(end - text);
-    if (length > room - *written) return 0;
-    memcpy(out + *written, text, length);
-    *written += length;
-    return 1;
-}
 
 void plain_lister(istrolf_lister *m) {
     memset(m, 0, sizeof *m);
@@ -481,25 +466,28 @@ void plain_lister(istrolf_lister *m) {
 }
 
 uint8_t plain_feed(istrolf_lister *m, const uint8_t *input, size_t count, uint8_t *out, size_t room, size_t *taken, size_t *written) {
-    uint8_t text[ISTROLF_LISTER_ROOM];
+    size_t at = 0, used = 0;
     *taken = *written = 0;
     if (!good_lister(m)) return ISTROLF_BAD_STATE;
-    for (; *taken < count && !m->ended; ++*taken) {
-        uint8_t byte = input[*taken];
-        int whole = byte == '\n' || m->count == 5;
+    for (; at < count && !m->ended; at++) {
+        int whole = input[at] == '\n' || m->count == 5;
         if (!whole && (m->line > 0 || m->count > 0)) {
-            m->held[m->count++] = byte;
+            m->held[m->count++] = input[at];
             continue;
         }
+        uint8_t text[ISTROLF_LISTER_ROOM], *end = open_listing(m, text);
         istrolf_lister next = *m;
-        uint8_t *end = open_listing(m, text);
-        if (byte != '\n' && next.count < 5) next.held[next.count] = byte;
-        if (byte != '\n') next.count++;
+        if (!whole) next.held[next.count] = input[at];
+        if (input[at] != '\n') next.count++;
         if (whole) end = take_line(&next, end);
-        if (!put_out(text, end, out, room, written)) return ISTROLF_OK;
+        size_t length = (size_t)(end - text);
+        if (length > room - used) break;
+        memcpy(out + used, text, length);
+        used += length;
         *m = next;
     }
-    *taken = count; /* behind the end nothing is looked at */
+    *taken = m->ended ? count : at; /* behind the end nothing is looked at */
+    *written = used;
     return ISTROLF_OK;
 }
 
@@ -510,7 +498,11 @@ uint8_t plain_finish(istrolf_lister *m, uint8_t *out, size_t room, size_t *writt
     if (!good_lister(m)) return ISTROLF_BAD_STATE;
     if (!next.ended && next.count > 0) end = take_line(&next, end);
     if (!next.ended) end = next.line == 0 ? put_text(end, "E\t0001\n") : put_text(put_number(put_text(end, "H\t"), next.reader.count, 1), "\n");
-    next.ended = 1;
-    if (put_out(text, end, out, room, written)) *m = next;
+    size_t length = (size_t)(end - text);
+    if (length > room) return ISTROLF_OK;
+    memcpy(out, text, length);
+    *written = length;
+    *m = next;
+    m->ended = 1;
     return ISTROLF_OK;
 }
