@@ -2,9 +2,12 @@
 #include "plain.h"
 #include <string.h>
 
+/* What goes by the letter of a format is inlined, so that plain_read, which calls it with constants, has a loop for each format. */
+#define INLINE static inline __attribute__((always_inline))
+
 /* ---- Formats */
 
-static unsigned size_of(uint8_t letter) {
+INLINE unsigned size_of(uint8_t letter) {
     switch (letter) {
     case 'S': case 'V': case 'T': return 3;
     case 'A': case 'B': case 'U': case 'W': return 5;
@@ -12,14 +15,14 @@ static unsigned size_of(uint8_t letter) {
     }
 }
 
-static int is_marked(uint8_t letter) { return letter == 'S' || letter == 'V' || letter == 'A' || letter == 'B'; }
+INLINE int is_marked(uint8_t letter) { return letter == 'S' || letter == 'V' || letter == 'A' || letter == 'B'; }
 
 static int odd(uint8_t byte) { return __builtin_parity(byte); }
 
 static int digit(uint8_t c) { return c >= '0' && c <= '9' ? c - '0' : c >= 'A' && c <= 'F' ? c - 'A' + 10 : -1; }
 
 /* May this byte stand at this place? */
-static int fits(uint8_t letter, unsigned place, uint8_t byte) {
+INLINE int fits(uint8_t letter, unsigned place, uint8_t byte) {
     switch (letter) {
     case 'S': return place == 0 ? (byte & 0xE0) == 0x80 : byte < 0x80;
     case 'V': return (byte & 0xC0) == (place == 0 ? 0x40 : 0);
@@ -36,7 +39,7 @@ static int fits(uint8_t letter, unsigned place, uint8_t byte) {
 static int16_t signed_of(unsigned value, unsigned bits) { return (int16_t)(value >> (bits - 1) ? (int)value - (1 << bits) : (int)value); }
 
 /* The five numbers of a report: buttons, x1, y1, x2, y2. */
-static void decode(uint8_t letter, const uint8_t *b, int16_t *out) {
+INLINE void decode(uint8_t letter, const uint8_t *b, int16_t *out) {
     out[3] = out[4] = 0;
     switch (letter) {
     case 'S':
@@ -132,15 +135,15 @@ uint8_t plain_encode(uint8_t letter, const istrolf_report *p, uint8_t *buffer, s
 
 /* ---- The reader */
 
-static inline int good_reader(uint8_t letter, const istrolf_reader *r) {
+INLINE int good_reader(uint8_t letter, const istrolf_reader *r) {
     if (r->count >= size_of(letter) || r->awaiting > (r->count == 0 && !is_marked(letter))) return 0;
     for (unsigned i = 0; i < 5; i++)
         if (i < r->count ? !fits(letter, i, r->kept[i]) : r->kept[i] != 0) return 0;
     return 1;
 }
 
-/* The reader of one format: called with a constant letter, so that the compiler makes a loop for each. */
-static inline uint8_t read_in(uint8_t letter, istrolf_reader *r, const uint16_t *words, size_t count, int16_t *out, size_t room, plain_counts *counts) {
+/* The words of a line to a reader of this format. */
+INLINE uint8_t read_in(uint8_t letter, istrolf_reader *r, const uint16_t *words, size_t count, int16_t *out, size_t room, plain_counts *counts) {
     unsigned size = size_of(letter), n = r->count;
     int marked = is_marked(letter), awaiting = r->awaiting;
     size_t at = 0, reports = 0, dropped = 0;
