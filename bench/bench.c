@@ -429,11 +429,25 @@ static void check_states(void) {
         refusal = plain_event(&b, e, &word);
         same(s.refusal == refusal && s.sent == (word != PLAIN_NO_WORD) && s.word == (s.sent ? word : 0) && same_box(&s.next, &b), "answer to a box", i);
         last = s.refusal ? istrolf_box_fresh() : s.next;
+
+        istrolf_lister m = {(uint32_t)(drawn(4) == 0 ? 9990 + drawn(20) : drawn(3)), (uint8_t)(drawn(16) == 0 ? drawn(3) : 0), {'B', '\t', '1', '2', '3'}, drawn(8), ours};
+        size_t taken, written, room = drawn(60);
+        memset(listing, '.', 60), memset(other_listing, '.', 60);
+        istrolf_listed f = istrolf_lister_feed(m, (const uint8_t *)"5\nQ\n", 4, listing, room);
+        refusal = plain_feed(&m, (const uint8_t *)"5\nQ\n", 4, other_listing, room, &taken, &written);
+        same(f.refusal == refusal && f.ended == m.ended && f.taken == taken && f.written == written && same_lister(&f.next, &m), "answer to a lister", i);
+        same(memcmp(listing, other_listing, 60) == 0, "text of a lister", i);
+        f = istrolf_lister_finish(f.next, listing, room);
+        refusal = plain_finish(&m, other_listing, room, &written);
+        same(f.refusal == refusal && f.ended == m.ended && f.written == written && same_lister(&f.next, &m), "end of a lister", i);
+        same(memcmp(listing, other_listing, 60) == 0, "last text of a lister", i);
         if (different) return;
     }
 }
 
-/* Recordings of a few lines of which one is damaged, or that are too long by a line. */
+static int is_digit(uint8_t c) { return c >= '0' && c <= '9'; }
+
+/* Recordings of a few lines of which one is damaged, with numbers around 255, or that are too long by a line. */
 static void check_bad_recordings(void) {
     for (size_t i = 0; i < WORDS && !different; i++) {
         letter = (uint8_t)letters[drawn(7)];
@@ -441,12 +455,14 @@ static void check_bad_recordings(void) {
         seed = i;
         make_recording();
         size_t length = ends[drawn(20)];
-        text[drawn(length)] = (uint8_t)"\n\tBXQF019 \r"[drawn(11)];
+        size_t at = drawn(length);
+        if (is_digit(text[at]) && is_digit(text[at + 1]) && is_digit(text[at + 2])) text[at] = '2', text[at + 1] = '5', text[at + 2] = (uint8_t)('4' + drawn(4));
+        if (drawn(2) == 0) text[drawn(length)] = (uint8_t)"\n\tBXQF0126 \r"[drawn(12)];
         if (drawn(4) == 0) length--;
         check_recording(length);
         if (i % 100 != 0) continue;
-        for (size_t line = 1, at = 4; line < 10001; line++) text[at++] = 'Q', text[at++] = '\n';
-        text[0] = 'F', text[1] = '\t', text[2] = letter, text[3] = '\n';
+        make_recording();
+        for (size_t i = 4; i < 4 + 2 * 10000; i += 2) text[i] = 'Q', text[i + 1] = '\n';
         check_recording(4 + 2 * (9996 + drawn(5)) + drawn(2));
     }
 }

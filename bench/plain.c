@@ -433,17 +433,18 @@ static int word_on(const uint8_t *line, size_t length) {
     return byte < 256 ? byte : -1;
 }
 
-/* A whole line, of which more than five bytes are none; its text. */
+/* A whole line, of which five bytes are held at most, and its text. */
 static uint8_t *take_line(istrolf_lister *m, uint8_t *to) {
-    istrolf_reader *r = &m->reader;
-    int word = m->count <= 5 ? word_on(m->held, m->count) : -1;
+    size_t length = m->count;
+    int word = length <= 5 ? word_on(m->held, length) : -1;
+    m->count = 0;
     if (m->line == MOST_LINES) {
         m->ended = 1;
         return put_text(to, "E\tover\n");
     }
     m->line++;
-    if (m->line == 1 && m->count == 3 && m->held[0] == 'F' && m->held[1] == '\t' && size_of(m->held[2]) > 0) {
-        plain_fresh(r, m->held[2]);
+    if (m->line == 1 && length == 3 && m->held[0] == 'F' && m->held[1] == '\t' && size_of(m->held[2]) > 0) {
+        plain_fresh(&m->reader, m->held[2]);
     } else if (m->line == 1 || word < 0) {
         m->ended = 1;
         to = put_text(put_line(to, "E\t", m->line), "\n");
@@ -451,11 +452,10 @@ static uint8_t *take_line(istrolf_lister *m, uint8_t *to) {
         int16_t report[5];
         plain_counts c;
         uint16_t one = (uint16_t)word;
-        plain_read(r, &one, 1, report, 5, &c);
-        if (c.reports > 0) to = put_report(to, r->format, m->line, report);
+        plain_read(&m->reader, &one, 1, report, 5, &c);
+        if (c.reports > 0) to = put_report(to, m->reader.format, m->line, report);
         if (c.dropped > 0) to = put_text(put_number(put_text(put_line(to, "D\t", m->line), "\t"), (int)c.dropped, 1), "\n");
     }
-    m->count = 0;
     return to;
 }
 
