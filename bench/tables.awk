@@ -7,7 +7,7 @@ function five(kind, key) {
     return sprintf(" %.1f | %.1f | %.1f | %s | %s |", ours[kind, key], c[kind "-O2", key], c[kind "-O3", key], ratio(ours[kind, key], c[kind "-O2", key]), ratio(ours[kind, key], c[kind "-O3", key]))
 }
 
-# Of a part and a kind: the least and the greatest ratio, and that of all its streams together.
+# Of a part and a kind: the geometric mean of the ratios, the least and the greatest.
 function range(kind, part, level,   i, r, least, most, a, b) {
     least = 1e9
     for (i = 1; i <= rows; i++) {
