@@ -25,8 +25,9 @@ pub(crate) fn digit_of(n: u8) -> u8
 pub(crate) fn number_of(b: u8) -> u8
     ensures { λ r. ⌜ r ≡ undigit b ⌝ }
 {
-    if is_digit(b) {
-        return b % 16 + b / 64 * 9;
+    match b {
+        b'0'..=b'9' => b - b'0',
+        b'A'..=b'F' => 10 + (b - b'A'),
+        _ => 0,
     }
-    0
 }

@@ -1,35 +1,57 @@
--- `number_of`: a digit's low four bits, and nine more for a letter; what is no digit counts as 0.
-use Prim.Native.Nat.{ℕ, _+_, _*_, _/_, _%_, _<_}
-use mathlib.Core.Path.{_≡_, sym, _∙_}
-use mathlib.Core.Bool.{true, false, not}
+-- `number_of`: the two ranges of digits, and what lies outside them.
+use Prim.Native.Nat.{ℕ, _≤_, _<_, _+_, _-_}
 use borrow.Author.Needs.{needs}
-use Rattle.numbers.proofs.Tested.{equal-if}
-use Rattle.wire.specs.Digits.{isDigit, undigit}
+use borrow.Author.Tests.{le-leb, lt-leb}
+use mathlib.Core.Path.{_≡_}
+use native.Mathlib.Omega.{arith}
+use Rattle.wire.specs.Digits.{undigit}
 use Rattle.wire.proofs.digits.number_of.Statement.{statement}
 use Rattle.wire.proofs.digits.number_of.Tie as tie
 
-digits : (b : ℕ) → b < 256 → isDigit b ≡ true → b % 16 + b / 64 * 9 ≡ undigit b
+decimal : (b : ℕ) → 48 ≤ b → b ≤ 57 → b - 48 ≡ undigit b
 unfolding undigit
-digits = equal-if isDigit (λ n. n % 16 + n / 64 * 9) undigit 256 tt
+decimal b h k = simp (le-leb 48 b h, le-leb b 57 k)
 
-others : (b : ℕ) → b < 256 → isDigit b ≡ false → 0 ≡ undigit b
+letter : (b : ℕ) → 65 ≤ b → b ≤ 70 → 10 + (b - 65) ≡ undigit b
 unfolding undigit
-others b h e = equal-if (λ n. not (isDigit n)) (λ n. 0) undigit 256 tt b h (rw e)
+letter b h k =
+    let l : 57 < b = omega arith in
+    let m : 48 ≤ b = omega arith in
+    simp (le-leb 48 b m, lt-leb b 57 l, le-leb 65 b h, le-leb b 70 k)
 
-is-digit-requires : tie.Need-is-digit-requires
-is-digit-requires c κs = search needs
+below : (b : ℕ) → b < 48 → 0 ≡ undigit b
+unfolding undigit
+below b h = let k : b < 65 = omega arith in simp (lt-leb 48 b h, lt-leb 65 b k)
 
-mul-result : tie.Need-mul-result
-mul-result c = search needs
+amid : (b : ℕ) → 57 < b → b < 65 → 0 ≡ undigit b
+unfolding undigit
+amid b h k = let l : 48 ≤ b = omega arith in simp (le-leb 48 b l, lt-leb b 57 h, lt-leb 65 b k)
+
+above : (b : ℕ) → 70 < b → 0 ≡ undigit b
+unfolding undigit
+above b h =
+    let k : 57 < b = omega arith in
+    let l : 48 ≤ b = omega arith in
+    let m : 65 ≤ b = omega arith in
+    simp (le-leb 48 b l, lt-leb b 57 k, le-leb 65 b m, lt-leb b 70 h)
 
 add-result : tie.Need-add-result
 add-result c = search needs
 
 returns : tie.Need-returns
-returns c = let d = c .before in digits (d .before .args .b) (d .before .fits .b .fits) (sym (d .is-digit .ensures) ∙ c .if1 .taken)
+returns c = decimal (c .before .before .args .b) (omega arith) (omega arith)
 
 returns-2 : tie.Need-returns-2
-returns-2 c = let d = c .before in others (d .before .args .b) (d .before .fits .b .fits) (sym (d .is-digit .ensures) ∙ c .if1 .left)
+returns-2 c = letter (c .before .before .before .before .args .b) (omega arith) (omega arith)
+
+returns-3 : tie.Need-returns-3
+returns-3 c = below (c .before .args .b) (omega arith)
+
+returns-4 : tie.Need-returns-4
+returns-4 c = amid (c .before .before .before .args .b) (omega arith) (omega arith)
+
+returns-5 : tie.Need-returns-5
+returns-5 c = above (c .before .before .before .before .args .b) (omega arith)
 
 pub number-of-spec : {M : Type 1} → statement M
-number-of-spec = tie.close (tie.spec is-digit-requires mul-result add-result returns returns-2)
+number-of-spec = tie.close (tie.spec add-result returns returns-2 returns-3 returns-4 returns-5)
