@@ -32,12 +32,12 @@ END {
     if (rows == 0) exit 1
     parts = split("read step encode box list", part, " ")
     split("The long read, a word|The step, a word|The encoder, a report|The box, an event|The lister, a line", title, "|")
-    best = counted ? "count" : "time"
-    print "Measured on " machine ". Ours over C in " (counted ? "instructions" : "time") ", over all streams and formats of a part: the geometric mean, the least and the greatest."
+    print "Measured on " machine ". Ours over C, over all streams and formats of a part: the geometric mean, and the least and the greatest."
     print ""
-    print "| Part | ours / C -O2 | from, to | ours / C -O3 | from, to |"
-    print "|---|---|---|---|---|"
-    for (p = 1; p <= parts; p++) print "| " title[p] " |" range(best, part[p], "-O2") range(best, part[p], "-O3")
+    print "| Part |" (counted ? " instructions: ours / -O2 | from, to | ours / -O3 | from, to |" : "") " time: ours / -O2 | from, to | ours / -O3 | from, to |"
+    print "|---|" (counted ? "---|---|---|---|" : "") "---|---|---|---|"
+    for (p = 1; p <= parts; p++)
+        print "| " title[p] " |" (counted ? range("count", part[p], "-O2") range("count", part[p], "-O3") : "") range("time", part[p], "-O2") range("time", part[p], "-O3")
     for (p = 1; p <= parts; p++) {
         print ""
         print "### " title[p]
