@@ -10,7 +10,7 @@ use borrow.Rule.Slice.PartMut.{putMid}
 use Rattle.wire.proofs.Letters.{at-most-five}
 use Rattle.reader.specs.Line.{whole}
 use Rattle.reader.specs.Parts.{Stands, Sized}
-use Rattle.reader.proofs.Loop.{Far, far, more, unchanged, ends-before, ends-all}
+use Rattle.reader.proofs.Loop.{far, more, unchanged, ends-before, ends-all}
 use Rattle.reader.proofs.Reader.line.Statement.{statement}
 use Rattle.reader.proofs.Reader.line.Tie as tie
 

@@ -3,7 +3,6 @@ use borrow.Author.Needs.{needs}
 use mathlib.Core.Path.{refl, _∙_}
 use mathlib.Core.Logic.{inr}
 use mir.Syntax.{w16}
-use native.Mathlib.Omega.{arith}
 use Rattle.numbers.proofs.Machine.{kept}
 use Rattle.wire.proofs.Fields.{twelve-below, buttons-A}
 use Rattle.wire.specs.Reading.{readB}

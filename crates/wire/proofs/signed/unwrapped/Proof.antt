@@ -10,7 +10,7 @@ use lib.Dec.{ltb}
 use lib.IntN.{ℤ, pos, negsuc, negℤ, _+ℤ_, _-ℤ_, pos-+ℤ-pos, negℤ-+ℤ, +ℤ-assoc, +ℤ-invr, +ℤ-idl, +ℤ-negℤ-cancel}
 use borrow.Author.Tests.{ltb-true, ltb-false}
 use mir.Syntax.{w16}
-use mir.Val.{SFits, toZ}
+use mir.Val.{toZ}
 use mir.ValLaws.{toZ-pos}
 use lib.Signed.{mag}
 use Rattle.numbers.specs.Signed.{untwos}
