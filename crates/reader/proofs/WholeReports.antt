@@ -24,7 +24,8 @@ use Rattle.reader.specs.Good.{good}
 use Rattle.reader.specs.Rules.{finishes, more, keep, byteOf, silenceOf, dropping, wordOf}
 use Rattle.reader.specs.Counts.{droppedAmong}
 use Rattle.reader.specs.Line.{reads}
-use Rattle.reader.specs.Parts.{Stands, brings, fitsWord, wholeBy, bytesAt}
+use Rattle.reader.specs.Parts.{Stands}
+use Rattle.reader.specs.Whole.{brings, fitsWord, wholeBy, bytesAt}
 use Rattle.reader.specs.declared.Reader.{Reader}
 use Rattle.reader.specs.declared.Answer.the-variants.{Nothing, Report}
 use Rattle.reader.proofs.Parts.{zeros}

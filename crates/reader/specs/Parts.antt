@@ -1,18 +1,13 @@
 -- A part of a line, read apart: where a long read stands behind it.
-use Prim.Native.Nat.{ℕ, _*_, _%_, _<_}
+use Prim.Native.Nat.{ℕ, _*_, _<_}
 use mathlib.Core.Path.{_≡_}
-use mathlib.Core.Bool.{Bool, true, cond, _&&_}
-use mathlib.Core.List.{List, [], _∷_}
-use lib.ListN.{length, getD}
-use lib.Dec.{ltb}
+use mathlib.Core.Bool.{Bool, true}
+use mathlib.Core.List.{List, []}
+use lib.ListN.{length}
 use lib.IntN.{ℤ}
-use Rattle.numbers.specs.Tests.{each}
-use Rattle.frames.specs.Words.{isByte}
-use Rattle.wire.specs.Places.{fitsBy}
 use Rattle.fold.specs.Fold.{ran, run, Part}
 use Rattle.wire.specs.Line.{sizeBy, markedBy}
 use Rattle.reader.specs.Good.{good}
-use Rattle.reader.specs.Rules.{entered}
 use Rattle.reader.specs.Counts.{handedOut, droppedAmong}
 use Rattle.reader.specs.Line.{reads}
 use Rattle.reader.specs.declared.Reader.{Reader}
@@ -38,20 +33,3 @@ pub record Begins (size : ℕ) (marked : Bool) (r : Reader) (words : List ℕ) (
   pub stands : Stands r words before (t .next) (t .taken) (5 * t .reports) (t .reports) (t .dropped) after
   pub stops : t .taken ≡ 0 → run reads r words (length before) ≡ ran (t .refusal) r []
   pub sized : Sized size marked (t .next)
-
--- the byte that a word brings, as it enters, and whether the word is a byte that fits a place
-abbrev pub brings : ℕ → ℕ → ℕ
-brings letter w = entered letter (w % 256)
-
-abbrev pub fitsWord : ℕ → ℕ → ℕ → Bool
-fitsWord letter place w = isByte w && fitsBy letter place (brings letter w)
-
--- words begin with a whole report: each of the first of them is a byte that fits its place
-abbrev pub wholeBy : ℕ → ℕ → List ℕ → Bool
-wholeBy letter size words = each (λ i. fitsWord letter i (getD words i 0)) size
-
--- the bytes of the report, and 0 in the places behind them
-abbrev pub bytesAt : ℕ → ℕ → List ℕ → List ℕ
-bytesAt letter size words =
-    let byte : ℕ → ℕ = λ i. cond (ltb i size) (brings letter (getD words i 0)) 0 in
-    byte 0 ∷ byte 1 ∷ byte 2 ∷ byte 3 ∷ byte 4 ∷ []

@@ -9,7 +9,7 @@ use lib.ListN.{getD}
 use denote.Ref.{now}
 use borrow.Author.Tests.{not-true, not-false}
 use borrow.Author.Needs.{needs}
-use Rattle.reader.specs.Parts.{fitsWord, wholeBy}
+use Rattle.reader.specs.Whole.{fitsWord, wholeBy}
 use Rattle.reader.proofs.WholeReports.{three-or-more, or-five}
 use Rattle.reader.proofs.whole.whole.Statement.{statement}
 use Rattle.reader.proofs.whole.whole.Tie as tie
