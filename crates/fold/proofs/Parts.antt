@@ -1,11 +1,11 @@
 -- Parts of a line, one behind the other.
-use Prim.Native.Nat.{ℕ, suc, _+_, _-_, _<_, _≤_}
+use Prim.Native.Nat.{ℕ, _+_, _-_, _≤_}
 use mathlib.Core.Path.{_≡_, refl, sym, _∙_, ap}
-use mathlib.Core.Bool.{true, false}
+use mathlib.Core.Bool.{true}
 use mathlib.Core.List.{List, [], _∷_, _++_, append-assoc, append-nil}
 use native.Mathlib.Omega.{arith}
-use lib.ListN.{length, getD, take, drop, length-append, length-drop, drop-of-length-le}
-use lib.Seq.{take-all, drop-cons, drop-drop, take-at, drop-at}
+use lib.ListN.{length, take, drop, length-append, length-drop, drop-of-length-le}
+use lib.Seq.{take-all, drop-drop, take-at, drop-at}
 use borrow.Rule.Slice.PartMut.{putMid}
 use Rattle.fold.specs.Fold.{Machine, ran, behind, written, places, takes, run, Part}
 use Rattle.fold.proofs.Laws.{written-append, within}
@@ -84,17 +84,3 @@ module _ {S A X : Type 0} (m : Machine S A X) where
     pub part-all : length words ≤ at → run m s words (length before) ≡ ran 0 t l
     unfolding run
     part-all h = part-ends 0 (rw (drop-of-length-le words h))
-
-    -- one word more: it stops the run, or is taken and its answer stands behind what was written
-    module _ (left : at < length words) where
-      abbrev w : ℕ
-      w = getD words at 0
-
-      pub part-stops : takes m t w (length before - used) ≡ false → run m s words (length before) ≡ ran (m .refusal t w) t l
-      unfolding run
-      part-stops e = part-ends (m .refusal t w) (rw (drop-cons words at 0 left, e))
-
-      pub one-more : takes m t w (length before - used) ≡ true → Part m s words before (l ++ (m .answer t w ∷ [])) (at + 1) (used + places m t w) (m .next t w) (take used mid ++ m .writes (m .answer t w) ++ drop (used + places m t w) mid)
-      one-more e =
-          let q = one t w (drop (suc at) words) (drop used mid) (rw (part-left, length-drop used before) e) in
-          rw append-assoc (joins (rw (← drop-cons words at 0 left, drop-drop) at q))

@@ -1,24 +1,25 @@
 -- A turn of the feeding loop, and the end.
 use Prim.Native.Nat.{ℕ, _+_, _-_, _<_, _≤_}
-use mathlib.Core.Path.{_≡_, refl, _∙_, ap}
+use mathlib.Core.Path.{_≡_, sym, _∙_, ap}
 use mathlib.Core.Bool.{true, false}
-use mathlib.Core.List.{List, [], _∷_, _++_}
+use mathlib.Core.List.{List, [], _++_, append-assoc}
 use native.Mathlib.Nat.{zero-add}
 use native.Mathlib.Omega.{arith}
 use lib.Dec.{leb}
-use lib.ListN.{length, getD, take, drop}
+use lib.ListN.{length, take, drop, length-drop}
+use lib.Seq.{drop-drop}
 use borrow.Author.Tests.{lt-ltb, le-ltb, leb-true, leb-false, le-leb}
-use Rattle.numbers.proofs.Tested.{left, right}
+use Rattle.numbers.proofs.Tested.{right}
 use Rattle.fold.specs.Fold.{ran, run, Part}
-use Rattle.fold.proofs.Laws as laws
-use Rattle.fold.proofs.Parts.{none, part-within, part-room, part-long, part-all, part-stops, one-more}
+use Rattle.fold.proofs.Parts.{none, part-within, part-room, part-long, joins, part-ends, part-all}
 use Rattle.text.specs.Growth.{shown, textOf, fitsAt, putOf}
 use Rattle.text.specs.declared.Text.{Text}
 use Rattle.text.proofs.Laws.{text-shows, text-long, put-none}
-use Rattle.listing.specs.Feeding.{fedByte, lastOf, feeds, feedIn, finishIn, good}
+use Rattle.listing.specs.Feeding.{lastOf, feeds, Together, Goes, feedIn, finishIn, good}
 use Rattle.listing.specs.Promises.{whole, written, feedOf, finishOf}
 use Rattle.listing.specs.declared.Lister.{Lister}
 use Rattle.listing.specs.declared.Listed.{Listed}
+use Rattle.listing.specs.declared.Front.{Front}
 
 -- a text that is put into a slice, or is not
 module _ (t : Text) (at : ℕ) (out : List ℕ) where
@@ -64,18 +65,24 @@ module _ {m₀ : Lister} {input out₀ : List ℕ} {m : Lister} {at used : ℕ} 
   pub ends-all : length input ≤ at → whole (answerOf 0 m at used) out ≡ written (feedIn m₀ input (length out₀)) out₀
   ends-all h = ends (part-all feeds (s .part) h)
 
-  -- a byte more, whose text has no room, or was put
-  module _ (left : at < length input) where
+  -- the front of what is left, whose text has no room, or was put
+  module _ {f : Front} (g : Goes m (drop at input) (length out - used) f) where
     abbrev text : List ℕ
-    text = fedByte m (getD input at 0) .text
+    text = g .turns .text
 
     pub stops : length out < used + length text → whole (answerOf 0 m at used) out ≡ written (feedIn m₀ input (length out₀)) out₀
-    stops h = ends (part-stops feeds (s .part) left (laws.stops feeds m (getD input at 0) (length out₀ - used) (λ _. omega (arith, far))))
+    stops h = ends (part-ends feeds (s .part) 0 (rw (far .2) at (g .stops (omega (arith, far)))))
+
+    joined : Together m (drop at input) (length out - used) (f .taken) (g .turns)
+        → Stands m₀ input out₀ (g .turns .next) (at + f .taken) (used + length text) (take used out ++ text ++ drop (used + length text) out)
+    joined t =
+        let part : Part feeds m (drop at input) (drop used out) (t .texts) (f .taken) (length text) (g .turns .next) (text ++ drop (length text) (drop used out)) =
+        record { words-are = sym (t .many); places-are = sym (ap length (t .wrote)); wrote = rw (t .wrote); is = rw (length-drop used out) (t .runs) } in
+        record { texts = s .texts ++ t .texts; part = rw (← drop-drop (length text) used out, append-assoc) (joins feeds (s .part) part) }
 
     pub again : (out′ : List ℕ) (n : ℕ) → n ≡ length text → used + n ≤ length out → out′ ≡ take used out ++ text ++ drop (used + n) out
-        → Stands m₀ input out₀ (fedByte m (getD input at 0) .next) (at + 1) (used + n) out′
-    again out′ n size room wrote =
-        record { texts = s .texts ++ (text ∷ []); part = rw (wrote, size) (one-more feeds (s .part) left (laws.taken feeds m (getD input at 0) (length out₀ - used) refl (omega (arith, far)))) }
+        → Stands m₀ input out₀ (g .turns .next) (at + f .taken) (used + n) out′
+    again out′ n long room wrote = rw (wrote, long) (joined (g .goes (omega arith)))
 
 -- a lister that is not good is refused
 pub feed-refused : (m : Lister) (input out : List ℕ) (r : Listed) → good m ≡ false → r ≡ answerOf 6 m 0 0 → whole r out ≡ feedOf m input out

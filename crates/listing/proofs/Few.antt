@@ -20,7 +20,7 @@ use Rattle.listing.specs.Lines.{newline, saidBy}
 use Rattle.listing.specs.Scanning.{width, mostLines, onLine, lineIn, unfinished, takenOf, scannedByte, closedOf, endOf}
 use Rattle.listing.specs.Items.{answerGiven, gaveOf, itemsIn}
 use Rattle.listing.specs.Printing.{fieldOf, fieldsOf, Form, formOf, headOf, lineOf, allBytes}
-use Rattle.listing.specs.Feeding.{unopened, frontOf, closed, itemsOf, fedByte, lastOf, good}
+use Rattle.listing.specs.Feeding.{unopened, frontOf, closed, itemsOf, turning, fedByte, lastOf, good}
 use Rattle.listing.specs.declared.Line.{Line}
 use Rattle.listing.specs.declared.Line.the-variants as line
 use Rattle.listing.specs.declared.Found.{Found}
@@ -137,13 +137,18 @@ few-end r true u h = omega arith
 few-end r false true h = omega (arith, few-form (formOf (item.E 1)) (omega arith, tt), length-append (lineOf width (formOf (item.E 1))) [])
 few-end r false false h = omega (arith, few-form (formOf (item.H (r .count))) (omega arith, tt), length-append (lineOf width (formOf (item.H (r .count)))) [])
 
--- what a byte writes, and what the end of a good lister does
+-- what is found writes, on a line and at a byte, and what the end of a good lister does
+few-turning : (m : Lister) (s : Scan) → Numbered (s .found) → length (turning m s .text) ≤ 40
+few-turning m s h =
+    let g = gaveOf (m .reader) (s .found) .given in
+    omega (arith, few-front m, few-given g (short-gave (m .reader) (s .found) h), length-append (frontOf m) (allBytes width (itemsIn g)))
+
+pub few-line : (m : Lister) (l : Line) → length (turning m (takenOf (m .scanner) l) .text) ≤ 40
+few-line m l = few-turning m (takenOf (m .scanner) l) (numbered-taken (m .scanner) l)
+
 pub few-byte : (m : Lister) (c : ℕ) → length (fedByte m c .text) ≤ 40
 unfolding fedByte
-few-byte m c =
-    let f = scannedByte (m .scanner) c .found in
-    let g = gaveOf (m .reader) f .given in
-    omega (arith, few-front m, few-given g (short-gave (m .reader) f (numbered-byte (m .scanner) c)), length-append (frontOf m) (allBytes width (itemsIn g)))
+few-byte m c = few-turning m (scannedByte (m .scanner) c) (numbered-byte (m .scanner) c)
 
 pub few-last : (m : Lister) → good m ≡ true → length (lastOf m .text) ≤ 40
 unfolding lastOf endOf

@@ -7,6 +7,7 @@ pub mod Ended
 pub mod Feeds
 pub mod Few
 pub mod Five
+pub mod Fronts
 pub mod Grown
 pub mod Keeps
 pub mod Long

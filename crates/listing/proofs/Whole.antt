@@ -52,7 +52,7 @@ line-opened s l = cases (λ (k : Scan). unopened (k .next) ≡ false) (s .ended)
     go true = both-no (eqb (s .line) 0) true
     go false = rw (ne-eqb (s .line + 1) 0 (λ e. omega arith))
 
-byte-opened : (s : Scanner) (c : ℕ) → unopened (scannedByte s c .next) ≡ false
+pub byte-opened : (s : Scanner) (c : ℕ) → unopened (scannedByte s c .next) ≡ false
 unfolding scannedByte
 byte-opened s c =
     let P : Scan → Type 0 = λ k. unopened (k .next) ≡ false in

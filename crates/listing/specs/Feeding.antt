@@ -1,10 +1,11 @@
 -- The lister: the scanner and the reader behind it, fed byte by byte, with the text of each byte; and a piece of the input, which stops for room.
-use Prim.Native.Nat.{ℕ}
+use Prim.Native.Nat.{ℕ, _-_, _<_, _≤_}
+use mathlib.Core.Path.{_≡_}
 use mathlib.Core.Bool.{Bool, not, cond, _&&_}
 use mathlib.Core.List.{List, [], _++_}
-use lib.ListN.{length}
+use lib.ListN.{length, drop}
 use lib.Dec.{ltb, eqb}
-use Rattle.fold.specs.Fold.{Machine, Ran, written, run}
+use Rattle.fold.specs.Fold.{Machine, Ran, ran, behind, written, run}
 use Rattle.reader.specs.Good as reader
 use Rattle.text.specs.Growth.{grownBy, textOf}
 use Rattle.text.specs.declared.Text.{Text}
@@ -18,6 +19,7 @@ use Rattle.listing.specs.declared.Scan.{Scan}
 use Rattle.listing.specs.declared.Scanner.{Scanner}
 use Rattle.listing.specs.declared.Lister.{Lister}
 use Rattle.listing.specs.declared.Turn.{Turn}
+use Rattle.listing.specs.declared.Front.{Front}
 
 -- the lister that was fed nothing yet
 abbrev pub fresh : Lister
@@ -42,9 +44,12 @@ pub record Turning : Type 0 where
   pub next : Lister
   pub text : List ℕ
 
+abbrev pub turning : Lister → Scan → Turning
+turning m s = record { next = after m s; text = frontOf m ++ allBytes width (itemsOf m s) }
+
 -- a byte
 unfoldable pub fedByte : Lister → ℕ → Turning
-fedByte m c = let s = scannedByte (m .scanner) c in record { next = after m s; text = frontOf m ++ allBytes width (itemsOf m s) }
+fedByte m c = turning m (scannedByte (m .scanner) c)
 
 -- the end of the input, behind a last line that may lack its newline
 abbrev pub closed : Lister → Lister
@@ -81,6 +86,22 @@ fed f = record { next = f .next; taken = length (f .answers); text = written fee
 -- it stops before a byte whose text has no room
 unfoldable pub feedIn : Lister → List ℕ → ℕ → Feed
 feedIn m input room = fed (run feeds m input room)
+
+-- bytes at the front of a piece that are taken together: the lister after them, and their text
+pub record Together (m : Lister) (input : List ℕ) (room taken : ℕ) (t : Turning) : Type 0 where
+  pub texts : List (List ℕ)
+  pub many : length texts ≡ taken
+  pub wrote : written feeds texts ≡ t .text
+  pub runs : run feeds m input room ≡ behind texts (run feeds (t .next) (drop taken input) (room - length (t .text)))
+
+-- where their text has room; else the piece ends before them
+pub record Goes (m : Lister) (input : List ℕ) (room : ℕ) (f : Front) : Type 0 where
+  pub turns : Turning
+  pub is : f .turn ≡ turned turns
+  pub few : length (turns .text) ≤ 40
+  pub some : 1 ≤ f .taken
+  pub goes : length (turns .text) ≤ room → Together m input room (f .taken) turns
+  pub stops : room < length (turns .text) → run feeds m input room ≡ ran 0 m []
 
 -- the end: all of it, or nothing where it has no room
 unfoldable pub finishIn : Lister → ℕ → Feed

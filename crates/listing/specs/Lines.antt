@@ -1,5 +1,5 @@
 -- The lines of an input, and what each says.
-use Prim.Native.Nat.{ℕ}
+use Prim.Native.Nat.{ℕ, suc}
 use mathlib.Core.Bool.{cond, _&&_}
 use mathlib.Core.List.{List, [], _∷_}
 use lib.Dec.{leb, eqb}
@@ -27,6 +27,11 @@ front c (l ∷ ls) = (c ∷ l) ∷ ls
 unfoldable pub linesIn : List ℕ → List (List ℕ)
 linesIn [] = []
 linesIn (c ∷ cs) = cond (eqb c newline) ([] ∷ linesIn cs) (front c (linesIn cs))
+
+-- the bytes in front of the first newline, or all where there is none
+abbrev pub lengthIn : List ℕ → ℕ
+lengthIn [] = 0
+lengthIn (c ∷ cs) = cond (eqb c newline) 0 (suc (lengthIn cs))
 
 -- "`B` decimal byte"; "Decimals have no leading zeros"
 abbrev pub byteOf : Number → Line

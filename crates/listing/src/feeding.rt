@@ -1,15 +1,18 @@
 // The lister: the scanner and the reader behind it, fed in pieces, with the text to a lent slice.
 ghost use mathlib.Core.Path.{_≡_};
+ghost use Prim.Native.Nat.{_<_};
 ghost use lib.ListN.{length};
 ghost use Rattle.text.specs.Growth.{textOf};
-ghost use Rattle.listing.specs.Feeding.{frontOf, fedByte, lastOf, turnOf, turned, feedIn, good};
+ghost use Rattle.listing.specs.Feeding.{frontOf, turning, lastOf, turnOf, turned, Goes, feedIn, good};
 ghost use Rattle.listing.specs.Promises.{FreshPromise, FeedPromise, FinishPromise, whole, written};
+use crate::Front;
 use crate::Listed;
 use crate::Lister;
 use crate::Scan;
 use crate::Scanner;
 use crate::Turn;
 use crate::items;
+use crate::lines;
 use crate::printing;
 use reader::Reader;
 use text::Text;
@@ -73,7 +76,34 @@ impl Lister {
         answer(0, next, 0, n)
     }
 
-    // The bytes of a piece, one after the other.
+    // What is at the front of a piece: a line, where it lies whole in it and its text has room, or else a byte.
+    fn first(self, input: &[u8], room: usize) -> Front
+        requires { ⌜ 0 < length (now input) ⌝ }
+        ensures { λ r. ⌜ Goes self (now (input .entry)) room r ⌝ }
+    {
+        let scanner = self.scanner;
+        if input.len() >= 6 {
+            let a = input[0];
+            let b = input[1];
+            let c = input[2];
+            let d = input[3];
+            let e = input[4];
+            let n = lines::length(a, b, c, d, e, input[5]);
+            if (scanner.count == 0) & (n < 6) & (room >= 40) {
+                let line = lines::said_by(n, a, b, c, d, e);
+                return Front {
+                    taken: n + 1,
+                    turn: self.opened(scanner.taken(line)),
+                };
+            }
+        }
+        Front {
+            taken: 1,
+            turn: self.opened(scanner.byte(input[0])),
+        }
+    }
+
+    // The bytes of a piece, one front after the other.
     fn bytes(self, input: &[u8], out: &mut [u8]) -> Listed
         ensures { λ r. ⌜ whole r (now (out .exit)) ≡ written (feedIn self (now (input .entry)) (length (now (out .entry)))) (now (out .entry)) ⌝ }
     {
@@ -81,7 +111,8 @@ impl Lister {
         let mut at: usize = 0;
         let mut used: usize = 0;
         while at < input.len() {
-            let t = m.byte(input[at]);
+            let front = m.first(&input[at..], out.len() - used);
+            let t = front.turn;
             let text = t.text;
             let n = text.len;
             if !text.put(out, used) {
@@ -89,7 +120,7 @@ impl Lister {
             }
             let next = t.next;
             m = next;
-            at = at + 1;
+            at = at + front.taken;
             used = used + n;
         }
         answer(0, m, at, used)
@@ -134,12 +165,11 @@ impl Lister {
         }
     }
 
-    // One byte.
-    fn byte(self, b: u8) -> Turn
-        ensures { λ r. ⌜ r ≡ turned (fedByte self b) ⌝ }
+    // The same behind the opening, where it is still to come.
+    fn opened(self, scan: Scan) -> Turn
+        ensures { λ r. ⌜ r ≡ turned (turning self scan) ⌝ }
     {
-        let scanner = self.scanner;
-        self.turn(self.front(), scanner.byte(b))
+        self.turn(self.front(), scan)
     }
 
     // The last line, and the end of the input behind it.

@@ -106,3 +106,9 @@ pub(crate) struct Turn {
     pub next: Lister,
     pub text: Text,
 }
+
+// The bytes at the front of a piece that are taken together, and the turn that they make.
+pub(crate) struct Front {
+    pub taken: usize,
+    pub turn: Turn,
+}

@@ -2,7 +2,7 @@
 ghost use mathlib.Core.Path.{_≡_};
 ghost use mathlib.Core.List.{[], _∷_};
 ghost use lib.ListN.{take};
-ghost use Rattle.listing.specs.Lines.{byteOf, byteIn, markIn, formatIn, saidBy};
+ghost use Rattle.listing.specs.Lines.{lengthIn, byteOf, byteIn, markIn, formatIn, saidBy};
 use crate::Line;
 use text::Number;
 
@@ -50,6 +50,31 @@ fn decimal(n: usize, c: u8, d: u8, e: u8) -> Line
         return byte(Number::read(&digits[..n], 1));
     }
     byte(Number::read(&digits, 1))
+}
+
+// The bytes in front of the first newline of six; 6 where none of them is one.
+pub(crate) fn length(a: u8, b: u8, c: u8, d: u8, e: u8, f: u8) -> usize
+    ensures { λ r. ⌜ r ≡ lengthIn (a ∷ b ∷ c ∷ d ∷ e ∷ f ∷ []) ⌝ }
+{
+    if a == b'\n' {
+        return 0;
+    }
+    if b == b'\n' {
+        return 1;
+    }
+    if c == b'\n' {
+        return 2;
+    }
+    if d == b'\n' {
+        return 3;
+    }
+    if e == b'\n' {
+        return 4;
+    }
+    if f == b'\n' {
+        return 5;
+    }
+    6
 }
 
 // The line that the first n of five bytes are.

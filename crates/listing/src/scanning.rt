@@ -94,7 +94,7 @@ impl Scanner {
     }
 
     // A whole line: nothing is found after the end.
-    fn taken(self, line: Line) -> Scan
+    pub(crate) fn taken(self, line: Line) -> Scan
         ensures { λ r. ⌜ r ≡ takenOf self line ⌝ }
     {
         if self.ended {

@@ -53,15 +53,6 @@ unfolding twos
 twos-plus half (pos n) t = refl
 twos-plus half (negsuc n) t = absurd (subst T t tt)
 
-pub untwos-low : (half n : ℕ) → n < half → untwos half n ≡ signed true n
-unfolding untwos signed
-untwos-low half n h = simp (lt-ltb n half h)
-
-pub untwos-high : (half n : ℕ) → half ≤ n → n < half + half → untwos half n ≡ signed false (half + half - n)
-unfolding untwos signed
-untwos-high half n h k =
-    let e : half + half - n ≡ suc (half + half - suc n) = omega arith in simp (le-ltb n half h, e)
-
 -- a range of 2 * half numbers is what two's complement holds
 pub within-near : (h : ℕ) (z : ℤ) → leZ (negsuc h) z && leZ z (pos h) ≡ true → mag z < suc h
 within-near h (pos n) e = omega (arith, leb-true n h e)

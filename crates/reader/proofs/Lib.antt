@@ -2,7 +2,7 @@
 -- stay good (Goodness), Counting, Joining, There and Back, nothing before a silence (Awaiting), Useless, sentences of the paper (Sentences, Nowhere), demand 3's
 -- half of the reader (Damaged) with its worked lines (DamagedRuns), lines as they were sent (Followed) with theirs (FollowedRuns), Examples, wrong answers (Wrong);
 -- what enters (Entered) and V's eighth bit (EighthBit); what answers
--- count together (Counted); and what their proofs and those of the functions share.
+-- count together (Counted); a whole report at the front of a line (WholeReports); and what their proofs and those of the functions share.
 pub mod Computing
 pub mod Parts
 pub mod Entered
@@ -14,6 +14,7 @@ pub mod Goodness
 pub mod Counting
 pub mod Bounds
 pub mod Loop
+pub mod WholeReports
 pub mod Refusals
 pub mod Joining
 pub mod Room

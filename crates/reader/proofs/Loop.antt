@@ -1,10 +1,11 @@
 -- The long read's loop: where it stands, the first word of what is left, and how it goes on and ends.
-use mathlib.Core.Path.{_≡_, refl, _∙_}
+use mathlib.Core.Path.{_≡_, refl, sym, _∙_}
 use mathlib.Core.Bool.{Bool}
 use mathlib.Core.List.{List, [], _∷_, _++_}
-use Prim.Native.Nat.{ℕ, _+_, _-_, _*_, _<_, _≤_}
+use Prim.Native.Nat.{ℕ, _+_, _-_, _*_, _/_, _<_, _≤_}
 use native.Mathlib.Omega.{arith}
-use lib.ListN.{length, getD, take, drop, set, length-drop, take-append-drop}
+use native.Mathlib.Nat.{add-zero, zero-add}
+use lib.ListN.{length, getD, take, drop, set, length-drop, take-append-drop, drop-of-length-le}
 use lib.Seq.{sets-eq, drop-cons}
 use lib.IntN.{ℤ, pos}
 use borrow.Rule.Slice.PartMut.{putMid}
@@ -21,7 +22,8 @@ use Rattle.reader.specs.declared.Reader.{Reader}
 use Rattle.reader.specs.declared.Read.{Read}
 use Rattle.reader.specs.declared.Reading.{Reading}
 use Rattle.reader.proofs.Word.{word-format, word-below}
-use Rattle.reader.proofs.Counted.{five-in, five-each, reports-first, reports-both, dropped-both}
+use Rattle.reader.proofs.Keeps.{word-good}
+use Rattle.reader.proofs.Counted.{empty, five-in, five-each, reports-first, reports-both, dropped-both}
 use Rattle.reader.proofs.Bounds.{line-within}
 
 -- five stores at the front
@@ -31,7 +33,7 @@ put-is l p a b c d e h ea eb ec ed ee = sets-eq (a ∷ b ∷ c ∷ d ∷ e ∷ [
 -- what is kept stays below the size, and the format stays
 stays-sized : (size : ℕ) (marked : Bool) (r : Reader) (w : ℕ) → Sized size marked r → Sized size marked (wordOf r w .next)
 stays-sized size marked r w s =
-    record { below = rw (s .sized) (word-below r w (rw (s .sized) at (s .below))); sized = rw (word-format r w) (s .sized); mark = rw (word-format r w) (s .mark) }
+    record { sound = word-good r (s .sound) w; below = rw (s .sized) (word-below r w (rw (s .sized) at (s .below))); sized = rw (word-format r w) (s .sized); mark = rw (word-format r w) (s .mark) }
 
 pub starts : (r : Reader) (words : List ℕ) (out : List ℤ) → Stands r words out r 0 0 0 0 out
 unfolding droppedAmong
@@ -103,13 +105,26 @@ module _ {words : List ℕ} {out₀ out : List ℤ} {r₀ r : Reader} {at used r
         dropped-are = omega (arith, s .dropped-are, q .dropped-are, dropped-both (s .answers) (q .answers));
       }
 
-  -- the rest as the code lends it
+  -- where no word was taken before, the line stops where the rest does
+  pub stops-here : (n : ℕ) → run reads r (drop at words) (length out₀ - used) ≡ ran n r [] → at ≡ 0 → r ≡ r₀ → run reads r₀ words (length out₀) ≡ ran n r₀ []
+  stops-here n e z same = part-ends reads (s .part) n e ∙ rw (same, empty (s .answers) (sym (s .part .words-are) ∙ z))
+
+  -- the rest as the code lends it, with the slice back
+  pub on : {u : Reader} {taken places n d : ℕ} {last : List ℤ} → Stands r (take (length words - at) (drop at words)) (take (length out - used) (drop used out)) u taken places n d last
+      → Stands r₀ words out₀ u (at + taken) (used + places) (reports + n) (dropped + d) (putMid used (length out - used) out last)
+  on {last = last} q = rw (back out last used) (then (rw (rest-is words at, rest-is out used) at q))
+
+  -- words that write nothing
+  pub over : {u : Reader} {taken d : ℕ} → Stands r (take (length words - at) (drop at words)) (drop used out) u taken 0 0 d (drop used out)
+      → Stands r₀ words out₀ u (at + taken) used reports (dropped + d) out
+  over q = rw (add-zero used, add-zero reports, take-append-drop used out) at (then (rw (rest-is words at) at q))
+
   module _ {size : ℕ} {marked : Bool} {t : Reading} {last : List ℤ} (b : Begins size marked r (take (length words - at) (drop at words)) (take (length out - used) (drop used out)) t last) where
     begins : Begins size marked r (drop at words) (drop used out) t last
     begins = rw (rest-is words at, rest-is out used) at b
 
     pub more : Stands r₀ words out₀ (t .next) (at + t .taken) (used + 5 * t .reports) (reports + t .reports) (dropped + t .dropped) (putMid used (length out - used) out last)
-    more = rw (back out last used) (then (begins .stands))
+    more = on (b .stands)
 
     -- it took no word: the slice is as it was, and the read ends
     module _ (z : t .taken ≡ 0) where
@@ -118,3 +133,33 @@ module _ {words : List ℕ} {out₀ out : List ℤ} {r₀ r : Reader} {at used r
 
       pub ends-before : whole (record { refusal = t .refusal; next = r; taken = at; reports = reports; dropped = dropped }) out ≡ lineOf r₀ words out₀
       ends-before = ends (t .refusal) (part-ends reads (s .part) (t .refusal) (rw (part-left reads (s .part), length-drop used out₀) at (begins .stops z)))
+
+-- words one by one, while nothing is written
+module _ {words : List ℕ} {out₀ out : List ℤ} {r₀ r : Reader} {at dropped : ℕ} (s : Stands r₀ words out₀ r at 0 0 dropped out) {size : ℕ} {marked : Bool} where
+  -- the line is at its end
+  pub all-taken : Sized size marked r → (at ≡ 0 → r ≡ r₀) → length words ≤ at → Begins size marked r₀ words out₀ (record { refusal = 0; next = r; taken = at; reports = 0; dropped = dropped }) out
+  unfolding run
+  all-taken kept same h = record { stands = s; stops = λ e. stops-here s 0 (rw (drop-of-length-le words h)) e (same e); sized = kept }
+
+  module _ {t : Reading} {last : List ℤ} (b : Begins size marked r (take (length words - at) (drop at words)) out t last) where
+    pub took : Stands r₀ words out₀ (t .next) (at + t .taken) (5 * t .reports) (t .reports) (dropped + t .dropped) last
+    took = rw (zero-add (5 * t .reports), zero-add (t .reports)) at (then s (rw (rest-is words at) at (b .stands)))
+
+    -- it took no word
+    pub none-taken : Sized size marked r → (at ≡ 0 → r ≡ r₀) → t .taken ≡ 0
+        → Begins size marked r₀ words out₀ (record { refusal = t .refusal; next = r; taken = at; reports = 0; dropped = dropped }) last
+    none-taken kept same z =
+        let room : length out₀ - 0 ≡ length out = omega (arith, part-long reads (s .part)) in
+        record {
+          stands = rw (part-none reads (b .stands .part) z) s;
+          stops = λ e. stops-here s (t .refusal) (rw room (rw (rest-is words at) at (b .stops z))) e (same e);
+          sized = kept;
+        }
+
+-- words one by one, and a run behind them
+pub and-run : {size : ℕ} {marked : Bool} {r : Reader} {words : List ℕ} {out mid : List ℤ} {t : Reading} → Begins size marked r words out t mid → (t .taken ≡ 0 → ⊥) → {taken used : ℕ} {last : List ℤ}
+    → Stands (t .next) (take (length words - t .taken) (drop (t .taken) words)) (take (length mid - 5 * t .reports) (drop (5 * t .reports) mid)) (t .next) taken used (used / 5) 0 last
+    → Begins size marked r words out (record { refusal = 0; next = t .next; taken = t .taken + taken; reports = t .reports + used / 5; dropped = t .dropped }) (putMid (5 * t .reports) (length mid - 5 * t .reports) mid last)
+and-run {t = t} b ne {taken} {used} q =
+    let five : 5 * (t .reports + used / 5) ≡ 5 * t .reports + used = omega (arith, far q .places) in
+    record { stands = rw five (rw (add-zero (t .dropped)) at (on (b .stands) q)); stops = λ e. absurd (ne (omega arith)); sized = b .sized }

@@ -1,11 +1,12 @@
 -- What a good reader has, part by part.
 use native.Mathlib.Omega.{arith}
 use Prim.Native.Nat.{ℕ, _<_}
-use mathlib.Core.Path.{_≡_}
+use mathlib.Core.Path.{_≡_, sym, _∙_}
 use mathlib.Core.Bool.{Bool, true, _&&_}
-use lib.ListN.{length, getD}
+use lib.ListN.{length, getD, replicate, getD-replicate}
+use lib.Seq.{ext-getD}
 use lib.Dec.{eqb}
-use borrow.Author.Tests.{ltb-true, lt-ltb, eqb-true, eq-eqb}
+use borrow.Author.Tests.{ltb-true, lt-ltb, le-ltb, eqb-true, eq-eqb}
 use Rattle.wire.proofs.Letters.{at-most-five}
 use Rattle.numbers.proofs.Tested.{left, right, each-at, each-of}
 use Rattle.wire.specs.Line.{sizeBy, known}
@@ -47,3 +48,11 @@ below-size r g = parts r g .below
 -- there is a place for one more byte
 pub one-more : (r : Reader) → good r ≡ true → r .count < length (r .kept)
 one-more r g = let p = parts r g in omega (arith, p .below, p .five, at-most-five (r .format))
+
+-- a good reader that has no bytes has five zeros
+pub zeros : (r : Reader) → good r ≡ true → r .count ≡ 0 → r .kept ≡ replicate 5 0
+unfolding placed
+zeros r g z =
+    let p = parts r g in
+    ext-getD 0 (r .kept) (replicate 5 0) (p .five)
+    (λ i h. eqb-true (getD (r .kept) i 0) 0 (rw (le-ltb i (r .count) (omega arith)) at (p .places i (omega (arith, p .five)))) ∙ sym (getD-replicate 5 i 0 0 (omega (arith, p .five))))

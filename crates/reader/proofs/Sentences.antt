@@ -4,10 +4,10 @@ use mathlib.Core.Path.{_≡_, refl, sym, _∙_}
 use mathlib.Core.Bool.{Bool, true, false, not, _&&_, _||_}
 use mathlib.Core.List.{[], _∷_}
 use native.Mathlib.Omega.{arith}
-use lib.ListN.{length, getD, replicate, getD-replicate}
-use lib.Seq.{ext-getD, length-take-le}
+use lib.ListN.{length}
+use lib.Seq.{length-take-le}
 use lib.Dec.{eqb, eqb·suc-zero}
-use borrow.Author.Tests.{le-leb, le-ltb, eqb-true, ne-eqb}
+use borrow.Author.Tests.{le-leb, eqb-true, ne-eqb}
 use Rattle.numbers.proofs.Tested.{refused, holds}
 use Rattle.wire.specs.Line.{namedBy, ofNamed, sizeBy, markedOf, markedBy}
 use Rattle.wire.specs.Places.{fitsAt, fitsBy}
@@ -16,13 +16,13 @@ use Rattle.wire.specs.declared.Named.the-variants.{Known, Unknown}
 use Rattle.wire.proofs.Letters.{at-most-five, at-least-three}
 use Rattle.wire.proofs.Codec.{mark}
 use Rattle.reader.specs.State.{reader, keptIn, fresh}
-use Rattle.reader.specs.Good.{placed, good}
+use Rattle.reader.specs.Good.{good}
 use Rattle.reader.specs.Rules.{entered, answered, dropping, keep, start, lose, byteOf, wordOf}
 use Rattle.reader.specs.Promises.{StepPromise}
 use Rattle.reader.specs.declared.Reader.{Reader}
 use Rattle.reader.specs.declared.Read.{Read}
 use Rattle.reader.specs.declared.Answer.the-variants.{Dropped}
-use Rattle.reader.proofs.Parts.{parts}
+use Rattle.reader.proofs.Parts.{parts, zeros}
 use Rattle.reader.proofs.Word.{lost-is}
 use Rattle.reader.proofs.Permitted.{step-is}
 use Rattle.reader.proofs.Goodness.{step-word}
@@ -55,14 +55,6 @@ first-not-later letter place b = go (namedBy letter)
     go : (n : Named) → ofNamed false markedOf n ≡ true → ofNamed false (λ f. fitsAt f 0 b) n ≡ true → ofNamed false (λ f. fitsAt f (suc place) b) n ≡ false
     go (Known f) m h = rw (eqb·suc-zero place) (mark f b m h)
     go Unknown m h = absurd (holds m)
-
--- a good reader that has no bytes has five zeros
-zeros : (r : Reader) → good r ≡ true → r .count ≡ 0 → r .kept ≡ replicate 5 0
-unfolding placed
-zeros r g z =
-    let p = parts r g in
-    ext-getD 0 (r .kept) (replicate 5 0) (p .five)
-    (λ i h. eqb-true (getD (r .kept) i 0) 0 (rw (le-ltb i (r .count) (omega arith)) at (p .places i (omega (arith, p .five)))) ∙ sym (getD-replicate 5 i 0 0 (omega (arith, p .five))))
 
 -- a byte b, as it enters, by the rule that takes it
 module _ (r : Reader) (w : ℕ) (s : Read) (g : good r ≡ true) (byte : w ≤ 255) (e : StepPromise r w s) where

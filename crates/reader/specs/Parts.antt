@@ -1,20 +1,22 @@
 -- A part of a line, read apart: where a long read stands behind it.
 use Prim.Native.Nat.{ℕ, _*_, _<_}
 use mathlib.Core.Path.{_≡_}
-use mathlib.Core.Bool.{Bool}
+use mathlib.Core.Bool.{Bool, true}
 use mathlib.Core.List.{List, []}
 use lib.ListN.{length}
 use lib.IntN.{ℤ}
 use Rattle.fold.specs.Fold.{ran, run, Part}
 use Rattle.wire.specs.Line.{sizeBy, markedBy}
+use Rattle.reader.specs.Good.{good}
 use Rattle.reader.specs.Counts.{handedOut, droppedAmong}
 use Rattle.reader.specs.Line.{reads}
 use Rattle.reader.specs.declared.Reader.{Reader}
 use Rattle.reader.specs.declared.Reading.{Reading}
 use Rattle.reader.specs.declared.Answer.{Answer}
 
--- what a reader keeps over a line: its format, and fewer bytes than a report of it has
+-- what a reader keeps over a line: that it is good, its format, and fewer bytes than a report of it has
 pub record Sized (size : ℕ) (marked : Bool) (r : Reader) : Type 0 where
+  pub sound : good r ≡ true
   pub below : r .count < size
   pub sized : size ≡ sizeBy (r .format)
   pub mark : marked ≡ markedBy (r .format)

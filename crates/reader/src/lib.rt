@@ -8,6 +8,7 @@ mod good;
 mod line;
 mod rules;
 mod state;
+mod whole;
 
 // The words that are no bytes.
 pub(crate) const BREAK: u16 = 256;

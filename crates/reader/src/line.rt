@@ -1,19 +1,24 @@
 // Over many words: a line, and the numbers of its reports to a lent slice.
 ghost use mathlib.Core.Path.{_≡_};
-ghost use Prim.Native.Nat.{_<_, _≤_};
+ghost use Prim.Native.Nat.{_/_, _<_, _≤_};
 ghost use mathlib.Core.List.{_++_};
 ghost use lib.ListN.{length, drop};
 ghost use Rattle.reader.specs.State.{fiveOf};
 ghost use Rattle.reader.specs.Line.{whole, lineOf};
-ghost use Rattle.reader.specs.Parts.{Begins, Sized};
+ghost use Rattle.reader.specs.Parts.{Stands, Begins, Sized};
 use crate::Answer;
 use crate::Reader;
 use crate::Reading;
+use crate::SILENCE;
 use crate::SUCCESS;
+use crate::whole::Run;
+use crate::whole::after;
+use crate::whole::passed;
+use crate::whole::whole;
 use wire::Report;
 
 // The five numbers of a report, to the front of a slice.
-fn put(out: &mut [i16], report: Report)
+pub(crate) fn put(out: &mut [i16], report: Report)
     requires { ⌜ 5 ≤ length (now out) ⌝ }
     ensures { λ _. ⌜ now (out .exit) ≡ fiveOf report ++ drop 5 (now (out .entry)) ⌝ }
 {
@@ -67,18 +72,82 @@ impl Reader {
         }
     }
 
-    // The words of a line: what is left of it, from the next word on, is handed over with the reader that came back and the places that are left.
+    // The whole reports at the front, where the reader is ready for them and the first is one.
+    fn quickly(self, size: usize, marked: bool, words: &[u16], out: &mut [i16]) -> Run
+        requires { ⌜ Sized size marked self ⌝ }
+        ensures { λ q. ⌜ Stands self (now (words .entry)) (now (out .entry)) self (q .taken) (q .used) (q .used / 5) 0 (now (out .exit)) ⌝ }
+    {
+        let ready = (self.count == 0) & !self.awaiting;
+        if !(ready & (size <= words.len())) {
+            return after(0, 0);
+        }
+        if !whole(self.format, size, words) {
+            return after(0, 0);
+        }
+        passed(self.format, words, out)
+    }
+
+    // Words one by one, up to a report or a silence, behind which whole reports may stand.
+    fn slowly(self, size: usize, marked: bool, words: &[u16], out: &mut [i16]) -> Reading
+        requires { ⌜ Sized size marked self ⌝ }
+        ensures { λ r. ⌜ Begins size marked self (now (words .entry)) (now (out .entry)) r (now (out .exit)) ⌝ }
+    {
+        let mut r = self;
+        let mut at: usize = 0;
+        let mut dropped: usize = 0;
+        while at < words.len() {
+            let word = words[at];
+            let t = r.first(size, marked, &words[at..], out);
+            if t.taken == 0 {
+                return reading(t.refusal, r, at, 0, dropped);
+            }
+            let next = t.next;
+            r = next;
+            at = at + t.taken;
+            dropped = dropped + t.dropped;
+            if (t.reports != 0) | (word == SILENCE) {
+                return reading(SUCCESS, r, at, t.reports, dropped);
+            }
+        }
+        reading(SUCCESS, r, at, 0, dropped)
+    }
+
+    // A part of the line: words one by one, and the whole reports behind them.
+    fn part(self, size: usize, marked: bool, words: &[u16], out: &mut [i16]) -> Reading
+        requires { ⌜ Sized size marked self ⌝ }
+        ensures { λ r. ⌜ Begins size marked self (now (words .entry)) (now (out .entry)) r (now (out .exit)) ⌝ }
+    {
+        let t = self.slowly(size, marked, words, out);
+        let next = t.next;
+        let at = t.taken;
+        if at == 0 {
+            return t;
+        }
+        let used = 5 * t.reports;
+        let q = next.quickly(size, marked, &words[at..], &mut out[used..]);
+        reading(
+            SUCCESS,
+            next,
+            at + q.taken,
+            t.reports + q.used / 5,
+            t.dropped,
+        )
+    }
+
+    // The words of a line: whole reports at its front, and then part after part. What is left of it, from the next word on, is handed over with the reader
+    // that came back and the places that are left.
     pub(crate) fn line(self, size: usize, marked: bool, words: &[u16], out: &mut [i16]) -> Reading
         requires { ⌜ Sized size marked self ⌝ }
         ensures { λ r. ⌜ whole r (now (out .exit)) ≡ lineOf self (now (words .entry)) (now (out .entry)) ⌝ }
     {
+        let q = self.quickly(size, marked, words, out);
         let mut r = self;
-        let mut at: usize = 0;
-        let mut used: usize = 0;
-        let mut reports: usize = 0;
+        let mut at = q.taken;
+        let mut used = q.used;
+        let mut reports = q.used / 5;
         let mut dropped: usize = 0;
         while at < words.len() {
-            let t = r.first(size, marked, &words[at..], &mut out[used..]);
+            let t = r.part(size, marked, &words[at..], &mut out[used..]);
             if t.taken == 0 {
                 return reading(t.refusal, r, at, reports, dropped);
             }

@@ -16,7 +16,7 @@ use crate::SUCCESS;
 use crate::state::no_bytes;
 
 // Every byte enters the reader through this, by the letter of the format: in V without bit 7.
-fn entered(letter: u8, byte: u8) -> u8
+pub(crate) fn entered(letter: u8, byte: u8) -> u8
     ensures { λ r. ⌜ r ≡ entered letter byte ⌝ }
 {
     let clears = letter == FORMAT_V;

@@ -123,7 +123,18 @@ impl Text {
         if places == 0 {
             return self;
         }
-        self.digits(places - 1, n / 10).with(digit(n))
+        if places == 1 {
+            return self.with(digit(n));
+        }
+        let tens = n / 10;
+        if places == 2 {
+            return self.with(digit(tens)).with(digit(n));
+        }
+        let hundreds = tens / 10;
+        self.digits(places - 3, hundreds / 10)
+            .with(digit(hundreds))
+            .with(digit(tens))
+            .with(digit(n))
     }
 
     // The decimal of a number, of so many digits at least.

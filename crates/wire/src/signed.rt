@@ -1,6 +1,7 @@
 // Signed movements as the wire has them: a magnitude and a sign, and two's complement made of the two.
 ghost use mathlib.Core.Path.{_≡_};
-ghost use Prim.Native.Nat.{_+_, _≤_, _<_};
+ghost use mathlib.Core.Logic.{_⊎_};
+ghost use Prim.Native.Nat.{_+_, _^_, _≤_, _<_};
 ghost use lib.IntN.{natAbs};
 ghost use lib.Signed.{mag};
 ghost use Rattle.numbers.specs.Signed.{twos, untwos, signed};
@@ -34,14 +35,10 @@ pub(crate) fn wrapped(v: i16, half: u16) -> u16
     }
 }
 
-// The movement that a number below 2 * half stands for.
+// The movement that a number below 2 * half stands for: half more and half less, which turns the highest of its bits over.
 pub(crate) fn unwrapped(n: u16, half: u16) -> i16
-    requires { ⌜ (n < half + half) × (half ≤ 2048) ⌝ }
+    requires { ⌜ (n < half + half) × ((half ≡ 2 ^ 7) ⊎ (half ≡ 2 ^ 11)) ⌝ }
     ensures { λ r. ⌜ r ≡ untwos half n ⌝ }
 {
-    if n < half {
-        joined(true, n)
-    } else {
-        joined(false, half + half - n)
-    }
+    (n ^ half) as i16 - half as i16
 }

@@ -3,13 +3,14 @@ use mathlib.Core.Path.{_≡_, sym, _∙_, ap}
 use borrow.Author.Tests.{not-true, not-false}
 use Prim.Native.Nat.{_+_, _-_, _≤_}
 use native.Mathlib.Omega.{arith}
-use lib.ListN.{length, getD}
+use lib.ListN.{length, drop, length-drop}
+use borrow.Author.Needs.{needs}
+use Rattle.fold.proofs.Parts.{rest-is}
 use Rattle.text.specs.Growth.{textOf}
-use Rattle.listing.specs.Feeding.{fedByte}
+use Rattle.listing.specs.Feeding.{Goes}
 use Rattle.listing.specs.Promises.{whole}
 use Rattle.listing.specs.declared.Turn.{Turn}
 use Rattle.listing.specs.declared.Listed.{Listed}
-use Rattle.listing.proofs.Few.{few-byte}
 use Rattle.text.proofs.Laws.{put-none}
 use Rattle.listing.proofs.Feeds.{size, put-room, put-wrote, put-short, Stands, starts, far, ends-all, stops, again}
 use Rattle.listing.proofs.Lister.bytes.Statement.{statement}
@@ -24,64 +25,60 @@ abbrev μ-loop : tie.MeasureT-loop
 loop-holds : tie.Need-loop-holds Inv-loop μ-loop
 loop-holds c = let a = c .before .before .args in let s = starts (a .self) (a .input .now) (a .out .now) in (s, far s)
 
-shared-slice-read-byte : tie.Need-shared-slice-read-byte Inv-loop μ-loop
-shared-slice-read-byte c = omega arith
+first-requires : tie.Need-first-requires Inv-loop μ-loop
+first-requires c κs = rw (rest-is (c .before .before .before .before .before .args .input .now) (c .before .before .loop .at), length-drop) (omega arith)
 
--- the text and the lister that a byte gave, and the room that its text had
-text-is : (c : tie.After-byte Inv-loop μ-loop) → c .byte .result .text ≡ textOf (fedByte (c .before .before .before .loop .m) (getD (c .before .before .before .before .before .before .args .input .now) (c .before .before .before .loop .at) 0) .text)
-text-is c = ap (λ (t : Turn). t .text) (c .byte .ensures)
+-- what the front gave: the text and the lister
+goes : (c : tie.After-first Inv-loop μ-loop) → let l = c .before .before .before .loop in Goes (l .m) (drop (l .at) (c .before .before .before .before .before .before .args .input .now)) (length (l .out) - l .used) (c .first .result)
+goes c = rw (rest-is (c .before .before .before .before .before .before .args .input .now) (c .before .before .before .loop .at)) at (c .first .ensures)
 
-next-is : (c : tie.After-byte Inv-loop μ-loop) → c .byte .result .next ≡ fedByte (c .before .before .before .loop .m) (getD (c .before .before .before .before .before .before .args .input .now) (c .before .before .before .loop .at) 0) .next
-next-is c = ap (λ (t : Turn). t .next) (c .byte .ensures)
+text-is : (c : tie.After-first Inv-loop μ-loop) → c .first .result .turn .text ≡ textOf (goes c .turns .text)
+text-is c = ap (λ (t : Turn). t .text) (goes c .is)
 
 same-length : tie.Need-same-length Inv-loop μ-loop
-same-length c = let l = c .before .before .before .before .before .before .before .before .before .before .loop in
+same-length c = let l = c .before .before .before .before .before .before .before .before .before .before .before .loop in
     let p = c .before .before .before .before .put in
     let no = sym (p .ensures .0) ∙ not-true _ (c .before .if1 .taken) in
-    ap length (p .ensures .1 ∙ put-none (c .before .before .before .before .before .before .before .byte .result .text) (l .used) (l .out) no) ∙ l .inv .1 .2
+    ap length (p .ensures .1 ∙ put-none (c .before .before .before .before .before .before .before .before .first .result .turn .text) (l .used) (l .out) no) ∙ l .inv .1 .2
 
 returns : tie.Need-returns Inv-loop μ-loop
-returns c = let l = c .before .before .before .before .before .before .before .before .before .before .loop in
-    let a = c .before .before .before .before .before .before .before .before .before .before .before .before .before .args in
+returns c = let f = c .before .before .before .before .before .before .before .before in
+    let l = f .before .before .before .loop in
     let p = c .before .before .before .before .put in
-    let t = c .before .before .before .before .before .before .before .byte .result .text in
-    let x = fedByte (l .m) (getD (a .input .now) (l .at) 0) in
-    let few = few-byte (l .m) (getD (a .input .now) (l .at) 0) in
+    let t = f .first .result .turn .text in
+    let x = goes f .turns .text in
     let no = sym (p .ensures .0) ∙ not-true _ (c .before .if1 .taken) in
-    let is = text-is (c .before .before .before .before .before .before .before) in
     ap (whole _) (p .ensures .1 ∙ put-none t (l .used) (l .out) no) ∙ ap (λ (r : Listed). whole r (l .out)) (c .answer .ensures)
-    ∙ stops (l .inv .0) (c .before .before .before .before .before .before .before .before .before .loop-test .taken)
-    (omega (arith, put-short (x .text) t is few (l .used) (l .out) no, size (x .text) t is few (l .used) (l .out)))
+    ∙ stops (l .inv .0) (goes f) (omega (arith, put-short x t (text-is f) (goes f .few) (l .used) (l .out) no, size x t (text-is f) (goes f .few) (l .used) (l .out)))
 
--- where it stands behind the byte
+-- where it stands behind the front
 turn : (c : tie.After-next Inv-loop μ-loop)
-    → let l = c .before .before .before .before .before .before .before .before .before .before .loop in
-    let a = c .before .before .before .before .before .before .before .before .before .before .before .before .before .args in
-    let y = c .before .before .before .before .before .before .before .byte .result in
-    Stands (a .self) (a .input .now) (a .out .now) (y .next) (l .at + 1) (l .used + y .text .len) (c .before .before .before .before .put .last .1 .0)
-turn c = let l = c .before .before .before .before .before .before .before .before .before .before .loop in
-    let a = c .before .before .before .before .before .before .before .before .before .before .before .before .before .args in
+    → let f = c .before .before .before .before .before .before .before .before in
+    let l = f .before .before .before .loop in
+    let a = f .before .before .before .before .before .before .args in
+    let y = f .first .result in
+    Stands (a .self) (a .input .now) (a .out .now) (y .turn .next) (l .at + y .taken) (l .used + y .turn .text .len) (c .before .before .before .before .put .last .1 .0)
+turn c = let f = c .before .before .before .before .before .before .before .before in
+    let l = f .before .before .before .loop in
     let p = c .before .before .before .before .put in
-    let y = c .before .before .before .before .before .before .before in
-    let t = y .byte .result .text in
-    let x = fedByte (l .m) (getD (a .input .now) (l .at) 0) in
-    let few = few-byte (l .m) (getD (a .input .now) (l .at) 0) in
+    let t = f .first .result .turn .text in
+    let x = goes f .turns .text in
     let yes = sym (p .ensures .0) ∙ not-false _ (c .before .if1 .left) in
-    rw (next-is y)
-    (again (l .inv .0) (c .before .before .before .before .before .before .before .before .before .loop-test .taken) (p .last .1 .0) (t .len) (size (x .text) t (text-is y) few (l .used) (l .out))
-    (put-room t (l .used) (l .out) yes) (p .ensures .1 ∙ put-wrote (x .text) t (text-is y) few (l .used) (l .out) yes))
+    rw (ap (λ (t : Turn). t .next) (goes f .is))
+    (again (l .inv .0) (goes f) (p .last .1 .0) (t .len) (size x t (text-is f) (goes f .few) (l .used) (l .out))
+    (put-room t (l .used) (l .out) yes) (p .ensures .1 ∙ put-wrote x t (text-is f) (goes f .few) (l .used) (l .out) yes))
 
 add-at : tie.Need-add-at Inv-loop μ-loop
-add-at c = omega arith
+add-at c = omega (arith, far (turn (c .before)))
 
 add-used : tie.Need-add-used Inv-loop μ-loop
-add-used c = omega (arith, far (turn c))
+add-used c = omega (arith, far (turn (c .before)))
 
 loop-less : tie.Need-loop-less Inv-loop μ-loop
-loop-less c = omega arith
+loop-less c = omega (arith, far (turn (c .before)), goes (c .before .before .before .before .before .before .before .before .before) .some)
 
 loop-again : tie.Need-loop-again Inv-loop μ-loop
-loop-again c = (turn c, far (turn c))
+loop-again c = (turn (c .before), far (turn (c .before)))
 
 same-length-2 : tie.Need-same-length-2 Inv-loop μ-loop
 same-length-2 c = c .before .before .loop .inv .1 .2
@@ -97,8 +94,11 @@ bytes-spec =
     Inv-loop
     μ-loop
     loop-holds
-    shared-slice-read-byte
-    (λ c κs. tt)
+    (λ c. omega arith)
+    (λ c. omega arith)
+    (λ c. search needs)
+    (λ c. omega arith)
+    first-requires
     (λ c κs. tt)
     (λ c κs. tt)
     same-length

@@ -24,8 +24,8 @@ line-requires : tie.Need-line-requires
 line-requires c κs = let m = c .before in
     let z = m .before in
     let g = z .before in
-    let below = below-size (g .before .before .before .args .self) (sym (g .before .good2 .ensures) ∙ not-false _ (g .if1 .left)) in
-    record { below = rw (z .size .ensures) below; sized = z .size .ensures; mark = m .marked .ensures }
+    let sound = sym (g .before .good2 .ensures) ∙ not-false _ (g .if1 .left) in
+    record { sound = sound; below = rw (z .size .ensures) (below-size (g .before .before .before .args .self) sound); sized = z .size .ensures; mark = m .marked .ensures }
 
 same-length : tie.Need-same-length
 same-length c = search needs

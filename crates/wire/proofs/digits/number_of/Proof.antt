@@ -1,23 +1,23 @@
 -- `number_of`: the two ranges of digits, and what lies outside them.
-use Prim.Native.Nat.{ℕ, _≤_, _<_, _+_, _-_}
+use Prim.Native.Nat.{ℕ, _≤_, _<_, _+_, _%_}
 use borrow.Author.Needs.{needs}
 use borrow.Author.Tests.{le-leb, lt-leb}
+use lib.Dec.{leb}
+use mathlib.Core.Bool.{_&&_}
 use mathlib.Core.Path.{_≡_}
 use native.Mathlib.Omega.{arith}
+use Rattle.numbers.proofs.Tested.{equal-if}
 use Rattle.wire.specs.Digits.{undigit}
 use Rattle.wire.proofs.digits.number_of.Statement.{statement}
 use Rattle.wire.proofs.digits.number_of.Tie as tie
 
-decimal : (b : ℕ) → 48 ≤ b → b ≤ 57 → b - 48 ≡ undigit b
+decimal : (b : ℕ) → 48 ≤ b → b ≤ 57 → b % 16 ≡ undigit b
 unfolding undigit
-decimal b h k = simp (le-leb 48 b h, le-leb b 57 k)
+decimal b h k = equal-if (λ n. leb 48 n && leb n 57) (λ n. n % 16) undigit 256 tt b (omega arith) (rw (le-leb 48 b h, le-leb b 57 k))
 
-letter : (b : ℕ) → 65 ≤ b → b ≤ 70 → 10 + (b - 65) ≡ undigit b
+letter : (b : ℕ) → 65 ≤ b → b ≤ 70 → b % 16 + 9 ≡ undigit b
 unfolding undigit
-letter b h k =
-    let l : 57 < b = omega arith in
-    let m : 48 ≤ b = omega arith in
-    simp (le-leb 48 b m, lt-leb b 57 l, le-leb 65 b h, le-leb b 70 k)
+letter b h k = equal-if (λ n. leb 65 n && leb n 70) (λ n. n % 16 + 9) undigit 256 tt b (omega arith) (rw (le-leb 65 b h, le-leb b 70 k))
 
 below : (b : ℕ) → b < 48 → 0 ≡ undigit b
 unfolding undigit

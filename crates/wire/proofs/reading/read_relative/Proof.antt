@@ -1,8 +1,8 @@
 -- `read_relative`: the fields of B.
 use borrow.Author.Needs.{needs}
-use mathlib.Core.Path.{_∙_}
+use mathlib.Core.Path.{refl, _∙_}
+use mathlib.Core.Logic.{inr}
 use mir.Syntax.{w16}
-use native.Mathlib.Omega.{arith}
 use Rattle.numbers.proofs.Machine.{kept}
 use Rattle.wire.proofs.Fields.{twelve-below, buttons-A}
 use Rattle.wire.specs.Reading.{readB}
@@ -13,13 +13,13 @@ twelve-requires : tie.Need-twelve-requires
 twelve-requires c κs = search needs
 
 unwrapped-requires : tie.Need-unwrapped-requires
-unwrapped-requires c κs = (rw (c .twelve .ensures) (twelve-below (c .before .args .b2) (c .before .args .b3)), omega arith)
+unwrapped-requires c κs = (rw (c .twelve .ensures) (twelve-below (c .before .args .b2) (c .before .args .b3)), inr refl)
 
 twelve-requires-2 : tie.Need-twelve-requires-2
 twelve-requires-2 c κs = search needs
 
 unwrapped-requires-2 : tie.Need-unwrapped-requires-2
-unwrapped-requires-2 c κs = (rw (c .twelve2 .ensures) (twelve-below (c .before .before .before .args .b4) (c .before .before .before .args .b5)), omega arith)
+unwrapped-requires-2 c κs = (rw (c .twelve2 .ensures) (twelve-below (c .before .before .before .args .b4) (c .before .before .before .args .b5)), inr refl)
 
 report-requires : tie.Need-report-requires
 report-requires c κs = search needs
