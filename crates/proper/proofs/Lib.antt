@@ -3,3 +3,5 @@ pub mod Latchable
 pub mod Fields
 pub mod Filled
 pub mod Lines
+pub mod Parsed
+pub mod Reached

@@ -40,11 +40,11 @@ LatchableIn f (reply bytes) = ⊥
 
 module _ (f : Format) where
   -- the check by its letter
-  stands-by : (place a z b : ℕ) → standsBy (letterOf f) place a z b ≡ stands f place a z b
+  pub stands-by : (place a z b : ℕ) → standsBy (letterOf f) place a z b ≡ stands f place a z b
   unfolding standsBy stands barredBy
   stands-by place a z b = rw (fits-named (letterOf f) (letter-named f) place b, letter-named f)
 
-  size-is : sizeBy (letterOf f) ≡ sizeOf f
+  pub size-is : sizeBy (letterOf f) ≡ sizeOf f
   size-is = size-named (letterOf f) (letter-named f)
 
   -- a byte that stands is one
@@ -70,13 +70,13 @@ module _ (f : Format) where
   unfolding wordOf
   byte-word y b l e = rw (le-leb b silence (omega arith), e, le-leb b 255 (omega arith))
 
-  more-word : (k : List ℕ) (b : ℕ) → strict f .fits k b ≡ true → suc (length k) < sizeOf f → wordOf (having f k) b ≡ can (having f (k ++ (b ∷ [])))
+  pub more-word : (k : List ℕ) (b : ℕ) → strict f .fits k b ≡ true → suc (length k) < sizeOf f → wordOf (having f k) b ≡ can (having f (k ++ (b ∷ [])))
   unfolding byteOf
   more-word k b h l =
       byte-word (having f k) b (stood-byte (length k) (at 0 k) (lastOf k) b h) refl
       ∙ rw (stands-by (length k) (at 0 k) (lastOf k) b, h, size-is, ne-eqb (length k + 1) (sizeOf f) (λ e. omega arith), having-more k b)
 
-  last-word : (k : List ℕ) (b : ℕ) → strict f .fits k b ≡ true → suc (length k) ≡ sizeOf f → wordOf (having f k) b ≡ can (noneGone (letterOf f))
+  pub last-word : (k : List ℕ) (b : ℕ) → strict f .fits k b ≡ true → suc (length k) ≡ sizeOf f → wordOf (having f k) b ≡ can (noneGone (letterOf f))
   unfolding byteOf
   last-word k b h l =
       byte-word (having f k) b (stood-byte (length k) (at 0 k) (lastOf k) b h) refl
