@@ -5,3 +5,4 @@ pub mod Filled
 pub mod Lines
 pub mod Parsed
 pub mod Reached
+pub mod Proper

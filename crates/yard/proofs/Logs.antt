@@ -1,10 +1,10 @@
 -- A log, word by word.
-use Prim.Native.Nat.{ℕ, suc, _+_}
+use Prim.Native.Nat.{ℕ, zero, suc, _+_, _<_, _≤_}
 use mathlib.Core.Path.{_≡_, refl, sym, ap, _∙_}
 use mathlib.Core.Bool.{Bool, true, false, cond, _&&_}
 use mathlib.Core.List.{List, [], _∷_}
 use native.Mathlib.Omega.{arith}
-use lib.ListN.{length}
+use lib.ListN.{length, take}
 use lib.Dec.{leb}
 use Rattle.numbers.specs.Bits.{value}
 use Rattle.numbers.proofs.Tested.{holds}
@@ -69,3 +69,34 @@ rest-step y before count w words l =
 pub rest-end : (y : Yard) (before count : ℕ) → rest y before count [] ≡ judgement before count
 unfolding lineWords sendable
 rest-end y before count = let a : before + 0 ≡ before = omega arith in rw a
+
+-- of the first words of a log as many can be sent, if so many can be sent at all
+pub sendable-front : (y : Yard) (n : ℕ) (words : List ℕ) → n ≤ sendable y words → sendable y (take n words) ≡ n
+unfolding sendable
+sendable-front y zero words h = refl
+sendable-front y (suc n) [] h = absurd (omega arith)
+sendable-front y (suc n) (w ∷ words) h = go (wordOf y w .can) refl (sendable-front (wordOf y w .next) n words)
+  where
+    go : (t : Bool) → wordOf y w .can ≡ t → (n ≤ sendable (wordOf y w .next) words → sendable (wordOf y w .next) (take n words) ≡ n) → sendable y (take (suc n) (w ∷ words)) ≡ suc n
+    go true e r = let q : suc n ≤ suc (sendable (wordOf y w .next) words) = rw e at h in rw e (ap suc (r (omega arith)))
+    go false e r = let q : suc n ≤ 0 = rw e at h in absurd (omega arith)
+
+-- and with the first that cannot be sent, or more, no more than before
+pub sendable-beyond : (y : Yard) (n : ℕ) (words : List ℕ) → sendable y words < n → sendable y (take n words) ≡ sendable y words
+unfolding sendable
+sendable-beyond y zero words h = absurd (omega arith)
+sendable-beyond y (suc n) [] h = refl
+sendable-beyond y (suc n) (w ∷ words) h = go (wordOf y w .can) refl (sendable-beyond (wordOf y w .next) n words)
+  where
+    go : (t : Bool) → wordOf y w .can ≡ t → (sendable (wordOf y w .next) words < n → sendable (wordOf y w .next) (take n words) ≡ sendable (wordOf y w .next) words) → sendable y (take (suc n) (w ∷ words)) ≡ sendable y (w ∷ words)
+    go true e r = let q : suc (sendable (wordOf y w .next) words) < suc n = rw e at h in rw e (ap suc (r (omega arith)))
+    go false e r = rw e
+
+pub sendable-most : (y : Yard) (words : List ℕ) → sendable y words ≤ length words
+unfolding sendable
+sendable-most y [] = omega arith
+sendable-most y (w ∷ words) = go (wordOf y w .can) refl (sendable-most (wordOf y w .next) words)
+  where
+    go : (t : Bool) → wordOf y w .can ≡ t → sendable (wordOf y w .next) words ≤ length words → sendable y (w ∷ words) ≤ suc (length words)
+    go true e r = rw e (omega arith)
+    go false e r = rw e (omega arith)
