@@ -6,3 +6,4 @@ pub mod Lines
 pub mod Parsed
 pub mod Reached
 pub mod Proper
+pub mod Answered
