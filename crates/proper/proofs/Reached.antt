@@ -30,7 +30,7 @@ use Rattle.wire.proofs.Front.{size-between}
 use Rattle.wire.proofs.Codec.{bytes-length}
 use Rattle.wire.proofs.Codec.Ranges.{wider, at-most, only-zero}
 use Rattle.ballbox.specs.Box.{Step, modeD, pair, zeros, withMode, withMemory, withDue}
-use Rattle.ballbox.specs.Presses.{toShow} 
+use Rattle.ballbox.specs.Presses.{toShow}
 use Rattle.ballbox.specs.Presses as presses
 use Rattle.ballbox.specs.Motion.{movedBy, counted, placed, placedAt, isA}
 use Rattle.ballbox.specs.Latching.{limits, limited, movement, taken, cleared, latched, latchedReport, secondLatched}

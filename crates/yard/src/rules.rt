@@ -120,7 +120,18 @@ impl Yard {
         cannot(self.format)
     }
 
-    // A word: a byte, a break, which may stand anywhere, a silence; any other is refused with 4.
+    // A break may stand anywhere: of the report that is broken off any number of bytes has gone, or none.
+    fn broken(self) -> Judged
+        ensures { λ r. ⌜ r ≡ can (noneGone (self .format)) ⌝ }
+    {
+        Judged {
+            refusal: SUCCESS,
+            next: none_gone(self.format),
+            can: true,
+        }
+    }
+
+    // A word: a byte, a break, a silence; any other is refused with 4.
     pub(crate) fn word(self, word: u16) -> Judged
         requires { ⌜ self .count < sizeBy (self .format) ⌝ }
         ensures { λ r. ⌜ r ≡ wordOf self word ⌝ }
@@ -135,7 +146,7 @@ impl Yard {
             return self.byte(word as u8);
         }
         if word == BREAK {
-            return can(none_gone(self.format));
+            return self.broken();
         }
         self.silence()
     }

@@ -29,15 +29,12 @@ returns-3 : tie.Need-returns-3
 unfolding wordOf
 returns-3 c = simp (le-leb _ _ (c .before .before .before .if1 .left), c .before .before .if2 .left, le-leb _ _ (c .before .if3 .taken)) (c .byte .ensures)
 
-none-gone-requires : tie.Need-none-gone-requires
-none-gone-requires c κs = search needs
-
-can-requires : tie.Need-can-requires
-can-requires c κs = search needs
+broken-requires : tie.Need-broken-requires
+broken-requires c κs = search needs
 
 returns-4 : tie.Need-returns-4
 unfolding wordOf
-returns-4 c = simp (le-leb _ _ (c .before .before .before .before .before .if1 .left), c .before .before .before .before .if2 .left, lt-leb _ _ (c .before .before .before .if3 .left), eq-eqb _ _ (c .before .before .if4 .taken)) (rw (c .before .none-gone .ensures) at (c .can .ensures))
+returns-4 c = simp (le-leb _ _ (c .before .before .before .before .if1 .left), c .before .before .before .if2 .left, lt-leb _ _ (c .before .before .if3 .left), eq-eqb _ _ (c .before .if4 .taken)) (c .broken .ensures)
 
 silence-requires : tie.Need-silence-requires
 silence-requires c κs = search needs
@@ -57,8 +54,7 @@ word-spec =
     cast-byte
     byte-requires
     returns-3
-    none-gone-requires
-    can-requires
+    broken-requires
     returns-4
     silence-requires
     returns-5)
