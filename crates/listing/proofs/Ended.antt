@@ -33,14 +33,14 @@ unfolding fedByte
 sixth-ends m c h n = ap (λ (k : Scan). k .next .ended) (sixth-bad (m .scanner) c h n) ∙ bad-ends (m .scanner)
 
 -- a scanner that has ended stays so, and finds nothing more
-abbrev Over : Scan → Type 0
+abbrev pub Over : Scan → Type 0
 Over k = (k .next .ended ≡ true) × (k .found ≡ Nothing)
 
 line-over : (s : Scanner) (l : Line) → s .ended ≡ true → Over (takenOf s l)
 unfolding takenOf
 line-over s l h = rw h (refl, refl)
 
-byte-over : (s : Scanner) (c : ℕ) → s .ended ≡ true → Over (scannedByte s c)
+pub byte-over : (s : Scanner) (c : ℕ) → s .ended ≡ true → Over (scannedByte s c)
 unfolding scannedByte
 byte-over s c h = cases Over (eqb c newline) (λ _. line-over s (saidBy (unfinished s)) h) (λ _. cases Over (leb 5 (s .count)) (λ _. line-over s line.Bad h) (λ _. (h, refl)))
 
