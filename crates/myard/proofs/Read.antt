@@ -7,7 +7,7 @@ use mathlib.Core.List.{List, [], _∷_}
 use native.Mathlib.Omega.{arith}
 use lib.ListN.{length}
 use borrow.Author.Tests.{not-true}
-use Rattle.listing.specs.Scanning.{passed, mostBytes, scannedByte}
+use Rattle.listing.specs.Scanning.{passed, mostBytes}
 use Rattle.listing.proofs.Ended.{byte-over, byte-on, never-passed}
 use Rattle.myard.specs.Judging.{byteOf, bytesOf}
 use Rattle.myard.specs.Blocks.{Within, Leaves}

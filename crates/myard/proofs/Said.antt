@@ -7,15 +7,15 @@ use native.Mathlib.Omega.{arith}
 use lib.ListN.{length}
 use lib.Dec.{eqb, leb}
 use borrow.Author.Tests.{eqb-true, eqb-false, eq-eqb, ne-eqb}
-use Rattle.numbers.proofs.Tested.{left, right}
+use Rattle.numbers.proofs.Tested.{right}
 use Rattle.frames.specs.Words.{silence, lineWords}
 use Rattle.wire.specs.Line.{known}
-use Rattle.listing.specs.Scanning.{unfed, recordingOf, scannedByte, closedOf, endOf}
+use Rattle.listing.specs.Scanning.{unfed}
 use Rattle.listing.specs.declared.Found.{Found}
 use Rattle.listing.specs.declared.Found.the-variants as found
 use Rattle.listing.proofs.Scanned.{allFound, scanned}
 use Rattle.listing.proofs.Scanned as scan
-use Rattle.yard.specs.State.{noneGone, over}
+use Rattle.yard.specs.State.{noneGone}
 use Rattle.yard.specs.Good.{good}
 use Rattle.yard.specs.Rules.{wordOf}
 use Rattle.yard.specs.Log.{sendable, judgement, checkedOf}
@@ -24,9 +24,8 @@ use Rattle.yard.specs.declared.Yard.{Yard}
 use Rattle.yard.specs.declared.Judged.{Judged}
 use Rattle.yard.specs.declared.Checked.{Checked}
 use Rattle.yard.proofs.Keeps.{none-good, word-good}
-use Rattle.yard.proofs.Logs.{ends, sendable-most}
 use Rattle.yard.proofs.Goodness.{step-word}
-use Rattle.myard.specs.Judging.{judgedBy, yardAfter, verdictAfter, verdictFrom, waiting, verdictOn, unheard, byteOf, bytesOf, lastOf}
+use Rattle.myard.specs.Judging.{judgedBy, verdictFrom, waiting, verdictOn, unheard, byteOf, bytesOf, lastOf}
 use Rattle.myard.specs.declared.Judge.{Judge}
 use Rattle.myard.specs.declared.Verdict.{Verdict}
 use Rattle.myard.specs.declared.Verdict.the-variants.{Yes, No}

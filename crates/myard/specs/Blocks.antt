@@ -1,5 +1,5 @@
 -- What a block of the input leaves.
-use Prim.Native.Nat.{ℕ, _<_, _≤_}
+use Prim.Native.Nat.{_<_, _≤_}
 use mathlib.Core.Path.{_≡_}
 use mathlib.Core.Bool.{Bool, true}
 use Rattle.listing.specs.Scanning.{mostLines, passed}

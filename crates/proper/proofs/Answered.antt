@@ -5,14 +5,13 @@ use mathlib.Core.Bool.{Bool, true, false, cond, _&&_}
 use mathlib.Core.List.{List, [], _∷_}
 use native.Mathlib.Omega.{arith}
 use lib.ListN.{length, take}
-use lib.Seq.{length-take-le, take-all}
-use lib.Dec.{eqb, leb}
-use borrow.Author.Tests.{eqb-true, eqb-false, eq-eqb}
+use lib.Seq.{length-take-le}
+use lib.Dec.{leb}
+use borrow.Author.Tests.{eqb-true, eqb-false}
 use Rattle.numbers.proofs.Choices.{both}
 use Rattle.numbers.proofs.Tested.{holds}
-use Rattle.frames.specs.Passages.{nothing}
 use Rattle.frames.specs.Words.{silence, lineWords}
-use Rattle.wire.specs.Line.{letterOf, namedBy, known}
+use Rattle.wire.specs.Line.{letterOf, known}
 use Rattle.wire.specs.Numbers.{success, badWord}
 use Rattle.wire.specs.declared.Format.{Format}
 use Rattle.wire.proofs.Letters.{letter-named}

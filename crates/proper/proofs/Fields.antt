@@ -1,14 +1,14 @@
 -- Whole reports: the bytes of what a box can latch stand, and bytes that stand are those of what a box can latch.
-use Prim.Native.Nat.{ℕ, zero, suc, _+_, _-_, _*_, _/_, _%_, _<_, _≤_}
+use Prim.Native.Nat.{ℕ, zero, suc, _+_, _-_, _<_}
 use mathlib.Core.Path.{_≡_, refl, sym, ap, _∙_}
 use mathlib.Core.Bool.{Bool, true, false, not, _&&_, _||_, and-false}
 use mathlib.Core.List.{List, [], _∷_, _++_}
 use native.Mathlib.Omega.{arith}
 use lib.IntN.{ℤ, pos, negsuc, negℤ, natAbs}
-use lib.Signed.{nonNeg, leZ}
+use lib.Signed.{nonNeg}
 use lib.ListN.{length, getD, length-append}
 use lib.Dec.{eqb, leb, ltb}
-use borrow.Author.Tests.{eqb-true, eqb-false, eq-eqb, leb-true, le-leb, ltb-true, ltb-false, not-true}
+use borrow.Author.Tests.{eqb-true, eqb-false, eq-eqb, le-leb, ltb-true, ltb-false, not-true}
 use Rattle.numbers.specs.Bits.{I, O, number, bit, bits}
 use Rattle.numbers.specs.Signed.{minus, untwos}
 use Rattle.numbers.proofs.Choices.{both, neither}
@@ -16,12 +16,12 @@ use Rattle.numbers.proofs.Tested.{left, right, holds, refused, agree-if}
 use Rattle.numbers.proofs.Rows.{bit-in}
 use Rattle.numbers.proofs.Twos.{neg-magnitude}
 use Rattle.frames.specs.Frame.{Fits}
-use Rattle.wire.specs.Line.{letterOf, sizeOf}
+use Rattle.wire.specs.Line.{sizeOf}
 use Rattle.wire.specs.Table.{L, M, R, bytesOf, bytesS, bytesV, rowsV, bytesA, bytesB, rowsA, bytesU, bytesT, bytesW, rowsW}
 use Rattle.wire.specs.Holds.{_to_, within, accepted}
 use Rattle.wire.specs.Places.{fitsLater, fitsAt, valid}
 use Rattle.wire.specs.Digits.{undigit}
-use Rattle.wire.specs.Reading.{at, reportOf, readS, readV, readA, readB, readU, readT, readW, pair, settled}
+use Rattle.wire.specs.Reading.{at, reportOf, readV, readU, readT, readW, pair, settled}
 use Rattle.wire.specs.declared.Report.{Report}
 use Rattle.wire.specs.declared.Format.{Format}
 use Rattle.wire.specs.declared.Format.the-variants.{Mm, Microsoft, Absolute, Relative, FiveByte, ThreeByte, Hexadecimal}
@@ -34,7 +34,7 @@ use Rattle.wire.proofs.Codec.Accepted.{parts}
 use Rattle.wire.proofs.Codec.Ranges.{magnitude, magnitude-within}
 use Rattle.ballbox.specs.Latching.{limits}
 use Rattle.yard.specs.Stands.{minusZero, isLeast, leastV, least, leastW, barred, stands}
-use Rattle.proper.proofs.Latchable.{secondLimits, Latchable, latchable-accepted, strict}
+use Rattle.proper.proofs.Latchable.{Latchable, latchable-accepted, strict}
 
 -- a byte that fits and is not barred
 pub standing : (f : Format) (place first last b : ℕ) → fitsAt f place b ≡ true → barred f place first last b ≡ false → stands f place first last b ≡ true

@@ -1,20 +1,19 @@
 -- The first bytes of a report, made up to a whole one.
-use Prim.Native.Nat.{ℕ, zero, suc, _+_, _-_, _*_, _/_, _%_, _<_, _≤_}
+use Prim.Native.Nat.{ℕ, zero, suc, _-_, _<_, _≤_}
 use mathlib.Core.Path.{_≡_, refl, sym, ap, _∙_}
-use mathlib.Core.Bool.{Bool, true, false, not, _&&_, _||_, and-false}
+use mathlib.Core.Bool.{true, false, not, _&&_, _||_, and-false}
 use mathlib.Core.List.{List, [], _∷_, _++_, append-assoc, append-nil}
 use native.Mathlib.Omega.{arith}
 use lib.IntN.{pos}
 use lib.Count.{ones, onesIn}
-use lib.ListN.{length, take, replicate, getD, length-append, length-replicate}
-use lib.Seq.{take-append-seam, getD-append-add}
+use lib.ListN.{length, take, replicate, length-append, length-replicate}
+use lib.Seq.{take-append-seam}
 use lib.Dec.{eqb}
 use borrow.Author.Tests.{ne-eqb}
 use Rattle.numbers.specs.Bits.{number, bit, bits}
 use Rattle.numbers.specs.Signed.{untwos}
-use Rattle.numbers.proofs.Choices.{both}
 use Rattle.frames.specs.Frame.{Fits}
-use Rattle.wire.specs.Line.{letterOf, sizeOf}
+use Rattle.wire.specs.Line.{sizeOf}
 use Rattle.wire.specs.Table.{bytesOf}
 use Rattle.wire.specs.Places.{like, fitsLater, fitsAt}
 use Rattle.wire.specs.Reading.{at, reportOf, readU, report}
@@ -23,7 +22,6 @@ use Rattle.wire.specs.declared.Format.{Format}
 use Rattle.wire.specs.declared.Format.the-variants.{Mm, Microsoft, Absolute, Relative, FiveByte, ThreeByte, Hexadecimal}
 use Rattle.wire.proofs.Codec.Ranges.{only-zero}
 use Rattle.wire.proofs.Fields.{byte-X, byte-Y}
-use Rattle.wire.proofs.Front.{size-between}
 use Rattle.ballbox.specs.Latching.{limits}
 use Rattle.yard.specs.Stands.{minusZero, isLeast, leastV, least, leastW, barred, stands}
 use Rattle.proper.proofs.Latchable.{Latchable, strict, lastOf}

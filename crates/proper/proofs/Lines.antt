@@ -1,23 +1,21 @@
 -- Lines of reports that a box can latch, and the words that the yard check lets stand.
-use Prim.Native.Nat.{ℕ, zero, suc, _+_, _-_, _<_, _≤_}
-use mathlib.Core.Path.{_≡_, refl, sym, ap, ap₂, _∙_}
-use mathlib.Core.Bool.{Bool, true, false, cond}
+use Prim.Native.Nat.{ℕ, suc, _+_, _-_, _<_}
+use mathlib.Core.Path.{_≡_, refl, ap, _∙_}
+use mathlib.Core.Bool.{true, false}
 use mathlib.Core.List.{List, [], _∷_, _++_, append-assoc, append-nil}
 use native.Mathlib.Omega.{arith}
-use lib.ListN.{length, take, length-append, getD}
-use lib.Seq.{take-all, length-take-le, getD-append-seam}
-use lib.Dec.{eqb, leb, eqb·suc-zero}
-use borrow.Author.Tests.{eqb-true, eqb-false, eq-eqb, ne-eqb, le-leb}
-use Rattle.numbers.proofs.Tested.{holds}
-use Rattle.frames.specs.Words.{isByte, break, silence, lineWords}
+use lib.ListN.{length, take, length-append}
+use lib.Seq.{length-take-le, getD-append-seam}
+use lib.Dec.{eqb·suc-zero}
+use borrow.Author.Tests.{eq-eqb, ne-eqb, le-leb}
+use Rattle.frames.specs.Words.{break, silence}
 use Rattle.frames.specs.Passages.{Passage, silent, finished, broken, UnderWay, nothing, first, wordsOf, passageWords, partWords, SoundOf, Sound, SoundPart}
 use Rattle.frames.specs.Frame.{Fits, Full, Whole}
 use Rattle.frames.proofs.Reading.{part-of}
 use Rattle.wire.specs.Line.{letterOf, sizeOf, sizeBy}
 use Rattle.wire.specs.Table.{bytesOf}
-use Rattle.wire.specs.Places.{fitsBy}
-use Rattle.wire.specs.Reading.{at, reportOf}
-use Rattle.wire.specs.Messages.{Message, report, reply, messageBytes, latchedIn}
+use Rattle.wire.specs.Reading.{at}
+use Rattle.wire.specs.Messages.{Message, report, reply, messageBytes}
 use Rattle.wire.specs.declared.Report.{Report}
 use Rattle.wire.specs.declared.Format.{Format}
 use Rattle.wire.proofs.Letters.{letter-named, size-named, fits-named}
@@ -25,13 +23,11 @@ use Rattle.wire.proofs.Front.{size-between}
 use Rattle.wire.proofs.Codec.{bytes-length, fits-byte}
 use Rattle.yard.specs.Stands.{barredBy, stands, standsBy}
 use Rattle.yard.specs.State.{noneGone}
-use Rattle.yard.specs.Rules.{can, cannot, firstWith, oneMore, byteOf, silenceOf, wordOf}
+use Rattle.yard.specs.Rules.{can, firstWith, oneMore, byteOf, silenceOf, wordOf}
 use Rattle.yard.specs.Log.{sendable}
 use Rattle.yard.specs.declared.Yard.{Yard}
-use Rattle.yard.specs.declared.Judged.{Judged}
 use Rattle.proper.proofs.Latchable.{Latchable, strict, lastOf, having}
-use Rattle.proper.proofs.Fields.{fitting, sent-stands, stood-sent}
-use Rattle.proper.proofs.Filled.{Begun, stood-begun}
+use Rattle.proper.proofs.Fields.{fitting, sent-stands}
 
 -- reports of f that a box can latch, and no replies
 abbrev pub LatchableIn : Format → Message → Type 0

@@ -1,35 +1,31 @@
 -- Words of which each can be sent are those of a line that a box can send.
-use Prim.Native.Nat.{ℕ, zero, suc, _+_, _-_, _<_, _≤_}
+use Prim.Native.Nat.{ℕ, suc, _+_, _<_}
 use mathlib.Core.Path.{_≡_, refl, sym, ap, _∙_}
-use mathlib.Core.Bool.{Bool, true, false, cond}
+use mathlib.Core.Bool.{Bool, true, false}
 use mathlib.Core.List.{List, [], _∷_, _++_, append-assoc, append-nil}
 use native.Mathlib.Omega.{arith}
-use lib.ListN.{length, take, length-append}
-use lib.Seq.{take-all, length-take-le}
+use lib.ListN.{length, length-append}
 use lib.Dec.{eqb, leb}
 use borrow.Author.Tests.{eqb-true, eqb-false, leb-true, leb-false}
 use Rattle.numbers.proofs.Tested.{holds}
 use Rattle.frames.specs.Words.{isByte, break, silence}
 use Rattle.frames.specs.Passages.{Passage, silent, finished, broken, UnderWay, nothing, first, passageWords, partWords}
 use Rattle.frames.specs.Frame.{Fits}
-use Rattle.wire.specs.Line.{letterOf, sizeOf, sizeBy}
-use Rattle.wire.specs.Table.{bytesOf}
+use Rattle.wire.specs.Line.{letterOf, sizeOf}
 use Rattle.wire.specs.Reading.{at, reportOf}
 use Rattle.wire.specs.Messages.{Message, messageBytes, latchedIn}
 use Rattle.wire.specs.declared.Report.{Report}
 use Rattle.wire.specs.declared.Format.{Format}
 use Rattle.wire.proofs.Front.{size-between}
-use Rattle.wire.proofs.Codec.{bytes-length}
-use Rattle.yard.specs.Stands.{stands, standsBy}
+use Rattle.yard.specs.Stands.{stands}
 use Rattle.yard.specs.State.{noneGone}
 use Rattle.yard.specs.Rules.{byteOf, silenceOf, wordOf}
 use Rattle.yard.specs.Log.{sendable}
-use Rattle.yard.specs.declared.Yard.{Yard}
 use Rattle.yard.specs.declared.Judged.{Judged}
 use Rattle.proper.proofs.Latchable.{Latchable, strict, lastOf, having}
 use Rattle.proper.proofs.Fields.{stood-sent}
 use Rattle.proper.proofs.Filled.{Begun, stood-begun}
-use Rattle.proper.proofs.Lines.{stands-by, size-is, more-word, last-word}
+use Rattle.proper.proofs.Lines.{stands-by, more-word, last-word}
 
 -- what can stand on a box's line, and be under way at its end
 abbrev pub CanPass : Format → Passage Message → Type 0

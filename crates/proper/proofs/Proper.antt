@@ -1,22 +1,22 @@
 -- The yard check says yes exactly where some box can send the words: what a box sends passes it, and every box can send what passes it.
-use Prim.Native.Nat.{ℕ, _≤_}
+use Prim.Native.Nat.{ℕ}
 use mathlib.Core.Path.{_≡_, refl, sym, ap, _∙_}
 use mathlib.Core.Bool.{Bool, true, false, _&&_}
 use mathlib.Core.List.{List, [], _∷_, _++_, append-nil}
 use lib.Dec.{eqb}
 use lib.IntN.{pos}
 use lib.ListN.{length}
-use Rattle.numbers.proofs.Tested.{left, right}
-use Rattle.frames.specs.Passages.{Passage, UnderWay, nothing, first, passageWords, partWords}
+use Rattle.numbers.proofs.Tested.{left}
+use Rattle.frames.specs.Passages.{nothing}
 use Rattle.wire.specs.Line.{letterOf, namedBy, known}
 use Rattle.wire.specs.Holds.{within}
-use Rattle.wire.specs.Messages.{Message, report, reply, messageBytes}
+use Rattle.wire.specs.Messages.{Message, report, reply}
 use Rattle.wire.specs.declared.Format.{Format}
 use Rattle.wire.specs.declared.Format.the-variants.{Mm, Microsoft, Absolute, Relative, FiveByte, ThreeByte, Hexadecimal}
 use Rattle.ballbox.specs.Box.{Step, zeros, modeD}
 use Rattle.ballbox.specs.Commands.{commandOf, obeyed}
 use Rattle.ballbox.specs.Events.{onHost, awake}
-use Rattle.ballbox.specs.Latching.{limits, taken, cleared, latchedReport}
+use Rattle.ballbox.specs.Latching.{limits, cleared, latchedReport}
 use Rattle.ballbox.specs.Good.{good}
 use Rattle.ballbox.specs.declared.BallBox.{BallBox}
 use Rattle.ballbox.specs.declared.Event.the-variants.{Host}
@@ -35,7 +35,7 @@ use Rattle.yard.specs.Log.{sendable}
 use Rattle.proper.specs.Sends.{SendsFrom, CanSend, allHanded}
 use Rattle.proper.proofs.Latchable.{Latchable, secondLimits}
 use Rattle.proper.proofs.Lines.{LatchableIn, line-sent}
-use Rattle.proper.proofs.Parsed.{Line, parsed}
+use Rattle.proper.proofs.Parsed.{parsed}
 use Rattle.proper.proofs.Reached.{Reach, then, after-D, D-still, D-breaks, line, at-end, run-asks, run-history}
 
 -- what a box latches can be latched

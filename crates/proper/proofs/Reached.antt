@@ -1,27 +1,26 @@
 -- Events by which a box sends a line: prompted for each report, and broken off by D.
 use Prim.Native.Nat.{ℕ, zero, suc, _+_, _-_, _<_, _≤_}
 use mathlib.Core.Path.{_≡_, refl, sym, ap, _∙_, subst}
-use mathlib.Core.Bool.{Bool, true, false, cond, _&&_, _||_, and-false}
+use mathlib.Core.Bool.{Bool, true, false, _&&_}
 use mathlib.Core.List.{List, [], _∷_, _++_, append-assoc, append-nil}
 use native.Mathlib.Omega.{arith}
-use lib.Dec.{eqb, leb, lit≤}
-use lib.IntN.{ℤ, pos, negℤ, _+ℤ_, _-ℤ_, +ℤ-idl, +ℤ-comm, -ℤ-+ℤ-cancel}
-use lib.Signed.{mag}
+use lib.Dec.{eqb, leb}
+use lib.IntN.{ℤ, pos, negℤ, _-ℤ_, +ℤ-idl, +ℤ-comm, -ℤ-+ℤ-cancel}
 use lib.ListN.{length}
 use borrow.Author.Tests.{le-ltb, le-leb, eqb-true, ne-eqb, eq-eqb, leb-true, leb-false}
-use Rattle.numbers.specs.Signed.{least, most, held, heldSum}
+use Rattle.numbers.specs.Signed.{least, most, heldSum}
 use Rattle.numbers.proofs.Choices.{cases, both}
 use Rattle.numbers.proofs.Held.{held-same, mag-sum}
 use Rattle.numbers.proofs.Machine.{neg-near}
 use Rattle.numbers.proofs.Twos.{near-within, mag-magnitude}
 use Rattle.numbers.proofs.Tested.{left, right, holds}
 use Rattle.frames.specs.Passages.{Passage, silent, finished, broken, UnderWay, nothing, first}
-use Rattle.frames.specs.Sender.{Told, told, sentOne, brokenOff, passagesOver, goingOver}
+use Rattle.frames.specs.Sender.{told, sentOne, brokenOff, passagesOver, goingOver}
 use Rattle.wire.specs.Line.{letterOf, sizeOf, namedBy, known}
 use Rattle.wire.specs.Holds.{_to_, within}
 use Rattle.wire.specs.Table.{bytesOf}
 use Rattle.wire.specs.Reading.{report as shown}
-use Rattle.wire.specs.Messages.{Message, report, messageBytes, latchedIn}
+use Rattle.wire.specs.Messages.{Message, messageBytes, latchedIn}
 use Rattle.wire.specs.declared.Report.{Report}
 use Rattle.wire.specs.declared.Format.{Format}
 use Rattle.wire.specs.declared.Format.the-variants.{Mm, Microsoft, Absolute, Relative, FiveByte, ThreeByte, Hexadecimal}
@@ -35,21 +34,21 @@ use Rattle.ballbox.specs.Presses as presses
 use Rattle.ballbox.specs.Motion.{movedBy, counted, placed, placedAt, isA}
 use Rattle.ballbox.specs.Latching.{limits, limited, movement, taken, cleared, latched, latchedReport, secondLatched}
 use Rattle.ballbox.specs.Commands.{letterP, commandOf, obeyed}
-use Rattle.ballbox.specs.Events.{bytesLeft, wanted, secondNow, nextByte, dropped, onMotion, onButtons, onHost, awake}
+use Rattle.ballbox.specs.Events.{bytesLeft, secondNow, nextByte, dropped, onMotion, onButtons, onHost, awake}
 use Rattle.ballbox.specs.Good.{good, goodTrack, onPad}
-use Rattle.ballbox.specs.Promises.{aboveSeven, stepOf}
+use Rattle.ballbox.specs.Promises.{aboveSeven}
 use Rattle.ballbox.specs.declared.BallBox.{BallBox}
 use Rattle.ballbox.specs.declared.Settings.{Settings}
 use Rattle.ballbox.specs.declared.Track.{Track}
 use Rattle.ballbox.specs.declared.Pair.{Pair}
 use Rattle.ballbox.specs.declared.Event.{Event}
-use Rattle.ballbox.specs.declared.Event.the-variants.{Motion, Buttons, Host, Latch, Send, Period}
+use Rattle.ballbox.specs.declared.Event.the-variants.{Motion, Buttons, Host, Latch, Send}
 use Rattle.ballbox.proofs.Goodness.{stepped-good}
 use Rattle.ballbox.proofs.Parts.{parts as good-parts}
 use Rattle.ballbox.proofs.Refusals.{ruled}
 use Rattle.ballbox.proofs.Obeying.{dropped-settings, dropped-awake}
 use Rattle.ballbox.proofs.Cases.{latching-wanted, sending-byte, sending-silence, ready-plain, ready-second, dropped-idle}
-use Rattle.history.specs.History.{formatOf, begun, pairedAt, paired, withPair, isFive, whenAwake, toldBy, nextBox, passagesOf, goingAfter}
+use Rattle.history.specs.History.{formatOf, withPair, isFive, whenAwake, toldBy, nextBox, passagesOf, goingAfter}
 use Rattle.history.specs.Asked.{allHosts, asks, onlyAsks}
 use Rattle.history.proofs.Carries.{Alike, Carries}
 use Rattle.history.proofs.Sending.{bytes-left, five-is}
@@ -522,9 +521,6 @@ passes f b silent s c = record { events = Send ∷ []; box = b; run = pauses f b
 passes f b (finished m) s c = rw (c .1) (wholly f b (c .0) s (c .2))
 passes f b (broken n m) s c = rw (c .1) (then a d)
   where
-    r : Report
-    r = c .0
-
     a : Reach f b nothing [] (first n (latchedIn f (c .0)))
     a = partly f b n (c .0) s (c .2)
 

@@ -1,11 +1,11 @@
 -- A word leaves a good check good.
-use Prim.Native.Nat.{ℕ, suc, _+_, _-_, _<_}
-use mathlib.Core.Path.{_≡_, refl, sym, ap, _∙_}
+use Prim.Native.Nat.{ℕ, _+_, _-_, _<_}
+use mathlib.Core.Path.{_≡_, refl}
 use mathlib.Core.Bool.{Bool, true, false, not, cond, _&&_, _||_, and-false}
 use native.Mathlib.Omega.{arith}
 use lib.Dec.{eqb, ltb, leb}
 use borrow.Author.Tests.{lt-ltb, ltb-true, eqb-true, eqb-false, eq-eqb, ne-eqb}
-use Rattle.numbers.proofs.Choices.{cases, both}
+use Rattle.numbers.proofs.Choices.{cases}
 use Rattle.numbers.proofs.Tested.{left, right}
 use Rattle.frames.specs.Words.{isByte, break, silence}
 use Rattle.wire.specs.Line.{namedBy, ofNamed, known, sizeBy}
@@ -17,7 +17,7 @@ use Rattle.wire.specs.declared.Format.{Format}
 use Rattle.wire.specs.declared.Format.the-variants.{Mm, Microsoft, Absolute, Relative, FiveByte, ThreeByte, Hexadecimal}
 use Rattle.wire.proofs.Letters.{size-positive}
 use Rattle.yard.specs.Stands.{leastW, barred, barredBy, standsBy}
-use Rattle.yard.specs.State.{yard, noneGone, over}
+use Rattle.yard.specs.State.{noneGone, over}
 use Rattle.yard.specs.Good.{goneRightly, good}
 use Rattle.yard.specs.Rules.{can, cannot, refusing, firstWith, oneMore, byteOf, silenceOf, wordOf}
 use Rattle.yard.specs.declared.Yard.{Yard}

@@ -1,7 +1,7 @@
 -- A log, word by word.
 use Prim.Native.Nat.{ℕ, zero, suc, _+_, _<_, _≤_}
 use mathlib.Core.Path.{_≡_, refl, sym, ap, _∙_}
-use mathlib.Core.Bool.{Bool, true, false, cond, _&&_}
+use mathlib.Core.Bool.{Bool, true, false, cond}
 use mathlib.Core.List.{List, [], _∷_}
 use native.Mathlib.Omega.{arith}
 use lib.ListN.{length, take}
@@ -14,7 +14,6 @@ use Rattle.yard.specs.State.{over}
 use Rattle.yard.specs.Rules.{wordOf}
 use Rattle.yard.specs.Log.{sendable, judgement, refused, checkedOf}
 use Rattle.yard.specs.declared.Yard.{Yard}
-use Rattle.yard.specs.declared.Judged.{Judged}
 use Rattle.yard.specs.declared.Checked.{Checked}
 use Rattle.yard.proofs.Keeps.{by-word}
 

@@ -6,9 +6,9 @@ use native.Mathlib.Omega.{arith}
 use Rattle.numbers.proofs.Tested.{holds}
 use Rattle.wire.specs.Line.{letterOf}
 use Rattle.wire.specs.declared.Format.the-variants.{Mm, FiveByte, ThreeByte}
-use Rattle.yard.specs.State.{yard, noneGone, over}
+use Rattle.yard.specs.State.{yard, noneGone}
 use Rattle.yard.specs.Rules.{can, cannot}
-use Rattle.yard.specs.Log.{judgement, refused}
+use Rattle.yard.specs.Log.{judgement}
 use Rattle.yard.specs.Promises.{newYard, FreshPromise, StepPromise, CheckPromise}
 use Rattle.yard.specs.declared.NewYard.{NewYard}
 use Rattle.yard.specs.declared.Judged.{Judged}

@@ -1,6 +1,6 @@
 -- The good check: a known format; of the report that is going fewer bytes than it has, the first of them one that can begin it, the last one that can
 -- stand in its place, and 0 for both where none has gone; ended only with none gone.
-use Prim.Native.Nat.{ℕ, _-_}
+use Prim.Native.Nat.{_-_}
 use mathlib.Core.Bool.{Bool, not, cond, _&&_}
 use lib.Dec.{eqb, ltb}
 use Rattle.wire.specs.Line.{sizeBy, known}

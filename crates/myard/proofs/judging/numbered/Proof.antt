@@ -1,12 +1,12 @@
 -- `numbered`: a letter, a tab and a decimal.
 use borrow.Author.Needs.{needs}
 use native.Mathlib.Omega.{arith}
-use mathlib.Core.Path.{_≡_, sym, _∙_}
+use mathlib.Core.Path.{_∙_}
 use mathlib.Core.List.{[], _∷_}
 use lib.IntN.{pos}
 use mir.Syntax.{w64}
 use mir.Facts.{toZ-pos}
-use Rattle.text.specs.Growth.{grown, grownBy, none}
+use Rattle.text.specs.Growth.{grown, none}
 use Rattle.text.specs.Decimals.{plain, decimalOf}
 use Rattle.text.proofs.Laws.{both}
 use Rattle.myard.proofs.judging.numbered.Statement.{statement}
