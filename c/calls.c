@@ -256,6 +256,52 @@ static void lister_pieces(void) {
     line("istrolf_lister", refused, all);
 }
 
+/* The yard check. */
+
+static uint64_t mixed_yard(uint64_t h, istrolf_yard y) { return mixed(mixed(mixed(mixed(mixed(h, y.format), y.first), y.last), y.count), y.ended); }
+
+static istrolf_yard any_yard(uint64_t call) {
+    istrolf_yard y = {letter(call, 120), 0, 0, 0, mark(call, 121)};
+    if (drawn(call, 122, 2) == 0) y.first = drawn_byte(call, 123, 256), y.last = drawn_byte(call, 124, 64), y.count = drawn_byte(call, 125, 6);
+    return y;
+}
+
+static void yards_fresh(void) {
+    uint64_t all = 0, refused = 0;
+    for (uint64_t call = 0; call < 100000; call++) {
+        istrolf_new_yard n = istrolf_yard_fresh(drawn_byte(call, 139, 256));
+        all = mixed_yard(mixed(all, n.refusal), n.yard);
+        refused += n.refusal > 0;
+    }
+    line("istrolf_yard_fresh", refused, all);
+}
+
+static void yard_steps(void) {
+    uint64_t all = 0, refused = 0;
+    istrolf_yard last = istrolf_yard_fresh('U').yard;
+    for (uint64_t call = 0; call < 100000; call++) {
+        uint64_t kind = drawn(call, 126, 8);
+        istrolf_yard y = kind == 0 ? istrolf_yard_fresh(letter(call, 127)).yard : kind == 1 ? any_yard(call) : last;
+        istrolf_judged j = istrolf_yard_step(y, word(call, 128));
+        all = mixed(all, mixed_yard(mixed(mixed(0, j.refusal), j.can), j.next));
+        refused += j.refusal > 0;
+        last = j.next;
+    }
+    line("istrolf_yard_step", refused, all);
+}
+
+static void yard_checks(void) {
+    uint64_t all = 0, refused = 0;
+    for (uint64_t call = 0; call < 100000; call++) {
+        uint16_t words[8] = {word(call, 130), 133};
+        for (int i = 2; i < 8; i++) words[i] = word(call, 129 + (uint64_t)i);
+        istrolf_checked c = istrolf_yard_check(letter(call, 138), words, drawn(call, 137, 9));
+        all = mixed(mixed(mixed(all, c.refusal), c.proper), c.sendable);
+        refused += c.refusal > 0;
+    }
+    line("istrolf_yard_check", refused, all);
+}
+
 int main(void) {
     readers_fresh();
     reader_steps();
@@ -263,5 +309,8 @@ int main(void) {
     encodes();
     box_steps();
     lister_pieces();
+    yards_fresh();
+    yard_steps();
+    yard_checks();
     return 0;
 }

@@ -241,11 +241,76 @@ static void lister(void) {
     same_lister(a.next, 41, 2, "", 0);
 }
 
+static void same_yard(istrolf_yard y, uint8_t format, uint8_t first, uint8_t last, uint8_t count, uint8_t ended) {
+    same("yard.format", y.format, format);
+    same("yard.first", y.first, first);
+    same("yard.last", y.last, last);
+    same("yard.count", y.count, count);
+    same("yard.ended", y.ended, ended);
+}
+
+static void yard(void) {
+    istrolf_new_yard n = istrolf_yard_fresh('W');
+    same("new_yard.refusal", n.refusal, 0);
+    same_yard(n.yard, 'W', 0, 0, 0, 0);
+    n = istrolf_yard_fresh('X');
+    same("new_yard.refusal", n.refusal, ISTROLF_BAD_LETTER);
+    same_yard(n.yard, 'U', 0, 0, 0, 0);
+
+    /* in: the high digit 8 behind the last byte 0 is -128, and else it can be sent; out: the same by their members */
+    const istrolf_yard low = {'W', '7', '0', 2, 0}, other = {'W', '7', '1', 2, 0};
+    istrolf_judged j = istrolf_yard_step(low, '8');
+    same("judged.refusal", j.refusal, 0);
+    same("judged.can", j.can, 0);
+    same_yard(j.next, 'W', 0, 0, 0, 1);
+    j = istrolf_yard_step(j.next, ISTROLF_SILENCE);
+    same("judged.can", j.can, 0);
+    same_yard(j.next, 'W', 0, 0, 0, 1);
+    j = istrolf_yard_step(other, '8');
+    same("judged.refusal", j.refusal, 0);
+    same("judged.can", j.can, 1);
+    same_yard(j.next, 'W', '7', '8', 3, 0);
+
+    /* the sign of S is in the first byte */
+    const istrolf_yard minus = {'S', 0x88, 0x88, 1, 0}, plus = {'S', 0x98, 0x98, 1, 0};
+    same("judged.can", istrolf_yard_step(minus, 0).can, 0);
+    same("judged.can", istrolf_yard_step(plus, 0).can, 1);
+
+    /* a word above 257, a mark of 2 and a last byte that is none are refused, and the check is handed back */
+    j = istrolf_yard_step(other, 258);
+    same("judged.refusal", j.refusal, ISTROLF_BAD_WORD);
+    same_yard(j.next, 'W', '7', '1', 2, 0);
+    istrolf_yard y = low;
+    y.ended = 2;
+    j = istrolf_yard_step(y, '0');
+    same("judged.refusal", j.refusal, ISTROLF_BAD_STATE);
+    same("judged.can", j.can, 0);
+    same_yard(j.next, 'W', '7', '0', 2, 2);
+    y.ended = 0, y.last = 'G';
+    same("judged.refusal", istrolf_yard_step(y, '0').refusal, ISTROLF_BAD_STATE);
+
+    const uint16_t words[] = {257, 0x94, 5, 3, 256, 0x88, 0, 258};
+    istrolf_checked c = istrolf_yard_check('S', words, 6);
+    same("checked.refusal", c.refusal, 0);
+    same("checked.proper", c.proper, 1);
+    same("checked.sendable", (long long)c.sendable, 6);
+    c = istrolf_yard_check('S', words, 7);
+    same("checked.refusal", c.refusal, 0);
+    same("checked.proper", c.proper, 0);
+    same("checked.sendable", (long long)c.sendable, 6);
+    c = istrolf_yard_check('S', words, 8);
+    same("checked.refusal", c.refusal, ISTROLF_BAD_WORD);
+    same("checked.proper", c.proper, 0);
+    same("checked.sendable", (long long)c.sendable, 0);
+    same("checked.refusal", istrolf_yard_check('X', words, 8).refusal, ISTROLF_BAD_LETTER);
+}
+
 int main(void) {
     reader();
     encoder();
     box();
     lister();
+    yard();
     printf("%d compared, %d wrong\n", compared, wrong);
     return wrong > 0;
 }

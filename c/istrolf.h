@@ -193,6 +193,42 @@ istrolf_listed istrolf_lister_feed(istrolf_lister lister, const uint8_t *input, 
 /* The end of the recording. Refusal: BAD_STATE. If it has not ended then, there was no room for its text: call again with new room. */
 istrolf_listed istrolf_lister_finish(istrolf_lister lister, uint8_t *out, size_t room);
 
+/* ---- The yard check: can a box, set to a format and then asked only for reports, send the words of a log from there on? */
+
+typedef struct {
+    uint8_t format; /* its letter */
+    uint8_t first;  /* of the report that is going, the first byte, or 0 */
+    uint8_t last;   /* the last byte, or 0 */
+    uint8_t count;  /* how many have gone */
+    uint8_t ended;  /* 1 once a word has come that cannot be sent, and else 0 */
+} istrolf_yard;
+
+typedef struct {
+    uint8_t refusal;
+    istrolf_yard yard;
+} istrolf_new_yard;
+
+typedef struct {
+    uint8_t refusal;
+    uint8_t can; /* 1 if the word can be sent, with those before it, and else 0 */
+    istrolf_yard next;
+} istrolf_judged;
+
+typedef struct {
+    uint8_t refusal;
+    uint8_t proper;  /* 1 if all words can be sent, and else 0 */
+    size_t sendable; /* how many words, from the first, can be sent: the place of the first that cannot */
+} istrolf_checked;
+
+/* A check of a format that has seen no word. Refusal: BAD_LETTER, and then the check is one of U. */
+istrolf_new_yard istrolf_yard_fresh(uint8_t letter);
+
+/* One word, for a log that comes in pieces. Behind a word that cannot be sent none can. Refusals: BAD_STATE, BAD_WORD. */
+istrolf_judged istrolf_yard_step(istrolf_yard yard, uint16_t word);
+
+/* A whole log. Refusals: BAD_LETTER; BAD_WORD, for a word above 257 anywhere, behind one that cannot be sent too. A refusal tells nothing of the words. */
+istrolf_checked istrolf_yard_check(uint8_t letter, const uint16_t *words, size_t count);
+
 #ifdef __cplusplus
 }
 #endif

@@ -7,13 +7,13 @@ use native.Mathlib.Omega.{arith}
 use lib.ListN.{length}
 use lib.Dec.{eqb}
 use borrow.Author.Tests.{eqb-true, eqb-false}
-use Rattle.frames.specs.Passages.{UnderWay, nothing, first}
+use Rattle.frames.specs.Passages.{UnderWay, nothing, first, Sound, SoundPart}
 use Rattle.frames.specs.Sender.{told, sentOne, brokenOff, passagesOver, goingOver}
 use Rattle.frames.proofs.Passages.{sound-append}
 use Rattle.numbers.proofs.Choices.{cases, or-else, both}
 use Rattle.numbers.proofs.Tested.{left, right}
 use Rattle.wire.specs.Line.{letterOf, namedBy, known}
-use Rattle.wire.specs.Messages.{Latched, Message, report, reply, messageBytes, HeldBy, SoundIn, SoundEnd}
+use Rattle.wire.specs.Messages.{Message, report, reply, messageBytes, HeldBy, SoundIn, SoundEnd}
 use Rattle.wire.specs.declared.Format.{Format}
 use Rattle.wire.specs.declared.Format.the-variants.{FiveByte}
 use Rattle.wire.proofs.Letters.{letter-named}
@@ -32,7 +32,7 @@ use Rattle.ballbox.specs.declared.Event.the-variants.{Motion, Buttons, Host, La
 use Rattle.ballbox.proofs.Goodness.{stepped-good}
 use Rattle.ballbox.proofs.Refusals.{ruled}
 use Rattle.ballbox.proofs.Obeying.{dropped-settings, dropped-awake}
-use Rattle.history.specs.History.{formatOf, begun, pairedAt, paired, isFive, whenAwake, toldBy, nextBox, passagesOf, goingAfter}
+use Rattle.history.specs.History.{formatOf, latchedNow, begun, pairedAt, paired, isFive, whenAwake, toldBy, nextBox, passagesOf, goingAfter}
 use Rattle.history.specs.Asked.{allHosts, asks, onlyAsks}
 use Rattle.history.proofs.Carries.{Alike, Carries}
 use Rattle.history.proofs.Sending.{latched-carries, five-is, pair-accepted, pairs}
@@ -46,45 +46,56 @@ pub record SetTo (f : Format) (b : BallBox) (g : UnderWay Message) : Type 0 wher
   pub carries : Carries b g
   pub sound : SoundEnd f g
 
-same-format : (b : BallBox) (f : Format) → b .settings .format ≡ letterOf f → formatOf b ≡ f
-same-format b f e = rw (e, letter-named f)
+-- a test of messages that what is latched passes, and what passes it with U's second pair
+pub record Lasting (f : Format) (T : Message → Type 0) : Type 0 where
+  pub of-latched : (b : BallBox) → good b ≡ true → b .dormant ≡ false → b .settings .format ≡ letterOf f → T (report (latchedNow b))
+  pub of-pair : (b : BallBox) (n : ℕ) (m : Message) → b .settings .format ≡ letterOf f → T m → T (pairedAt b n m)
 
--- what is ready to be sent is sound, and so is what is latched
-pair-held : (f : Format) (b : BallBox) (n : ℕ) (l : Latched) → b .settings .format ≡ letterOf f → HeldBy f (report l) → HeldBy f (pairedAt b n (report l))
-pair-held f b n l s h = go (isFive (l .format) && eqb n 3) refl
+-- that the format holds it is such a test
+pair-held : (f : Format) (b : BallBox) (n : ℕ) (m : Message) → b .settings .format ≡ letterOf f → HeldBy f m → HeldBy f (pairedAt b n m)
+pair-held f b n (report l) s h = go (isFive (l .format) && eqb n 3) refl
   where
     go : (t : Bool) → isFive (l .format) && eqb n 3 ≡ t → HeldBy f (pairedAt b n (report l))
     go true e =
         let u : f ≡ FiveByte = sym (h .0) ∙ five-is (l .format) (left (isFive (l .format)) (eqb n 3) e) in
         rw e (h .0, rw (s, u) (pair-accepted (b .track) (l .report) (rw u at (h .1))))
     go false e = rw e h
+pair-held f b n (reply bytes) s h = absurd h
 
-sound-latched : (f : Format) (b : BallBox) (g : UnderWay Message) → SetTo f b g → SoundEnd f (begun b g)
-sound-latched f b nothing h =
-    let k = latched-carries b (h .good) (h .awake) .1 in
-    let s = same-format b f (h .format) in
-    cases (SoundEnd f) (wanted b) (λ e. ((s, rw s at (k .sendable .1)), k .left)) (λ e. tt)
-sound-latched f b (first n m) h = h .sound
+pub same-format : (b : BallBox) (f : Format) → b .settings .format ≡ letterOf f → formatOf b ≡ f
+same-format b f e = rw (e, letter-named f)
 
-sound-ready : (f : Format) (b : BallBox) (g : UnderWay Message) → SetTo f b g → SoundEnd f (paired b g)
-sound-ready f b nothing h = tt
-sound-ready f b (first n (report l)) h =
-    let p = pairs b n (report l) (h .carries) .carries in
-    (pair-held f b n l (h .format) (h .sound .0), p .1 .left)
-sound-ready f b (first n (reply bytes)) h = absurd (h .sound .0)
+held-lasting : (f : Format) → Lasting f (HeldBy f)
+held-lasting f =
+    record {
+      of-latched = λ b g d e. let s = same-format b f e in (s, rw s at (latched-carries b g d .1 .sendable .1));
+      of-pair = pair-held f;
+    }
 
--- and so are the passages that it ends, and what is left of it
-sound-sent : (f : Format) (g : UnderWay Message) → SoundEnd f g → SoundIn f (sentOne messageBytes g .passages) × SoundEnd f (sentOne messageBytes g .going)
-sound-sent f nothing s = ((tt, tt), tt)
-sound-sent f (first n m) s = go (eqb (n + 1) (length (messageBytes m))) refl
-  where
-    go : (t : Bool) → eqb (n + 1) (length (messageBytes m)) ≡ t → SoundIn f (sentOne messageBytes (first n m) .passages) × SoundEnd f (sentOne messageBytes (first n m) .going)
-    go true e = rw e ((s .0, tt), tt)
-    go false e = let d = eqb-false (n + 1) (length (messageBytes m)) e in rw e (tt, (s .0, omega (arith, s .1)))
+module _ {f : Format} {T : Message → Type 0} (L : Lasting f T) where
+  -- what is ready to be sent passes it, and so does what is latched
+  sound-latched : (b : BallBox) (g : UnderWay Message) → SetTo f b g → SoundPart messageBytes T g → SoundPart messageBytes T (begun b g)
+  sound-latched b nothing h s =
+      cases (SoundPart messageBytes T) (wanted b) (λ e. (L .of-latched b (h .good) (h .awake) (h .format), latched-carries b (h .good) (h .awake) .1 .left)) (λ e. tt)
+  sound-latched b (first n m) h s = s
 
-sound-broken : (f : Format) (g : UnderWay Message) → SoundEnd f g → SoundIn f (brokenOff g)
-sound-broken f nothing s = tt
-sound-broken f (first n m) s = (s, tt)
+  sound-ready : (b : BallBox) (g : UnderWay Message) → SetTo f b g → SoundPart messageBytes T g → SoundPart messageBytes T (paired b g)
+  sound-ready b nothing h s = tt
+  sound-ready b (first n m) h s = (L .of-pair b n m (h .format) (s .0), pairs b n m (h .carries) .carries .1 .left)
+
+-- and so do the passages that it ends, and what is left of it
+module _ (T : Message → Type 0) where
+  sound-sent : (g : UnderWay Message) → SoundPart messageBytes T g → Sound messageBytes T (sentOne messageBytes g .passages) × SoundPart messageBytes T (sentOne messageBytes g .going)
+  sound-sent nothing s = ((tt, tt), tt)
+  sound-sent (first n m) s = go (eqb (n + 1) (length (messageBytes m))) refl
+    where
+      go : (t : Bool) → eqb (n + 1) (length (messageBytes m)) ≡ t → Sound messageBytes T (sentOne messageBytes (first n m) .passages) × SoundPart messageBytes T (sentOne messageBytes (first n m) .going)
+      go true e = rw e ((s .0, tt), tt)
+      go false e = let d = eqb-false (n + 1) (length (messageBytes m)) e in rw e (tt, (s .0, omega (arith, s .1)))
+
+  sound-broken : (g : UnderWay Message) → SoundPart messageBytes T g → Sound messageBytes T (brokenOff g)
+  sound-broken nothing s = tt
+  sound-broken (first n m) s = (s, tt)
 
 -- a box with the format and the sleep of another, step by step
 alike-then : {a b c : BallBox} → Alike a b → Alike b c → Alike a c
@@ -174,15 +185,6 @@ awake-alike b Latch a = latching-alike b
 awake-alike b Send a = sending-alike b
 awake-alike b Period a = record { format = refl; dormant = refl }
 
--- and ends sound passages only
-awake-told : (f : Format) (b : BallBox) (e : Event) (g : UnderWay Message) → asks e ≡ true → SetTo f b g → SoundIn f (whenAwake b e g .passages) × SoundEnd f (whenAwake b e g .going)
-awake-told f b (Motion dx dy) g a h = (tt, h .sound)
-awake-told f b (Buttons n) g a h = (tt, h .sound)
-awake-told f b (Host byte) g a h = (sound-broken f g (h .sound), rw (asking-reply b (commandOf byte) (asking-command byte a)) tt)
-awake-told f b Latch g a h = (tt, sound-latched f b g h)
-awake-told f b Send g a h = sound-sent f (paired b g) (sound-ready f b g h)
-awake-told f b Period g a h = (tt, h .sound)
-
 pub refused-next : (b : BallBox) (e : Event) → good b ≡ true → aboveSeven e ≡ true → stepOf b e .next ≡ b
 unfolding stepOf
 refused-next b e k p = rw (k, p)
@@ -198,36 +200,49 @@ step-alike b e a k d = go (aboveSeven e) refl
     go true p = rw (refused-next b e k p) (alike b)
     go false p = rw (ruled b e false k p d) (awake-alike b e a)
 
+module _ {f : Format} {T : Message → Type 0} (L : Lasting f T) where
+  -- and ends passages only that pass a test, as what is going does
+  awake-told : (b : BallBox) (e : Event) (g : UnderWay Message) → asks e ≡ true → SetTo f b g → SoundPart messageBytes T g → Sound messageBytes T (whenAwake b e g .passages) × SoundPart messageBytes T (whenAwake b e g .going)
+  awake-told b (Motion dx dy) g a h s = (tt, s)
+  awake-told b (Buttons n) g a h s = (tt, s)
+  awake-told b (Host byte) g a h s = (sound-broken T g s, rw (asking-reply b (commandOf byte) (asking-command byte a)) tt)
+  awake-told b Latch g a h s = (tt, sound-latched L b g h s)
+  awake-told b Send g a h s = sound-sent T (paired b g) (sound-ready L b g h s)
+  awake-told b Period g a h s = (tt, s)
+
+  step-told : (b : BallBox) (e : Event) (g : UnderWay Message) → asks e ≡ true → SetTo f b g → SoundPart messageBytes T g → Sound messageBytes T (toldBy b e g .passages) × SoundPart messageBytes T (toldBy b e g .going)
+  step-told b e g a h s = go (aboveSeven e) refl
+    where
+      go : (t : Bool) → aboveSeven e ≡ t → Sound messageBytes T (toldBy b e g .passages) × SoundPart messageBytes T (toldBy b e g .going)
+      go true p = rw (refused-told b e g p) (tt, s)
+      go false p = rw (told-is b e g false p (h .awake)) (awake-told b e g a h s)
+
 -- one step of such a box
-asked-step : (f : Format) (b : BallBox) (e : Event) (g : UnderWay Message) → asks e ≡ true → SetTo f b g → SoundIn f (toldBy b e g .passages) × SetTo f (nextBox b e) (toldBy b e g .going)
+asked-step : (f : Format) (b : BallBox) (e : Event) (g : UnderWay Message) → asks e ≡ true → SetTo f b g → SetTo f (nextBox b e) (toldBy b e g .going)
 asked-step f b e g a h =
     let l = step-alike b e a (h .good) (h .awake) in
-    let s = told-sound in (
-      s .0,
-      record {
-        good = stepped-good b e (h .good);
-        awake = l .dormant ∙ h .awake;
-        format = l .format ∙ h .format;
-        carries = step-sends b e g (h .good) (h .carries) .carries;
-        sound = s .1;
-      },
-    )
-  where
-    told-sound : SoundIn f (toldBy b e g .passages) × SoundEnd f (toldBy b e g .going)
-    told-sound = go (aboveSeven e) refl
-      where
-        go : (t : Bool) → aboveSeven e ≡ t → SoundIn f (toldBy b e g .passages) × SoundEnd f (toldBy b e g .going)
-        go true p = rw (refused-told b e g p) (tt, h .sound)
-        go false p = rw (told-is b e g false p (h .awake)) (awake-told f b e g a h)
+    record {
+      good = stepped-good b e (h .good);
+      awake = l .dormant ∙ h .awake;
+      format = l .format ∙ h .format;
+      carries = step-sends b e g (h .good) (h .carries) .carries;
+      sound = step-told (held-lasting f) b e g a h (h .sound) .1;
+    }
 
 -- over every list of such events
-pub asked-sound : (f : Format) (b : BallBox) (g : UnderWay Message) (events : List Event) → onlyAsks events ≡ true → SetTo f b g → SoundIn f (passagesOf b g events) × SoundEnd f (goingAfter b g events)
+pub asked-lasting : {f : Format} {T : Message → Type 0} → Lasting f T → (b : BallBox) (g : UnderWay Message) (events : List Event) → onlyAsks events ≡ true → SetTo f b g → SoundPart messageBytes T g
+    → Sound messageBytes T (passagesOf b g events) × SoundPart messageBytes T (goingAfter b g events)
 unfolding allHosts passagesOver goingOver
-asked-sound f b g [] a h = (tt, h .sound)
-asked-sound f b g (e ∷ events) a h =
-    let s = asked-step f b e g (left (asks e) (onlyAsks events) a) h in
-    let r = asked-sound f (nextBox b e) (toldBy b e g .going) events (right (asks e) (onlyAsks events) a) (s .1) in
-    (sound-append messageBytes (HeldBy f) (toldBy b e g .passages) (passagesOf (nextBox b e) (toldBy b e g .going) events) (s .0) (r .0), r .1)
+asked-lasting L b g [] a h s = (tt, s)
+asked-lasting {f} {T} L b g (e ∷ events) a h s =
+    let x = left (asks e) (onlyAsks events) a in
+    let t = step-told L b e g x h s in
+    let r = asked-lasting L (nextBox b e) (toldBy b e g .going) events (right (asks e) (onlyAsks events) a) (asked-step f b e g x h) (t .1) in
+    (sound-append messageBytes T (toldBy b e g .passages) (passagesOf (nextBox b e) (toldBy b e g .going) events) (t .0) (r .0), r .1)
+
+-- sound passages only
+pub asked-sound : (f : Format) (b : BallBox) (g : UnderWay Message) (events : List Event) → onlyAsks events ≡ true → SetTo f b g → SoundIn f (passagesOf b g events) × SoundEnd f (goingAfter b g events)
+asked-sound f b g events a h = asked-lasting (held-lasting f) b g events a h (h .sound)
 
 -- events whose bytes of the host's pass one test pass another
 pub hosts-by : (P Q : ℕ → Bool) → ((byte : ℕ) → P byte ≡ true → Q byte ≡ true) → (events : List Event) → allHosts P events ≡ true → allHosts Q events ≡ true

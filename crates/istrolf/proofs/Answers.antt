@@ -8,7 +8,7 @@ use Rattle.wire.specs.declared.Report.{Report}
 use Rattle.ballbox.specs.declared.Event.{Event}
 use Rattle.istrolf.specs.Readers as readers
 use Rattle.istrolf.specs.Listers as listers
-use Rattle.istrolf.specs.Promises.{FreshReaderPromise, ReaderStepPromise, ReadPromise, EncodePromise, FreshBoxPromise, BoxStepPromise, FreshListerPromise, FeedPromise, FinishPromise}
+use Rattle.istrolf.specs.Promises.{FreshReaderPromise, ReaderStepPromise, ReadPromise, EncodePromise, FreshBoxPromise, BoxStepPromise, FreshListerPromise, FeedPromise, FinishPromise, FreshYardPromise, YardStepPromise, YardCheckPromise}
 use Rattle.istrolf.specs.declared.HeldReader.{HeldReader}
 use Rattle.istrolf.specs.declared.FreshReader.{FreshReader}
 use Rattle.istrolf.specs.declared.ReadWord.{ReadWord}
@@ -18,6 +18,10 @@ use Rattle.istrolf.specs.declared.HeldBox.{HeldBox}
 use Rattle.istrolf.specs.declared.SteppedBox.{SteppedBox}
 use Rattle.istrolf.specs.declared.HeldLister.{HeldLister}
 use Rattle.istrolf.specs.declared.ListedBytes.{ListedBytes}
+use Rattle.istrolf.specs.declared.HeldYard.{HeldYard}
+use Rattle.istrolf.specs.declared.FreshYard.{FreshYard}
+use Rattle.istrolf.specs.declared.JudgedWord.{JudgedWord}
+use Rattle.istrolf.specs.declared.CheckedWords.{CheckedWords}
 
 listed-same : {a b : ListedBytes} {x y : List ℕ} → listers.whole a x ≡ listers.whole b y → (a ≡ b) × (x ≡ y)
 listed-same e = (ap (λ (l : listers.Whole). l .listed) e, ap (λ (l : listers.Whole). l .out) e)
@@ -54,3 +58,12 @@ one-feed h input out a b x y e f = listed-same (e ∙ sym f)
 pub one-finish : (h : HeldLister) (out : List ℕ) (a b : ListedBytes) (x y : List ℕ)
     → FinishPromise h out a x → FinishPromise h out b y → (a ≡ b) × (x ≡ y)
 one-finish h out a b x y e f = listed-same (e ∙ sym f)
+
+pub one-fresh-yard : (letter : ℕ) (a b : FreshYard) → FreshYardPromise letter a → FreshYardPromise letter b → a ≡ b
+one-fresh-yard letter a b e f = e ∙ sym f
+
+pub one-yard-step : (h : HeldYard) (w : ℕ) (a b : JudgedWord) → YardStepPromise h w a → YardStepPromise h w b → a ≡ b
+one-yard-step h w a b e f = e ∙ sym f
+
+pub one-yard-check : (letter : ℕ) (words : List ℕ) (a b : CheckedWords) → YardCheckPromise letter words a → YardCheckPromise letter words b → a ≡ b
+one-yard-check letter words a b e f = e ∙ sym f

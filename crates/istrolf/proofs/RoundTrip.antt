@@ -5,10 +5,13 @@ use Rattle.numbers.proofs.Tested.{left, right}
 use Rattle.reader.specs.declared.Reader.{Reader}
 use Rattle.ballbox.specs.declared.BallBox.{BallBox}
 use Rattle.listing.specs.declared.Lister.{Lister}
+use Rattle.yard.specs.declared.Yard.{Yard}
 use Rattle.istrolf.specs.Marks.{isMark}
 use Rattle.istrolf.specs.Readers as readers
 use Rattle.istrolf.specs.Boxes as boxes
 use Rattle.istrolf.specs.Listers as listers
+use Rattle.istrolf.specs.Yards as yards
+use Rattle.istrolf.specs.declared.HeldYard.{HeldYard}
 use Rattle.istrolf.specs.declared.HeldReader.{HeldReader}
 use Rattle.istrolf.specs.declared.HeldBox.{HeldBox}
 use Rattle.istrolf.specs.declared.HeldLister.{HeldLister}
@@ -73,3 +76,13 @@ lister-back h s =
 
 pub lister-stands : (m : Lister) → listers.stands (listers.packed m) ≡ true
 lister-stands m = rw (mark-stands (m .scanner .ended), mark-stands (m .reader .awaiting))
+
+-- a yard check
+pub yard-there : (y : Yard) → yards.unpacked (yards.packed y) ≡ y
+yard-there y = λ i. record { format = y .format; first = y .first; last = y .last; count = y .count; ended = mark-back (y .ended) i }
+
+pub yard-back : (h : HeldYard) → yards.stands h ≡ true → yards.packed (yards.unpacked h) ≡ h
+yard-back h s = λ i. record { format = h .format; first = h .first; last = h .last; count = h .count; ended = mark-of (h .ended) s i }
+
+pub yard-stands : (y : Yard) → yards.stands (yards.packed y) ≡ true
+yard-stands y = mark-stands (y .ended)

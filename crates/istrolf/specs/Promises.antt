@@ -12,6 +12,7 @@ use Rattle.ballbox.specs.Promises as ballbox
 use Rattle.ballbox.specs.declared.Event.{Event}
 use Rattle.listing.specs.Feeding as feeding
 use Rattle.listing.specs.Promises as listing
+use Rattle.yard.specs.Promises as yard
 use Rattle.istrolf.specs.Readers as readers
 use Rattle.istrolf.specs.Boxes as boxes
 use Rattle.istrolf.specs.Listers as listers
@@ -24,6 +25,11 @@ use Rattle.istrolf.specs.declared.HeldBox.{HeldBox}
 use Rattle.istrolf.specs.declared.SteppedBox.{SteppedBox}
 use Rattle.istrolf.specs.declared.HeldLister.{HeldLister}
 use Rattle.istrolf.specs.declared.ListedBytes.{ListedBytes}
+use Rattle.istrolf.specs.Yards as yards
+use Rattle.istrolf.specs.declared.HeldYard.{HeldYard}
+use Rattle.istrolf.specs.declared.FreshYard.{FreshYard}
+use Rattle.istrolf.specs.declared.JudgedWord.{JudgedWord}
+use Rattle.istrolf.specs.declared.CheckedWords.{CheckedWords}
 
 -- `istrolf_reader_fresh(letter)`
 abbrev pub FreshReaderPromise : ℕ → FreshReader → Type 0
@@ -79,3 +85,18 @@ finishOf h out =
 
 abbrev pub FinishPromise : HeldLister → List ℕ → ListedBytes → List ℕ → Type 0
 FinishPromise h before answer after = listers.whole answer after ≡ finishOf h before
+
+-- `istrolf_yard_fresh(letter)`
+abbrev pub FreshYardPromise : ℕ → FreshYard → Type 0
+FreshYardPromise letter answer = answer ≡ yards.packedFresh (yard.freshOf letter)
+
+-- `istrolf_yard_step(yard, word)`
+unfoldable pub yardStepOf : HeldYard → ℕ → JudgedWord
+yardStepOf h w = cond (yards.stands h) (yards.packedJudged (yard.stepOf (yards.unpacked h) w)) (yards.refusedJudged h)
+
+abbrev pub YardStepPromise : HeldYard → ℕ → JudgedWord → Type 0
+YardStepPromise h w answer = answer ≡ yardStepOf h w
+
+-- `istrolf_yard_check(letter, words)`
+abbrev pub YardCheckPromise : ℕ → List ℕ → CheckedWords → Type 0
+YardCheckPromise letter words answer = answer ≡ yards.packedChecked (yard.checkOf letter words)

@@ -44,11 +44,8 @@ say-requires c κs = search needs
 small-requires : tie.Need-small-requires Inv-loop μ-loop
 small-requires c κs = search needs
 
-slice-aggregate-say-2 : tie.Need-slice-aggregate-say-2 Inv-loop μ-loop
-slice-aggregate-say-2 c = search needs
-
-say-requires-2 : tie.Need-say-requires-2 Inv-loop μ-loop
-say-requires-2 c κs = search needs
+judged-requires : tie.Need-judged-requires Inv-loop μ-loop
+judged-requires c κs = search needs
 
 returns : tie.Need-returns Inv-loop μ-loop
 returns c = search needs
@@ -70,6 +67,5 @@ answers-spec =
     slice-aggregate-say
     say-requires
     small-requires
-    slice-aggregate-say-2
-    say-requires-2
+    judged-requires
     returns)
