@@ -1,0 +1,3 @@
+-- The laws of the bridge: numbers that 32 bits hold (Near), V reports as they are written (Writing).
+pub mod Near
+pub mod Writing
