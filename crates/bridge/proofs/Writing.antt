@@ -1,5 +1,5 @@
 -- V reports as they are written: the encoder accepts each, and their bytes stand one behind the other.
-use Prim.Native.Nat.{ℕ, zero, suc, _+_, _-_, _*_, _≤_}
+use Prim.Native.Nat.{ℕ, zero, suc, _+_, _-_, _*_, _/_, _<_, _≤_}
 use mathlib.Core.Path.{_≡_, refl, sym, _∙_, ap}
 use mathlib.Core.Bool.{true}
 use mathlib.Core.List.{List, [], _∷_, _++_, append-assoc}
@@ -7,7 +7,7 @@ use native.Mathlib.Omega.{arith}
 use lib.ListN.{length, take, drop, length-append, length-drop}
 use lib.Seq.{length-take-le, take-at, drop-at, drop-drop}
 use lib.IntN.{ℤ, pos}
-use lib.Signed.{leZ}
+use borrow.Author.Tests.{le-leb, lt-leb}
 use Rattle.numbers.specs.Bits.{number, O, bit}
 use Rattle.numbers.specs.Signed.{minus}
 use Rattle.numbers.proofs.Rows.{number-below}
@@ -25,7 +25,12 @@ use Rattle.wire.proofs.Letters.{letter-named}
 use Rattle.wire.proofs.Codec.{bytes-length}
 use Rattle.wire.proofs.Codec.Ranges.{wider}
 use Rattle.wire.proofs.Codec.Accepted.{one-pair, parts-accepted}
-use Rattle.bridge.specs.Splitting.{carries, rest, leftAndRight, reportV, split, bytesAll}
+use Rattle.reader.specs.declared.Reader.{Reader}
+use Rattle.bridge.specs.Remembered.{movement, noted}
+use Rattle.bridge.specs.Splitting.{carries, countOf, rest, reportV, split, becomes, bytesAll}
+use Rattle.bridge.specs.Line.{whole, stopped}
+use Rattle.bridge.specs.Parts.{reportedOf}
+use Rattle.bridge.specs.declared.Bridge.{Bridge}
 use Rattle.bridge.specs.declared.Move.{Move}
 
 -- "each within -127 to 127"
@@ -102,3 +107,19 @@ again (suc k) buttons at m out new all some room is whole =
     let less : suc k - 1 ≡ k = omega arith in
     let long = same-length out v later at k three room in
     rw (is, less) (omega (arith, long), long, one-more out v later at k three room ∙ whole)
+
+-- a report that came in: where its V reports have no room, and where they have
+module _ (b : Bridge) (next : Reader) (p : Report) (out : List ℕ) where
+  abbrev m : Move
+  m = movement (b .reader .format) (b .past) p
+
+  pub no-room : length out / 3 < countOf m → stopped 0 b out ≡ reportedOf b next p out
+  unfolding reportedOf becomes
+  no-room h = rw (split-length (countOf m) (p .buttons) m, lt-leb (3 * countOf m) (length out) (omega arith))
+
+  pub all-written : countOf m ≤ length out / 3
+      → whole (record { refusal = 0; next = record { reader = next; past = noted (b .reader .format) (b .past) p }; taken = 1; reports = 1; sent = countOf m; dropped = 0 })
+      (bytesAll (split (countOf m) (p .buttons) m) ++ drop (3 * countOf m) out)
+      ≡ reportedOf b next p out
+  unfolding reportedOf becomes
+  all-written h = rw (split-length (countOf m) (p .buttons) m, le-leb (3 * countOf m) (length out) (omega arith))

@@ -1,6 +1,6 @@
 -- A movement, split into V reports: "Each report becomes the fewest V reports whose movements, each within -127 to 127 on both axes, add up to it
 -- (U's pairs summed), at least one, all with its L and R. All but the last carry as much as they can on each axis."
-use Prim.Native.Nat.{ℕ, zero, suc, _+_, _/_, _<_, max}
+use Prim.Native.Nat.{ℕ, zero, suc, _+_, _/_, _≤_, max}
 use mathlib.Core.List.{List, [], _∷_, _++_}
 use lib.IntN.{ℤ, pos, natAbs}
 use lib.Signed.{mag}
@@ -55,7 +55,7 @@ bytesAll (v ∷ reports) = bytesOf Microsoft v ++ bytesAll reports
 
 -- numbers that 32 bits hold, also with 127 more: sums and differences of 16-bit numbers
 abbrev pub Near : ℤ → Type 0
-Near d = mag d < 65536
+Near d = mag d ≤ 65536
 
 abbrev pub NearMove : Move → Type 0
 NearMove m = Near (m .x) × Near (m .y)

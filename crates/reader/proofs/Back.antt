@@ -14,6 +14,7 @@ use Rattle.numbers.proofs.Tested.{holds}
 use Rattle.wire.specs.Line.{namedBy, sizeOf, sizeBy, known}
 use Rattle.wire.specs.Places.{fitsAt, fitsBy, valid}
 use Rattle.wire.specs.Reading.{reportOf, reportBy, settledBy}
+use Rattle.wire.specs.Holds.{accepted}
 use Rattle.wire.specs.Numbers.{success}
 use Rattle.wire.specs.Encoder.{Encoding, refusalOf, lengthOf, encodeIn}
 use Rattle.wire.specs.Promises.{EncodePromise}
@@ -107,6 +108,13 @@ module _ (r : Reader) (b : ℕ) (p : Report) (f : Format) (g : good r ≡ true) 
   unfolding settledBy
   encodes buffer h =
       rw report-is (accepts f (reportOf f bytes) buffer (codec.read-accepted f bytes bytes-valid) h ∙ rw (named, codec.back f bytes bytes-valid))
+
+-- a report that a good reader hands out is one that its format holds
+pub reported : (r : Reader) (w : ℕ) (p : Report) (f : Format) → good r ≡ true → namedBy (r .format) ≡ Known f → wordOf r w .answer ≡ answer.Report p → accepted f p ≡ true
+reported r w p f g named a =
+    let b = entered (r .format) w in
+    let d = finished r w p a in
+    rw (report-is r b p f g named d) (codec.read-accepted f (bytes r b p f g named d) (bytes-valid r b p f g named d))
 
 pub back : (r : Reader) (w : ℕ) (s : Read) (p : Report) (before after : List ℕ) (e : Encoded)
     → good r ≡ true

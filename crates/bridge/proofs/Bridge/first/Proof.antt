@@ -1,99 +1,62 @@
+-- Each case of the word's answer.
 use borrow.Author.Needs.{needs}
+use denote.Ref.{now}
+use lib.ListN.{getD}
+use mathlib.Core.Path.{_≡_, _∙_}
+use native.Mathlib.Omega.{arith}
+use Rattle.reader.specs.Rules.{wordOf}
+use Rattle.reader.proofs.Permitted.{step-is}
+use Rattle.reader.proofs.Goodness.{step-word}
+use Rattle.bridge.proofs.Keeps.{good-reader}
+use Rattle.bridge.proofs.Loop.{stopping, taking, reporting}
 use Rattle.bridge.proofs.Bridge.first.Statement.{statement}
 use Rattle.bridge.proofs.Bridge.first.Tie as tie
-use Rattle.bridge.proofs.Bridge.first.Reads as reads
-use Rattle.bridge.proofs.Bridge.first.Lts as lts
-use Rattle.bridge.proofs.Bridge.report.Reads as report-reads
-use Rattle.bridge.proofs.Bridge.with.Reads as with-reads
-use Rattle.bridge.proofs.line.converted.Reads as converted-reads
-use Rattle.reader.proofs.Reader.step.Reads as step-reads
 
--- src/line.rt:69:29
-shared-slice-read-step : tie.Need-shared-slice-read-step
-shared-slice-read-step c = search needs
+-- the step is the word
+word : (c : tie.After-step) → let a = c .before .before .before .before .before .args in c .step .result ≡ wordOf (a .self .reader) (getD (now (a .words)) 0 0)
+word c = let s = c .before .before .before .before .before in
+    let r = s .args .self .reader in
+    let w = getD (now (s .args .words)) 0 0 in
+    step-is r w (c .step .result) (c .step .ensures) ∙ step-word r w (good-reader (s .args .self) (s .pre .0))
 
--- src/line.rt:69:13
-step-requires : tie.Need-step-requires
-step-requires c κs = search needs
-
--- src/line.rt:71:13
-converted-requires : tie.Need-converted-requires
-converted-requires c κs = search needs
-
--- src/line.rt:71:13
 returns : tie.Need-returns
-returns c = ?
+returns c = let s = c .before .before .before .before .before .before .before .before in
+    rw (c .converted .ensures) (stopping (now (s .args .words)) (now (s .args .out)) (s .pre .0) (s .pre .1) (word (c .before .before .before)) (λ z. absurd (c .before .if1 .taken z)))
 
--- src/line.rt:76:51
-enum-told : tie.Need-enum-told
-enum-told c = search needs
-
--- src/line.rt:76:51
-with-requires : tie.Need-with-requires
-with-requires c κs = search needs
-
--- src/line.rt:76:32
-converted-requires-2 : tie.Need-converted-requires-2
-converted-requires-2 c κs = search needs
-
--- src/line.rt:77:29
-enum-known-answer : tie.Need-enum-known-answer
-enum-known-answer c = search needs
-
--- src/line.rt:77:54
-with-requires-2 : tie.Need-with-requires-2
-with-requires-2 c κs = search needs
-
--- src/line.rt:77:80
-cast-converted : tie.Need-cast-converted
-cast-converted c = search needs
-
--- src/line.rt:77:35
-converted-requires-3 : tie.Need-converted-requires-3
-converted-requires-3 c κs = search needs
-
--- src/line.rt:78:28
-enum-known-answer-2 : tie.Need-enum-known-answer-2
-enum-known-answer-2 c = search needs
-
--- src/line.rt:78:39
-report-requires : tie.Need-report-requires
-report-requires c κs = search needs
-
--- src/line.rt:64:5
 returns-2 : tie.Need-returns-2
-returns-2 c = ?
+returns-2 c = let s = c .before .before .before .before .before .before .before .before .before .before .before .before in
+    let a = c .before .before .enum-told .given .1 in
+    rw (c .converted2 .ensures, c .before .with .ensures)
+    (rw a at (taking (now (s .args .words)) (now (s .args .out)) (s .pre .0) (s .pre .1) (word (c .before .before .before .before .before .before .before)) (c .before .before .before .before .before .if1 .left) (rw a (omega arith))))
 
--- src/line.rt:64:5
 returns-3 : tie.Need-returns-3
-returns-3 c = ?
+returns-3 c = let s = c .before .before .before .before .before .before .before .before .before .before .before .before .before in
+    let a = c .before .before .before .answer .given .1 in
+    rw (c .converted3 .ensures, c .before .with2 .ensures)
+    (rw a at (taking (now (s .args .words)) (now (s .args .out)) (s .pre .0) (s .pre .1) (word (c .before .before .before .before .before .before .before .before)) (c .before .before .before .before .before .before .if1 .left) (rw a (omega arith))))
 
--- src/line.rt:64:5
-same-length : tie.Need-same-length
-same-length c = search needs
-
--- src/line.rt:64:5
 returns-4 : tie.Need-returns-4
-returns-4 c = ?
+returns-4 c = let s = c .before .before .before .before .before .before .before .before .before .before .before .before .before .before .before in
+    reporting (now (s .args .words)) (now (s .args .out)) (s .pre .0) (s .pre .1) (word (c .before .before .before .before .before .before .before .before .before .before)) _ (c .before .before .before .before .before .before .before .before .if1 .left) (c .before .before .before .before .before .answer2 .given .1) (c .before .before .report .ensures)
 
 pub first-spec : {M : Type 1} → statement M
 first-spec =
     tie.close
     (tie.spec
-    shared-slice-read-step
-    step-requires
-    converted-requires
+    (λ c. search needs)
+    (λ c κs. search needs)
+    (λ c κs. search needs)
     returns
-    enum-told
-    with-requires
-    converted-requires-2
-    enum-known-answer
-    with-requires-2
-    cast-converted
-    converted-requires-3
-    enum-known-answer-2
-    report-requires
+    (λ c. search needs)
+    (λ c κs. search needs)
+    (λ c κs. search needs)
+    (λ c. search needs)
+    (λ c κs. search needs)
+    (λ c. search needs)
+    (λ c κs. search needs)
+    (λ c. search needs)
+    (λ c κs. search needs)
     returns-2
     returns-3
-    same-length
+    (λ c. search needs)
     returns-4)
