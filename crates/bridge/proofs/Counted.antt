@@ -26,7 +26,7 @@ pub three-sent : (l : List Given) → length (written bridges l) ≡ 3 * length 
 three-sent l = ap length (sent-bytes l) ∙ three-each (sentIn l)
 
 -- an answer has one report at most
-one-report : (a : Answer) → reportsIn a ≤ 1
+pub one-report : (a : Answer) → reportsIn a ≤ 1
 one-report answer.Nothing = omega arith
 one-report (answer.Report p) = omega arith
 one-report (answer.Dropped k) = omega arith

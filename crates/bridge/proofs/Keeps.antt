@@ -19,7 +19,7 @@ use Rattle.reader.specs.declared.Answer.{Answer}
 use Rattle.reader.specs.declared.Answer.the-variants as answer
 use Rattle.reader.proofs.Word.{word-format}
 use Rattle.reader.proofs.Keeps.{word-good}
-use Rattle.reader.proofs.Back.{reported}
+use Rattle.reader.proofs.Back.{reported, reported-accepted}
 use Rattle.bridge.specs.Remembered.{isA, baseAt, baseBehind, noted, goodBase}
 use Rattle.bridge.specs.Good.{good}
 use Rattle.bridge.specs.Line.{pastFor, behind}
@@ -45,7 +45,7 @@ module _ (b : Bridge) where
     unfolding goodBase
     placed-good w p a e =
         let named = ap namedBy (eqb-true letter (letterOf Absolute) e) ∙ letter-named Absolute in
-        let held = parts Absolute p (reported (b .reader) w p Absolute good-reader named a) .moved in
+        let held = parts Absolute p (reported-accepted (reported (b .reader) w p Absolute good-reader named a)) .moved in
         rw (e, held .x, held .y)
 
     past-good : (w : ℕ) (a : Answer) → wordOf (b .reader) w .answer ≡ a → goodBase letter (pastFor letter (b .past) a .base) ≡ true

@@ -5,3 +5,15 @@ pub mod Writing
 pub mod Counted
 pub mod Keeps
 pub mod Loop
+pub mod Splits
+pub mod Permitted
+pub mod Goodness
+pub mod Joining
+pub mod Refusals
+pub mod Sent
+pub mod Presses
+pub mod Account
+pub mod Progress
+pub mod ReadBack
+pub mod Through
+pub mod Room

@@ -6,3 +6,5 @@ pub mod Good
 pub mod Line
 pub mod Parts
 pub mod Promises
+pub mod Sums
+pub mod Sent
