@@ -17,3 +17,6 @@ pub mod Progress
 pub mod ReadBack
 pub mod Through
 pub mod Room
+pub mod Computing
+pub mod Examples
+pub mod Wrong

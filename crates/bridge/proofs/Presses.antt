@@ -23,7 +23,7 @@ use Rattle.reader.specs.declared.Answer.the-variants as answer
 use Rattle.reader.specs.Good as reader
 use Rattle.reader.proofs.Word.{word-format}
 use Rattle.reader.proofs.Back.{reported}
-use Rattle.bridge.specs.Remembered.{mostPresses, countedBy, noted}
+use Rattle.bridge.specs.Remembered.{mostPresses, oneMore, countedBy, noted}
 use Rattle.bridge.specs.Good.{good}
 use Rattle.bridge.specs.Line.{Long, pastFor, bridges, lineOf}
 use Rattle.bridge.specs.Promises.{ConvertPromise}
@@ -35,7 +35,8 @@ use Rattle.bridge.proofs.Keeps.{good-reader, word-keeps}
 use Rattle.bridge.proofs.Goodness.{convert-line}
 
 -- a report counts one where it is a press, and is held
-one-counted : (n : ℕ) (pressed : Bool) → n ≤ mostPresses → cond (pressed && ltb n mostPresses) (n + 1) n ≡ min (n + cond pressed 1 0) mostPresses
+one-counted : (n : ℕ) (pressed : Bool) → n ≤ mostPresses → cond pressed (oneMore n) n ≡ min (n + cond pressed 1 0) mostPresses
+unfolding oneMore
 one-counted n true h = go (ltb n mostPresses) refl
   where
     go : (t : Bool) → ltb n mostPresses ≡ t → cond t (n + 1) n ≡ min (n + 1) mostPresses

@@ -45,8 +45,11 @@ movement letter past p = cond (isA letter) (sinceBase (past .base) p) (summed p)
 abbrev pub mostPresses : ℕ
 mostPresses = 65535
 
+unfoldable pub oneMore : ℕ → ℕ
+oneMore presses = cond (ltb presses mostPresses) (presses + 1) presses
+
 unfoldable pub countedBy : Past → Bool → ℕ
-countedBy past down = cond (down && not (past .middle) && ltb (past .presses) mostPresses) (past .presses + 1) (past .presses)
+countedBy past down = cond (down && not (past .middle)) (oneMore (past .presses)) (past .presses)
 
 -- what is remembered behind a report; in A its position is the base of the next
 abbrev pub baseBehind : ℕ → Base → Report → Base

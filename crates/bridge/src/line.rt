@@ -15,7 +15,14 @@ use reader::Reader;
 use wire::Report;
 
 // A line of which words, reports that came in, V reports and dropped bytes are counted so far.
-pub(crate) fn converted(refusal: u8, next: Bridge, taken: usize, reports: usize, sent: usize, dropped: usize) -> Converted
+pub(crate) fn converted(
+    refusal: u8,
+    next: Bridge,
+    taken: usize,
+    reports: usize,
+    sent: usize,
+    dropped: usize,
+) -> Converted
     ensures { λ r. ⌜ r ≡ record { refusal = refusal; next = next; taken = taken; reports = reports; sent = sent; dropped = dropped } ⌝ }
 {
     Converted {

@@ -1,7 +1,7 @@
 // What is remembered of the reports so far, and how a report moves by it.
 ghost use mathlib.Core.Path.{_≡_};
 ghost use lib.IntN.{pos, _+ℤ_, _-ℤ_};
-ghost use Rattle.bridge.specs.Remembered.{none, mostSet, goodBase, summed, sinceBase, movement, countedBy, noted};
+ghost use Rattle.bridge.specs.Remembered.{none, mostSet, goodBase, summed, sinceBase, movement, oneMore, countedBy, noted};
 use crate::Base;
 use crate::FORMAT_A;
 use crate::Move;
@@ -33,6 +33,16 @@ fn summed(report: Report) -> Move
         x: sum(x1, x2),
         y: sum(y1, y2),
     }
+}
+
+// A press more, held at 65535.
+fn one_more(presses: u16) -> u16
+    ensures { λ r. ⌜ r ≡ oneMore presses ⌝ }
+{
+    if presses < 65535 {
+        return presses + 1;
+    }
+    presses
 }
 
 impl Base {
@@ -79,7 +89,11 @@ impl Past {
         ensures { λ r. ⌜ r ≡ none ⌝ }
     {
         Past {
-            base: Base { set: false, x: 0, y: 0 },
+            base: Base {
+                set: false,
+                x: 0,
+                y: 0,
+            },
             middle: false,
             presses: 0,
         }
@@ -100,8 +114,8 @@ impl Past {
     fn counted(self, down: bool) -> u16
         ensures { λ r. ⌜ r ≡ countedBy self down ⌝ }
     {
-        if down & !self.middle & (self.presses < 65535) {
-            return self.presses + 1;
+        if down & !self.middle {
+            return one_more(self.presses);
         }
         self.presses
     }
@@ -116,7 +130,11 @@ impl Past {
         if letter == FORMAT_A {
             let x = report.x1;
             let y = report.y1;
-            base = Base { set: true, x: x, y: y };
+            base = Base {
+                set: true,
+                x: x,
+                y: y,
+            };
         }
         Past {
             base: base,
