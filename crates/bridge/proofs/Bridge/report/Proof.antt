@@ -39,7 +39,7 @@ count-requires c κs = rw (c .moved .ensures) (near (c .before .before .before .
 returns : tie.Need-returns
 returns c = let a = c .before .before .before .before .before .before .before .args in
     let n = c .before .before .count .ensures ∙ ap countOf (c .before .before .before .moved .ensures) in
-    rw (c .converted .ensures) (no-room (a .self) (a .next) (a .report) (now (a .out)) (rw n at (c .before .if1 .taken)))
+    rw (c .converted .ensures) (no-room (a .self) (a .next) (a .report) (now (a .out)) (omega (arith, n, c .before .if1 .taken)))
 
 put-requires : tie.Need-put-requires
 put-requires c κs = let s = c .before .before .before .before .before .before .before in
@@ -50,7 +50,7 @@ returns-2 c = let a = c .before .before .before .before .before .before .before 
     let m = c .before .before .before .before .before .before .before .before .moved .ensures in
     let n = c .before .before .before .before .before .before .before .count .ensures ∙ ap countOf m in
     rw (c .converted2 .ensures, c .before .noted .ensures, c .before .before .before .before .put .ensures, m, n)
-    (all-written (a .self) (a .next) (a .report) (now (a .out)) (rw n at (c .before .before .before .before .before .before .if1 .left)))
+    (all-written (a .self) (a .next) (a .report) (now (a .out)) (omega (arith, n, c .before .before .before .before .before .before .if1 .left)))
 
 pub report-spec : {M : Type 1} → statement M
 report-spec =
