@@ -8,7 +8,8 @@ use Rattle.wire.specs.declared.Report.{Report}
 use Rattle.ballbox.specs.declared.Event.{Event}
 use Rattle.istrolf.specs.Readers as readers
 use Rattle.istrolf.specs.Listers as listers
-use Rattle.istrolf.specs.Promises.{FreshReaderPromise, ReaderStepPromise, ReadPromise, EncodePromise, FreshBoxPromise, BoxStepPromise, FreshListerPromise, FeedPromise, FinishPromise}
+use Rattle.istrolf.specs.Bridges as bridges
+use Rattle.istrolf.specs.Promises.{FreshReaderPromise, ReaderStepPromise, ReadPromise, EncodePromise, FreshBoxPromise, BoxStepPromise, FreshListerPromise, FeedPromise, FinishPromise, FreshBridgePromise, ConvertPromise}
 use Rattle.istrolf.specs.declared.HeldReader.{HeldReader}
 use Rattle.istrolf.specs.declared.FreshReader.{FreshReader}
 use Rattle.istrolf.specs.declared.ReadWord.{ReadWord}
@@ -18,6 +19,9 @@ use Rattle.istrolf.specs.declared.HeldBox.{HeldBox}
 use Rattle.istrolf.specs.declared.SteppedBox.{SteppedBox}
 use Rattle.istrolf.specs.declared.HeldLister.{HeldLister}
 use Rattle.istrolf.specs.declared.ListedBytes.{ListedBytes}
+use Rattle.istrolf.specs.declared.HeldBridge.{HeldBridge}
+use Rattle.istrolf.specs.declared.FreshBridge.{FreshBridge}
+use Rattle.istrolf.specs.declared.ConvertedWords.{ConvertedWords}
 
 listed-same : {a b : ListedBytes} {x y : List ℕ} → listers.whole a x ≡ listers.whole b y → (a ≡ b) × (x ≡ y)
 listed-same e = (ap (λ (l : listers.Whole). l .listed) e, ap (λ (l : listers.Whole). l .out) e)
@@ -54,3 +58,10 @@ one-feed h input out a b x y e f = listed-same (e ∙ sym f)
 pub one-finish : (h : HeldLister) (out : List ℕ) (a b : ListedBytes) (x y : List ℕ)
     → FinishPromise h out a x → FinishPromise h out b y → (a ≡ b) × (x ≡ y)
 one-finish h out a b x y e f = listed-same (e ∙ sym f)
+
+pub one-fresh-bridge : (letter : ℕ) (a b : FreshBridge) → FreshBridgePromise letter a → FreshBridgePromise letter b → a ≡ b
+one-fresh-bridge letter a b e f = e ∙ sym f
+
+pub one-convert : (h : HeldBridge) (words out : List ℕ) (a b : ConvertedWords) (x y : List ℕ)
+    → ConvertPromise h words out a x → ConvertPromise h words out b y → (a ≡ b) × (x ≡ y)
+one-convert h words out a b x y e f = (ap (λ (l : bridges.Whole). l .told) (e ∙ sym f), ap (λ (l : bridges.Whole). l .out) (e ∙ sym f))
