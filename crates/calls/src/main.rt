@@ -1,6 +1,7 @@
 // calls: calls of the functions below those for C, with states, words and buffers that look random, wrong ones too. The C program of the same name hands the same
 // to the C functions and must write the same.
 mod boxes;
+mod bridges;
 mod draws;
 mod encoder;
 mod listers;
@@ -15,4 +16,6 @@ fn main() {
     encoder::encodes();
     boxes::steps();
     listers::recordings();
+    bridges::fresh();
+    bridges::converts();
 }

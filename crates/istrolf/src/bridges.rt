@@ -95,7 +95,11 @@ pub extern "C" fn istrolf_bridge_fresh(letter: u8) -> FreshBridge
 
 // A line of words, and the bytes of its V reports to a lent slice.
 #[no_mangle]
-pub extern "C" fn istrolf_bridge_convert(held: HeldBridge, words: &[u16], out: &mut [u8]) -> ConvertedWords
+pub extern "C" fn istrolf_bridge_convert(
+    held: HeldBridge,
+    words: &[u16],
+    out: &mut [u8],
+) -> ConvertedWords
     ensures { λ r. ⌜ ConvertPromise held (now (words .entry)) (now (out .entry)) r (now (out .exit)) ⌝ }
 {
     if !stands(held) {
