@@ -250,17 +250,17 @@ static void same_bridge(istrolf_bridge b, uint8_t based, uint8_t middle, uint16_
 }
 
 static void bridge(void) {
-    const uint8_t none[5] = {0}, four[5] = {80, 129, 0, 2, 0};
+    const uint8_t none[5] = {0}, four[5] = {80, 129, 0, 130, 0};
     istrolf_new_bridge n = istrolf_bridge_fresh('W');
     same("new_bridge.refusal", n.refusal, 0);
     same_reader(n.bridge.reader, 'W', none, 0, 1);
     same_bridge(n.bridge, 0, 0, 0, 0, 0);
     same("new_bridge.refusal", istrolf_bridge_fresh('X').refusal, ISTROLF_BAD_LETTER);
 
-    /* in: a base and the kept bytes of a report of A make the V reports; out: its position is the base, its middle is up, and a press comes behind it */
-    istrolf_bridge b = {{'A', {80, 129, 0, 2, 0}, 4, 0}, 1, 1, 700, 201, 302};
-    const uint16_t words[] = {0, 72, 129, 0, 2, 0, 0, 258};
-    const uint8_t bytes[14] = {110, 57, 63, 109, 57, 63, 106, 0, 61, 64, 0, 0, 79, 80};
+    /* in: the base and the kept bytes make V reports, and a middle that was down is no press; out: the last position is the base, with one press more */
+    istrolf_bridge b = {{'A', {80, 129, 0, 130, 0}, 4, 0}, 1, 1, 700, 201, 302};
+    const uint16_t words[] = {0, 72, 129, 0, 130, 0, 0, 258};
+    const uint8_t bytes[14] = {102, 1, 63, 102, 55, 63, 96, 0, 46, 64, 0, 0, 79, 80};
     uint8_t out[14];
     for (int i = 0; i < 14; i++) out[i] = (uint8_t)(67 + i);
     istrolf_converted a = istrolf_bridge_convert(b, words, 8, out, 14);
@@ -270,7 +270,7 @@ static void bridge(void) {
     same("converted.sent", (long long)a.sent, 4);
     same("converted.dropped", (long long)a.dropped, 1);
     same_reader(a.next.reader, 'A', none, 0, 0);
-    same_bridge(a.next, 0, 0, 0, 0, 0);
+    same_bridge(a.next, 1, 1, 701, 1, 2);
     for (int i = 0; i < 14; i++) same("out", out[i], bytes[i]);
 
     /* no room: nothing is written, and the state stands before the word */
