@@ -2,7 +2,9 @@
 use Prim.Native.Nat.{ℕ}
 use mathlib.Core.Path.{_≡_, sym, _∙_, ap}
 use mathlib.Core.List.{List}
-use Rattle.listing.specs.Promises.{Whole, whole, FreshPromise, FeedPromise, FinishPromise}
+use Rattle.listing.specs.Promises.{Whole, whole, FreshPromise, FeedPromise, FinishPromise, ByteScanPromise, ClosedScanPromise, EndScanPromise}
+use Rattle.listing.specs.declared.Scanner.{Scanner}
+use Rattle.listing.specs.declared.Scan.{Scan}
 use Rattle.listing.specs.declared.Lister.{Lister}
 use Rattle.listing.specs.declared.Listed.{Listed}
 
@@ -19,3 +21,12 @@ one-feed m input before p q = parts (p ∙ sym q)
 pub one-finish : (m : Lister) (before : List ℕ) {a b : Listed} {left right : List ℕ} → FinishPromise m before a left → FinishPromise m before b right
     → (a ≡ b) × (left ≡ right)
 one-finish m before p q = parts (p ∙ sym q)
+
+pub one-byte-scan : (s : Scanner) (b : ℕ) {x y : Scan} → ByteScanPromise s b x → ByteScanPromise s b y → x ≡ y
+one-byte-scan s b p q = p ∙ sym q
+
+pub one-closed-scan : (s : Scanner) {x y : Scan} → ClosedScanPromise s x → ClosedScanPromise s y → x ≡ y
+one-closed-scan s p q = p ∙ sym q
+
+pub one-end-scan : (s : Scanner) {x y : Scan} → EndScanPromise s x → EndScanPromise s y → x ≡ y
+one-end-scan s p q = p ∙ sym q

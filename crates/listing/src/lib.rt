@@ -28,7 +28,7 @@ pub struct Scanner {
 }
 
 // What is found in a recording: its format; the number of a line and its word; the number of a bad line; a line too many; and its end.
-pub(crate) enum Found {
+pub enum Found {
     Nothing,
     Format(u8),
     Word(u32, u16),
@@ -38,7 +38,7 @@ pub(crate) enum Found {
 }
 
 // A scanner, and what it found.
-pub(crate) struct Scan {
+pub struct Scan {
     pub next: Scanner,
     pub found: Found,
 }

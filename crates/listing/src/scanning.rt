@@ -2,7 +2,8 @@
 ghost use mathlib.Core.Path.{_≡_};
 ghost use Prim.Native.Nat.{_<_};
 ghost use Rattle.listing.specs.Lines.{saidBy};
-ghost use Rattle.listing.specs.Scanning.{mostLines, ends, onLine, lineIn, scan, unfinished, takenOf, scannedByte, closedOf, endOf, good};
+ghost use Rattle.listing.specs.Scanning.{mostLines, ends, onLine, lineIn, scan, unfinished, takenOf, good};
+ghost use Rattle.listing.specs.Promises.{ByteScanPromise, ClosedScanPromise, EndScanPromise};
 use crate::Found;
 use crate::Line;
 use crate::Scan;
@@ -108,8 +109,8 @@ impl Scanner {
     }
 
     // One byte: a newline ends the line, and a sixth byte makes it bad.
-    pub(crate) fn byte(self, b: u8) -> Scan
-        ensures { λ r. ⌜ r ≡ scannedByte self b ⌝ }
+    pub fn byte(self, b: u8) -> Scan
+        ensures { λ r. ⌜ ByteScanPromise self b r ⌝ }
     {
         if b == b'\n' {
             return self.taken(self.says());
@@ -132,8 +133,8 @@ impl Scanner {
     }
 
     // The last line, which may lack its newline.
-    pub(crate) fn closed(self) -> Scan
-        ensures { λ r. ⌜ r ≡ closedOf self ⌝ }
+    pub fn closed(self) -> Scan
+        ensures { λ r. ⌜ ClosedScanPromise self r ⌝ }
     {
         if self.count == 0 {
             return Scan {
@@ -145,8 +146,8 @@ impl Scanner {
     }
 
     // The end of the input.
-    pub(crate) fn end(self) -> Scan
-        ensures { λ r. ⌜ r ≡ endOf self ⌝ }
+    pub fn end(self) -> Scan
+        ensures { λ r. ⌜ EndScanPromise self r ⌝ }
     {
         if self.ended {
             return at_line(self.line, true, Found::Nothing);
