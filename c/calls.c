@@ -302,6 +302,51 @@ static void yard_checks(void) {
     line("istrolf_yard_check", refused, all);
 }
 
+/* The bridge. */
+
+static istrolf_bridge any_bridge(uint64_t call) {
+    istrolf_bridge b = {any_reader(call), 0, mark(call, 124), (uint16_t)drawn(call, 125, 65536), 0, 0};
+    if (drawn(call, 120, 2) == 0) b.based = mark(call, 121), b.x = position(call, 122), b.y = position(call, 123);
+    return b;
+}
+
+static istrolf_bridge chosen_bridge(istrolf_bridge last, uint64_t call) {
+    uint64_t kind = drawn(call, 126, 16);
+    return kind == 0 ? istrolf_bridge_fresh(letter(call, 127)).bridge : kind == 1 ? any_bridge(call) : last;
+}
+
+static uint64_t mixed_bridge(uint64_t h, istrolf_bridge b) {
+    h = mixed(mixed(mixed(mixed_reader(h, b.reader), b.based), b.middle), b.presses);
+    return mixed_signed(mixed_signed(h, b.x), b.y);
+}
+
+static void bridges_fresh(void) {
+    uint64_t all = 0, refused = 0;
+    for (uint64_t call = 0; call < 100000; call++) {
+        istrolf_new_bridge n = istrolf_bridge_fresh(drawn_byte(call, 142, 256));
+        all = mixed_bridge(mixed(all, n.refusal), n.bridge);
+        refused += n.refusal > 0;
+    }
+    line("istrolf_bridge_fresh", refused, all);
+}
+
+static void bridge_converts(void) {
+    uint64_t all = 0, refused = 0;
+    istrolf_bridge last = istrolf_bridge_fresh('U').bridge;
+    for (uint64_t call = 0; call < 100000; call++) {
+        uint16_t words[10];
+        uint8_t out[60];
+        for (uint64_t i = 0; i < 10; i++) words[i] = word(call, 130 + i);
+        memset(out, 7, 60);
+        istrolf_converted a = istrolf_bridge_convert(chosen_bridge(last, call), words, drawn(call, 140, 11), out, drawn(call, 141, 61));
+        uint64_t h = mixed(mixed(mixed(mixed(a.refusal, a.taken), a.reports), a.sent), a.dropped);
+        all = mixed(all, mixed_bytes(mixed_bridge(h, a.next), out, 60));
+        refused += a.refusal > 0;
+        last = a.next;
+    }
+    line("istrolf_bridge_convert", refused, all);
+}
+
 int main(void) {
     readers_fresh();
     reader_steps();
@@ -312,5 +357,7 @@ int main(void) {
     yards_fresh();
     yard_steps();
     yard_checks();
+    bridges_fresh();
+    bridge_converts();
     return 0;
 }

@@ -305,12 +305,63 @@ static void yard(void) {
     same("checked.refusal", istrolf_yard_check('X', words, 8).refusal, ISTROLF_BAD_LETTER);
 }
 
+static void same_bridge(istrolf_bridge b, uint8_t based, uint8_t middle, uint16_t presses, int16_t x, int16_t y) {
+    same("bridge.based", b.based, based);
+    same("bridge.middle", b.middle, middle);
+    same("bridge.presses", b.presses, presses);
+    same("bridge.x", b.x, x);
+    same("bridge.y", b.y, y);
+}
+
+static void bridge(void) {
+    const uint8_t none[5] = {0}, four[5] = {80, 129, 0, 130, 0};
+    istrolf_new_bridge n = istrolf_bridge_fresh('W');
+    same("new_bridge.refusal", n.refusal, 0);
+    same_reader(n.bridge.reader, 'W', none, 0, 1);
+    same_bridge(n.bridge, 0, 0, 0, 0, 0);
+    same("new_bridge.refusal", istrolf_bridge_fresh('X').refusal, ISTROLF_BAD_LETTER);
+
+    /* in: the base and the kept bytes make V reports, and a middle that was down is no press; out: the last position is the base, with one press more */
+    istrolf_bridge b = {{'A', {80, 129, 0, 130, 0}, 4, 0}, 1, 1, 700, 201, 302};
+    const uint16_t words[] = {0, 72, 129, 0, 130, 0, 0, 258};
+    const uint8_t bytes[14] = {102, 1, 63, 102, 55, 63, 96, 0, 46, 64, 0, 0, 79, 80};
+    uint8_t out[14];
+    for (int i = 0; i < 14; i++) out[i] = (uint8_t)(67 + i);
+    istrolf_converted a = istrolf_bridge_convert(b, words, 8, out, 14);
+    same("converted.refusal", a.refusal, ISTROLF_BAD_WORD);
+    same("converted.taken", (long long)a.taken, 7);
+    same("converted.reports", (long long)a.reports, 2);
+    same("converted.sent", (long long)a.sent, 4);
+    same("converted.dropped", (long long)a.dropped, 1);
+    same_reader(a.next.reader, 'A', none, 0, 0);
+    same_bridge(a.next, 1, 1, 701, 1, 2);
+    for (int i = 0; i < 14; i++) same("out", out[i], bytes[i]);
+
+    /* no room: nothing is written, and the state stands before the word */
+    a = istrolf_bridge_convert(b, words, 8, out, 8);
+    same("converted.refusal", a.refusal, 0);
+    same("converted.taken", (long long)a.taken, 0);
+    same_reader(a.next.reader, 'A', four, 4, 0);
+    same_bridge(a.next, 1, 1, 700, 201, 302);
+
+    /* a mark of 2 in each place is refused, and handed back */
+    b.based = 2;
+    a = istrolf_bridge_convert(b, words, 8, out, 14);
+    same("converted.refusal", a.refusal, ISTROLF_BAD_STATE);
+    same_bridge(a.next, 2, 1, 700, 201, 302);
+    b.based = 1, b.middle = 2;
+    a = istrolf_bridge_convert(b, words, 8, out, 14);
+    same("converted.refusal", a.refusal, ISTROLF_BAD_STATE);
+    same_bridge(a.next, 1, 2, 700, 201, 302);
+}
+
 int main(void) {
     reader();
     encoder();
     box();
     lister();
     yard();
+    bridge();
     printf("%d compared, %d wrong\n", compared, wrong);
     return wrong > 0;
 }

@@ -1,15 +1,15 @@
-/* Istrolf for C99 and C++: reader, encoder, box and lister for a serial trackball and the seven formats of the old mice. Link libistrolf.a.
+/* Istrolf for C99 and C++: reader, encoder, box, lister and bridge for a serial trackball and the seven formats of the old mice. Link libistrolf.a.
  *
  * Calls. Every function takes every argument, ends, and has one answer; each is proved. There is no set-up and no error but the refusals below.
  * Nothing is allocated and nothing is kept between calls, so calls from several threads need no lock.
  *
- * States. A reader, a box and a lister are values that you own: a function ending in _fresh gives one, each other function takes one by value and
+ * States. A reader, a box, a lister and a bridge are values that you own: a function ending in _fresh gives one, each other function takes one by value and
  * gives the next in its answer. Store the next one over the old one and go on. A copy is a state of its own. Members may be read; leave the writing
  * to the functions. Whatever bytes stand in a state, a call is safe: what is no state is refused with ISTROLF_BAD_STATE and handed back as it was.
  *
  * Refusals. An answer's first member, refusal, is 0 or one of the numbers below. A refusal hands back the old state, writes nothing to what you
- * lent, and has counts of 0; only istrolf_reader_read does all before a bad word. Behind each function stand its refusals in the order in which they
- * are tested.
+ * lent, and has counts of 0; only istrolf_reader_read and istrolf_bridge_convert do all before a bad word. Behind each function stand its refusals
+ * in the order in which they are tested.
  *
  * Pointers. A pointer and the count of elements behind it stand for what you lend for the call alone: it is yours before and after, and nobody keeps
  * the pointer. It must point at that many elements, aligned as C has them, also when the count is 0 (any address that is not null will do then). What
@@ -228,6 +228,42 @@ istrolf_judged istrolf_yard_step(istrolf_yard yard, uint16_t word);
 
 /* A whole log. Refusals: BAD_LETTER; BAD_WORD, for a word above 257 anywhere, behind one that cannot be sent too. A refusal tells nothing of the words. */
 istrolf_checked istrolf_yard_check(uint8_t letter, const uint16_t *words, size_t count);
+
+/* ---- The bridge: line words of any format in, bytes of V out, for a recorder that knows only V. */
+
+typedef struct {
+    istrolf_reader reader;
+    uint8_t based;    /* 1 once a report of A has set the base, and else 0 */
+    uint8_t middle;   /* 1 if the middle button was down in the last report, and else 0 */
+    uint16_t presses; /* how often it was pressed, up to 65535; V does not carry them */
+    int16_t x, y;     /* the base: the position of the last report of A, or zeros */
+} istrolf_bridge;
+
+typedef struct {
+    uint8_t refusal;
+    istrolf_bridge bridge;
+} istrolf_new_bridge;
+
+typedef struct {
+    uint8_t refusal;
+    istrolf_bridge next;
+    size_t taken;   /* words taken */
+    size_t reports; /* reports that came in */
+    size_t sent;    /* V reports written to the front of out, three bytes each */
+    size_t dropped; /* bytes dropped */
+} istrolf_converted;
+
+/* Room for all V reports that one report becomes; so many for each word, and a call takes them all. */
+enum { ISTROLF_BRIDGE_ROOM = 99 };
+
+/* A fresh bridge of the format that comes in. Refusal: BAD_LETTER, and then the bridge is a fresh one of U. */
+istrolf_new_bridge istrolf_bridge_fresh(uint8_t letter);
+
+/* Many words. Each report becomes the fewest V reports of at most 127 on either axis that add up to its movement, U's pairs summed, with its L and R.
+ * In A the first report moves nothing and a later one by the difference. Refusals: BAD_STATE; BAD_WORD, with next, the counts and out as they stand
+ * before the bad word. With 0 and taken below count, out had no room for all V reports of the next report, and none of them is written: call again
+ * with next, words + taken, count - taken and new room. */
+istrolf_converted istrolf_bridge_convert(istrolf_bridge bridge, const uint16_t *words, size_t count, uint8_t *out, size_t room);
 
 #ifdef __cplusplus
 }

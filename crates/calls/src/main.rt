@@ -1,6 +1,7 @@
 // calls: calls of the functions below those for C, with states, words and buffers that look random, wrong ones too. The C program of the same name hands the same
 // to the C functions and must write the same.
 mod boxes;
+mod bridges;
 mod draws;
 mod encoder;
 mod listers;
@@ -17,4 +18,6 @@ fn main() {
     boxes::steps();
     listers::recordings();
     yards::calls();
+    bridges::fresh();
+    bridges::converts();
 }

@@ -8,7 +8,8 @@ use Rattle.wire.specs.declared.Report.{Report}
 use Rattle.ballbox.specs.declared.Event.{Event}
 use Rattle.istrolf.specs.Readers as readers
 use Rattle.istrolf.specs.Listers as listers
-use Rattle.istrolf.specs.Promises.{FreshReaderPromise, ReaderStepPromise, ReadPromise, EncodePromise, FreshBoxPromise, BoxStepPromise, FreshListerPromise, FeedPromise, FinishPromise, FreshYardPromise, YardStepPromise, YardCheckPromise}
+use Rattle.istrolf.specs.Bridges as bridges
+use Rattle.istrolf.specs.Promises.{FreshReaderPromise, ReaderStepPromise, ReadPromise, EncodePromise, FreshBoxPromise, BoxStepPromise, FreshListerPromise, FeedPromise, FinishPromise, FreshYardPromise, YardStepPromise, YardCheckPromise, FreshBridgePromise, ConvertPromise}
 use Rattle.istrolf.specs.declared.HeldReader.{HeldReader}
 use Rattle.istrolf.specs.declared.FreshReader.{FreshReader}
 use Rattle.istrolf.specs.declared.ReadWord.{ReadWord}
@@ -22,6 +23,9 @@ use Rattle.istrolf.specs.declared.HeldYard.{HeldYard}
 use Rattle.istrolf.specs.declared.FreshYard.{FreshYard}
 use Rattle.istrolf.specs.declared.JudgedWord.{JudgedWord}
 use Rattle.istrolf.specs.declared.CheckedWords.{CheckedWords}
+use Rattle.istrolf.specs.declared.HeldBridge.{HeldBridge}
+use Rattle.istrolf.specs.declared.FreshBridge.{FreshBridge}
+use Rattle.istrolf.specs.declared.ConvertedWords.{ConvertedWords}
 
 listed-same : {a b : ListedBytes} {x y : List ℕ} → listers.whole a x ≡ listers.whole b y → (a ≡ b) × (x ≡ y)
 listed-same e = (ap (λ (l : listers.Whole). l .listed) e, ap (λ (l : listers.Whole). l .out) e)
@@ -67,3 +71,10 @@ one-yard-step h w a b e f = e ∙ sym f
 
 pub one-yard-check : (letter : ℕ) (words : List ℕ) (a b : CheckedWords) → YardCheckPromise letter words a → YardCheckPromise letter words b → a ≡ b
 one-yard-check letter words a b e f = e ∙ sym f
+
+pub one-fresh-bridge : (letter : ℕ) (a b : FreshBridge) → FreshBridgePromise letter a → FreshBridgePromise letter b → a ≡ b
+one-fresh-bridge letter a b e f = e ∙ sym f
+
+pub one-convert : (h : HeldBridge) (words out : List ℕ) (a b : ConvertedWords) (x y : List ℕ)
+    → ConvertPromise h words out a x → ConvertPromise h words out b y → (a ≡ b) × (x ≡ y)
+one-convert h words out a b x y e f = (ap (λ (l : bridges.Whole). l .told) (e ∙ sym f), ap (λ (l : bridges.Whole). l .out) (e ∙ sym f))

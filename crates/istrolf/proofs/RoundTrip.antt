@@ -6,15 +6,18 @@ use Rattle.reader.specs.declared.Reader.{Reader}
 use Rattle.ballbox.specs.declared.BallBox.{BallBox}
 use Rattle.listing.specs.declared.Lister.{Lister}
 use Rattle.yard.specs.declared.Yard.{Yard}
+use Rattle.bridge.specs.declared.Bridge.{Bridge}
 use Rattle.istrolf.specs.Marks.{isMark}
 use Rattle.istrolf.specs.Readers as readers
 use Rattle.istrolf.specs.Boxes as boxes
 use Rattle.istrolf.specs.Listers as listers
 use Rattle.istrolf.specs.Yards as yards
 use Rattle.istrolf.specs.declared.HeldYard.{HeldYard}
+use Rattle.istrolf.specs.Bridges as bridges
 use Rattle.istrolf.specs.declared.HeldReader.{HeldReader}
 use Rattle.istrolf.specs.declared.HeldBox.{HeldBox}
 use Rattle.istrolf.specs.declared.HeldLister.{HeldLister}
+use Rattle.istrolf.specs.declared.HeldBridge.{HeldBridge}
 use Rattle.istrolf.proofs.Marks.{mark-back, mark-stands, mark-of}
 
 -- a reader
@@ -86,3 +89,26 @@ yard-back h s = λ i. record { format = h .format; first = h .first; last = h .l
 
 pub yard-stands : (y : Yard) → yards.stands (yards.packed y) ≡ true
 yard-stands y = mark-stands (y .ended)
+
+-- a bridge
+pub bridge-there : (b : Bridge) → bridges.unpacked (bridges.packed b) ≡ b
+bridge-there b = λ i.
+    record {
+      reader = reader-there (b .reader) i;
+      past = record {
+        base = record { set = mark-back (b .past .base .set) i; x = b .past .base .x; y = b .past .base .y };
+        middle = mark-back (b .past .middle) i;
+        presses = b .past .presses;
+      };
+    }
+
+pub bridge-back : (h : HeldBridge) → bridges.stands h ≡ true → bridges.packed (bridges.unpacked h) ≡ h
+bridge-back h s =
+    let both = left (readers.stands (h .reader) && isMark (h .based)) (isMark (h .middle)) s in
+    let reader = reader-back (h .reader) (left (readers.stands (h .reader)) (isMark (h .based)) both) in
+    let based = mark-of (h .based) (right (readers.stands (h .reader)) (isMark (h .based)) both) in
+    let middle = mark-of (h .middle) (right (readers.stands (h .reader) && isMark (h .based)) (isMark (h .middle)) s) in
+    λ i. record { reader = reader i; based = based i; middle = middle i; presses = h .presses; x = h .x; y = h .y }
+
+pub bridge-stands : (b : Bridge) → bridges.stands (bridges.packed b) ≡ true
+bridge-stands b = rw (mark-stands (b .reader .awaiting), mark-stands (b .past .base .set), mark-stands (b .past .middle))

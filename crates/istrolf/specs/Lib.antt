@@ -3,6 +3,7 @@ pub mod Readers
 pub mod Boxes
 pub mod Listers
 pub mod Yards
+pub mod Bridges
 pub mod Promises
 pub mod Runs
 pub mod Demand3

@@ -13,9 +13,11 @@ use Rattle.ballbox.specs.declared.Event.{Event}
 use Rattle.listing.specs.Feeding as feeding
 use Rattle.listing.specs.Promises as listing
 use Rattle.yard.specs.Promises as yard
+use Rattle.bridge.specs.Promises as bridge
 use Rattle.istrolf.specs.Readers as readers
 use Rattle.istrolf.specs.Boxes as boxes
 use Rattle.istrolf.specs.Listers as listers
+use Rattle.istrolf.specs.Bridges as bridges
 use Rattle.istrolf.specs.declared.HeldReader.{HeldReader}
 use Rattle.istrolf.specs.declared.FreshReader.{FreshReader}
 use Rattle.istrolf.specs.declared.ReadWord.{ReadWord}
@@ -30,6 +32,9 @@ use Rattle.istrolf.specs.declared.HeldYard.{HeldYard}
 use Rattle.istrolf.specs.declared.FreshYard.{FreshYard}
 use Rattle.istrolf.specs.declared.JudgedWord.{JudgedWord}
 use Rattle.istrolf.specs.declared.CheckedWords.{CheckedWords}
+use Rattle.istrolf.specs.declared.HeldBridge.{HeldBridge}
+use Rattle.istrolf.specs.declared.FreshBridge.{FreshBridge}
+use Rattle.istrolf.specs.declared.ConvertedWords.{ConvertedWords}
 
 -- `istrolf_reader_fresh(letter)`
 abbrev pub FreshReaderPromise : ℕ → FreshReader → Type 0
@@ -100,3 +105,15 @@ YardStepPromise h w answer = answer ≡ yardStepOf h w
 -- `istrolf_yard_check(letter, words)`
 abbrev pub YardCheckPromise : ℕ → List ℕ → CheckedWords → Type 0
 YardCheckPromise letter words answer = answer ≡ yards.packedChecked (yard.checkOf letter words)
+
+-- `istrolf_bridge_fresh(letter)`
+abbrev pub FreshBridgePromise : ℕ → FreshBridge → Type 0
+FreshBridgePromise letter answer = answer ≡ bridges.packedFresh (bridge.freshOf letter)
+
+-- `istrolf_bridge_convert(bridge, words, out)`
+unfoldable pub convertOf : HeldBridge → List ℕ → List ℕ → bridges.Whole
+convertOf h words out =
+    cond (bridges.stands h) (bridges.packedLong (bridge.convertOf (bridges.unpacked h) words out)) (bridges.whole (bridges.refusedConverted h) out)
+
+abbrev pub ConvertPromise : HeldBridge → List ℕ → List ℕ → ConvertedWords → List ℕ → Type 0
+ConvertPromise h words before answer after = bridges.whole answer after ≡ convertOf h words before

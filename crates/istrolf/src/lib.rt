@@ -6,6 +6,7 @@ use ballbox::Track;
 use wire::Report;
 
 mod boxes;
+mod bridges;
 mod encoder;
 mod listers;
 mod readers;
@@ -137,4 +138,33 @@ pub struct CheckedWords {
     pub refusal: u8,
     pub proper: u8,
     pub sendable: usize,
+}
+
+// A bridge as C holds it: whether there is a base and whether the middle was down are 0 or 1; the base stands at the end.
+#[repr(C)]
+pub struct HeldBridge {
+    pub reader: HeldReader,
+    pub based: u8,
+    pub middle: u8,
+    pub presses: u16,
+    pub x: i16,
+    pub y: i16,
+}
+
+// A new bridge, or why there is none of this letter.
+#[repr(C)]
+pub struct FreshBridge {
+    pub refusal: u8,
+    pub bridge: HeldBridge,
+}
+
+// What a long call gives back.
+#[repr(C)]
+pub struct ConvertedWords {
+    pub refusal: u8,
+    pub next: HeldBridge,
+    pub taken: usize,
+    pub reports: usize,
+    pub sent: usize,
+    pub dropped: usize,
 }

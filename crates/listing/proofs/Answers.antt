@@ -2,8 +2,7 @@
 use Prim.Native.Nat.{ℕ}
 use mathlib.Core.Path.{_≡_, sym, _∙_, ap}
 use mathlib.Core.List.{List}
-use Rattle.listing.specs.Promises.{Whole, whole, FreshPromise, FeedPromise, FinishPromise}
-use Rattle.listing.specs.Scanning.{scannedByte, closedOf, endOf}
+use Rattle.listing.specs.Promises.{Whole, whole, FreshPromise, FeedPromise, FinishPromise, ByteScanPromise, ClosedScanPromise, EndScanPromise}
 use Rattle.listing.specs.declared.Scan.{Scan}
 use Rattle.listing.specs.declared.Scanner.{Scanner}
 use Rattle.listing.specs.declared.Lister.{Lister}
@@ -24,11 +23,11 @@ pub one-finish : (m : Lister) (before : List ℕ) {a b : Listed} {left right : L
 one-finish m before p q = parts (p ∙ sym q)
 
 -- of the scanner
-pub one-scanned : (s : Scanner) (c : ℕ) {a b : Scan} → a ≡ scannedByte s c → b ≡ scannedByte s c → a ≡ b
-one-scanned s c p q = p ∙ sym q
+pub one-byte-scan : (s : Scanner) (b : ℕ) {x y : Scan} → ByteScanPromise s b x → ByteScanPromise s b y → x ≡ y
+one-byte-scan s b p q = p ∙ sym q
 
-pub one-closed : (s : Scanner) {a b : Scan} → a ≡ closedOf s → b ≡ closedOf s → a ≡ b
-one-closed s p q = p ∙ sym q
+pub one-closed-scan : (s : Scanner) {x y : Scan} → ClosedScanPromise s x → ClosedScanPromise s y → x ≡ y
+one-closed-scan s p q = p ∙ sym q
 
-pub one-end : (s : Scanner) {a b : Scan} → a ≡ endOf s → b ≡ endOf s → a ≡ b
-one-end s p q = p ∙ sym q
+pub one-end-scan : (s : Scanner) {x y : Scan} → EndScanPromise s x → EndScanPromise s y → x ≡ y
+one-end-scan s p q = p ∙ sym q

@@ -1,11 +1,14 @@
--- What is promised of `Lister::fresh`, `Lister::feed` and `Lister::finish`: for every argument one answer, and every byte of the slice.
+-- What is promised of `Lister::fresh`, `Lister::feed` and `Lister::finish`: for every argument one answer, and every byte of the slice; and of the scanner.
 use Prim.Native.Nat.{ℕ}
 use mathlib.Core.Path.{_≡_}
 use mathlib.Core.Bool.{cond}
 use mathlib.Core.List.{List, _++_}
 use lib.ListN.{length, drop}
 use Rattle.wire.specs.Numbers.{success, badState}
+use Rattle.listing.specs.Scanning.{scannedByte, closedOf, endOf}
 use Rattle.listing.specs.Feeding.{fresh, Feed, feedIn, finishIn, good}
+use Rattle.listing.specs.declared.Scanner.{Scanner}
+use Rattle.listing.specs.declared.Scan.{Scan}
 use Rattle.listing.specs.declared.Lister.{Lister}
 use Rattle.listing.specs.declared.Listed.{Listed}
 
@@ -48,3 +51,13 @@ FeedPromise m input before answer after = whole answer after ≡ feedOf m input 
 
 abbrev pub FinishPromise : Lister → List ℕ → Listed → List ℕ → Type 0
 FinishPromise m before answer after = whole answer after ≡ finishOf m before
+
+-- `Scanner::byte(self, b)`, `Scanner::closed(self)` and `Scanner::end(self)`
+abbrev pub ByteScanPromise : Scanner → ℕ → Scan → Type 0
+ByteScanPromise s b answer = answer ≡ scannedByte s b
+
+abbrev pub ClosedScanPromise : Scanner → Scan → Type 0
+ClosedScanPromise s answer = answer ≡ closedOf s
+
+abbrev pub EndScanPromise : Scanner → Scan → Type 0
+EndScanPromise s answer = answer ≡ endOf s

@@ -2,7 +2,8 @@
 ghost use mathlib.Core.Path.{_≡_};
 ghost use Prim.Native.Nat.{_<_};
 ghost use Rattle.listing.specs.Lines.{saidBy};
-ghost use Rattle.listing.specs.Scanning.{mostLines, ends, onLine, lineIn, scan, unfinished, takenOf, scannedByte, closedOf, endOf, good};
+ghost use Rattle.listing.specs.Scanning.{mostLines, ends, onLine, lineIn, scan, unfinished, takenOf, good};
+ghost use Rattle.listing.specs.Promises.{ByteScanPromise, ClosedScanPromise, EndScanPromise};
 use crate::Found;
 use crate::Line;
 use crate::Scan;
@@ -109,7 +110,7 @@ impl Scanner {
 
     // One byte: a newline ends the line, and a sixth byte makes it bad.
     pub fn byte(self, b: u8) -> Scan
-        ensures { λ r. ⌜ r ≡ scannedByte self b ⌝ }
+        ensures { λ r. ⌜ ByteScanPromise self b r ⌝ }
     {
         if b == b'\n' {
             return self.taken(self.says());
@@ -133,7 +134,7 @@ impl Scanner {
 
     // The last line, which may lack its newline.
     pub fn closed(self) -> Scan
-        ensures { λ r. ⌜ r ≡ closedOf self ⌝ }
+        ensures { λ r. ⌜ ClosedScanPromise self r ⌝ }
     {
         if self.count == 0 {
             return Scan {
@@ -146,7 +147,7 @@ impl Scanner {
 
     // The end of the input.
     pub fn end(self) -> Scan
-        ensures { λ r. ⌜ r ≡ endOf self ⌝ }
+        ensures { λ r. ⌜ EndScanPromise self r ⌝ }
     {
         if self.ended {
             return at_line(self.line, true, Found::Nothing);

@@ -48,7 +48,7 @@ same-reports (frame.report p ∷ l) = ap (λ (x : List Report). p ∷ x) (same-r
 same-reports (frame.dropped k ∷ l) = same-reports l
 
 -- an answer that is a report stands behind the reports of the answers before it
-found-at : (l : List Answer) (i : ℕ) (p : Report) → getD l i answer.Nothing ≡ answer.Report p → handedOut l ≡ handedOut (take i l) ++ (p ∷ handedOut (drop (suc i) l))
+pub found-at : (l : List Answer) (i : ℕ) (p : Report) → getD l i answer.Nothing ≡ answer.Report p → handedOut l ≡ handedOut (take i l) ++ (p ∷ handedOut (drop (suc i) l))
 found-at [] i p e = cc
 found-at (a ∷ l) zero p e = rw e
 found-at (answer.Nothing ∷ l) (suc i) p e = found-at l i p e
