@@ -1,4 +1,7 @@
+pub mod Again
+pub mod AsItWas
 pub mod Cuts
 pub mod Goodness
+pub mod Grammar
 pub mod Loop
 pub mod Values
