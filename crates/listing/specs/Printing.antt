@@ -52,7 +52,7 @@ abbrev pub form : ℕ → List Field → Form
 form letter fields = record { letter = letter; fields = fields }
 
 -- "then `D`, line of the word so answered, bytes dropped (when not 0); `R`, line of the last byte, buttons [..], x and y [..]; at the end `H` and
--- bytes kept. A bad line gives `E` and its number [..]; line 10,000 gives `E` and `over`"
+-- bytes kept. A bad line gives `E` and its number [..]; line 1,000,000 gives `E` and `over`"
 abbrev pub formOf : Item → Form
 formOf (item.D n k) = form 0x44 (field.Line n ∷ field.Number (pos k) ∷ [])
 formOf (item.R n b x y) = form 0x52 (field.Line n ∷ field.Pressed b ∷ field.Number x ∷ field.Number y ∷ [])

@@ -2,7 +2,7 @@
 ghost use mathlib.Core.Path.{_≡_};
 ghost use Prim.Native.Nat.{_<_};
 ghost use Rattle.listing.specs.Lines.{saidBy};
-ghost use Rattle.listing.specs.Scanning.{mostLines, ends, onLine, lineIn, scan, unfinished, takenOf, scannedByte, closedOf, endOf, good};
+ghost use Rattle.listing.specs.Scanning.{width, mostLines, ends, onLine, lineIn, scan, unfinished, takenOf, scannedByte, closedOf, endOf, good};
 use crate::Found;
 use crate::Line;
 use crate::Scan;
@@ -54,7 +54,7 @@ fn on_line(n: u32, line: Line) -> Found
 
 // The same, and no line too many.
 fn line_in(n: u32, line: Line) -> Found
-    ensures { λ r. ⌜ r ≡ lineIn n line ⌝ }
+    ensures { λ r. ⌜ r ≡ lineIn width n line ⌝ }
 {
     if n >= most_lines() {
         return Found::Over;
