@@ -6,6 +6,7 @@ use listing::Lister;
 
 // The 999,997 silences between the first line and line 999,999: so many blocks of so many.
 const BLOCKS: usize = 757;
+
 const BLOCK: usize = 1321;
 
 // A block of silences.
@@ -45,9 +46,17 @@ pub(crate) fn last_lines() {
     case_behind(b"line 999,999", lister, b"B\t5\n");
     case_behind(b"line 999,999 without its newline", lister, b"B\t5");
     case_behind(b"line 999,999 is bad", lister, b"Z\n");
-    case_behind(b"line 999,999 is bad, and there is a line 1,000,000", lister, b"Z\nQ\n");
+    case_behind(
+        b"line 999,999 is bad, and there is a line 1,000,000",
+        lister,
+        b"Z\nQ\n",
+    );
     case_behind(b"line 1,000,000 is good", lister, b"B\t5\nQ\n");
-    case_behind(b"line 1,000,000 is good and has no newline", lister, b"B\t5\nQ");
+    case_behind(
+        b"line 1,000,000 is good and has no newline",
+        lister,
+        b"B\t5\nQ",
+    );
     case_behind(b"line 1,000,000 is blank", lister, b"B\t5\n\n");
     case_behind(b"line 1,000,000 is bad", lister, b"B\t5\nZ\n");
 }

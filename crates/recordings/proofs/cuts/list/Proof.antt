@@ -15,7 +15,6 @@ Inv-loop recording cut out₀ places lister₀ taken₀ written₀ out lister ta
 abbrev μ-loop : tie.MeasureT-loop
 μ-loop recording cut out₀ places lister₀ taken₀ written₀ out lister taken written = length recording - taken
 
-
 loop-holds : tie.Need-loop-holds Inv-loop μ-loop
 loop-holds c = search needs
 
