@@ -15,7 +15,7 @@ fn most_lines() -> u32
     ensures { λ r. ⌜ r ≡ mostLines ⌝ }
 {
     let tens = [1u32, 10, 100, 1_000, 10_000, 100_000, 1_000_000];
-    tens[WIDTH] - 1
+    tens[WIDTH as usize] - 1
 }
 
 // Whether nothing is found behind it.
