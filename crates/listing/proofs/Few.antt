@@ -121,7 +121,7 @@ short-gave r (found.Word n w) h = go (stepOf r w .answer) (small-step r w)
     go : (a : Answer) → Small a → ShortGiven (answerGiven (r .format) n a)
     go answer.Nothing k = tt
     go (answer.Report p) k = (h, (k .0, (k .1, tt)))
-    go (answer.Dropped b) k = (h, (k, tt))
+    go (answer.Dropped b) k = (h, (k .1, tt))
 short-gave r (found.Bad n) h = (h, tt)
 short-gave r found.Over h = tt
 short-gave r found.End h = absurd h

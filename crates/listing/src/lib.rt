@@ -44,13 +44,13 @@ pub(crate) struct Scan {
 }
 
 // The middle button, which is not known in V.
-pub(crate) enum Middle {
+pub enum Middle {
     Up,
     Down,
     Unknown,
 }
 
-pub(crate) struct Buttons {
+pub struct Buttons {
     pub left: bool,
     pub middle: Middle,
     pub right: bool,
@@ -58,7 +58,7 @@ pub(crate) struct Buttons {
 
 // What a line of the listing shows, by its letter: D, a line and the bytes dropped; R, a line, the buttons, x and y; H, the bytes kept; E, a bad
 // line or `over`.
-pub(crate) enum Item {
+pub enum Item {
     D(u32, u16),
     R(u32, Buttons, i64, i64),
     H(u16),
@@ -67,7 +67,7 @@ pub(crate) enum Item {
 }
 
 // What is given: nothing, or an item.
-pub(crate) enum Given {
+pub enum Given {
     Nothing,
     One(Item),
 }
