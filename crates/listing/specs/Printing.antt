@@ -10,6 +10,8 @@ use Rattle.listing.specs.declared.Middle.the-variants.{Up, Down, Unknown
 use Rattle.listing.specs.declared.Buttons.{Buttons}
 use Rattle.listing.specs.declared.Item.{Item}
 use Rattle.listing.specs.declared.Item.the-variants as item
+use Rattle.listing.specs.declared.Given.{Given}
+use Rattle.listing.specs.declared.Given.the-variants.{Nothing, One}
 use Rattle.listing.specs.declared.Field.{Field}
 use Rattle.listing.specs.declared.Field.the-variants as field
 
@@ -86,6 +88,11 @@ headOf w f = f .letter ∷ fieldsOf w (f .fields)
 
 unfoldable pub lineOf : ℕ → Form → List ℕ
 lineOf w f = headOf w f ++ newline ∷ []
+
+-- the first line where nothing is given, or an item's
+abbrev pub lineAt : ℕ → Given → List ℕ
+lineAt w Nothing = lineOf w (opening w)
+lineAt w (One i) = lineOf w (formOf i)
 
 -- one line after the other
 abbrev pub allBytes : ℕ → List Item → List ℕ

@@ -4,6 +4,7 @@ ghost use mathlib.Core.List.{_∷_};
 ghost use Rattle.text.specs.Growth.{grownBy, textOf};
 ghost use Rattle.listing.specs.Lines.{tab};
 ghost use Rattle.listing.specs.Items.{itemsIn};
+ghost use Rattle.listing.specs.Promises.{LinePromise};
 ghost use Rattle.listing.specs.Printing.{pressed, middle, three, over, fieldOf, formOf, headOf, lineOf, opening, allBytes};
 use crate::Buttons;
 use crate::Field;
@@ -99,4 +100,16 @@ pub(crate) fn opening(width: u8) -> Text
     ensures { λ r. ⌜ r ≡ textOf (lineOf width (opening width)) ⌝ }
 {
     letter(Text::none(), width, b'L', Field::Number(width as i64)).with(b'\n')
+}
+
+impl Given {
+    // A line of a listing at a width: the first where nothing is given, or an item's.
+    pub fn line(self, width: u8) -> Text
+        ensures { λ r. ⌜ LinePromise self width r ⌝ }
+    {
+        match self {
+            Given::Nothing => opening(width),
+            Given::One(item) => fields(Text::none(), width, item).with(b'\n'),
+        }
+    }
 }
