@@ -5,6 +5,7 @@ pub mod Items
 pub mod Steps
 pub mod Pieces
 pub mod Parts
+pub mod Rewriting
 pub mod Promises
 pub mod Calls
 pub mod Whole

@@ -12,7 +12,7 @@ use listing::Item;
 fn width_known(width: u16) -> bool
     ensures { λ r. ⌜ r ≡ widthKnown width ⌝ }
 {
-    width == 4
+    (width == 4) | (width == 6)
 }
 
 // The last line number behind an item.
@@ -64,7 +64,7 @@ impl Readback {
             return (self.width == 0) & (self.last == 0) & !self.ended;
         }
         width_known(self.width as u16)
-            & (self.last <= 9_999)
+            & (self.last <= 999_999)
             & (ended <= self.lines)
             & (self.lines <= self.last + ended)
     }
