@@ -25,4 +25,5 @@ pub record Stands (r : Readback) (piece : List ℕ) (before : List ℤ) (next : 
 pub record Begins (r : Readback) (piece : List ℕ) (before : List ℤ) (t : Back) (after : List ℤ) : Type 0 where
   pub stands : Stands r piece before (t .next) (t .taken) (5 * t .items) (t .items) after
   pub stops : t .taken ≡ 0 → run reads r (linesOf piece) (length before) ≡ ran (t .refusal) r []
+  pub same : t .taken ≡ 0 → after ≡ before
   pub line-is : t .taken ≡ 0 → t .line ≡ faultAt (t .refusal) r

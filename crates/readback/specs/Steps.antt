@@ -81,4 +81,4 @@ besides ended = cond ended 2 1
 unfoldable pub good : Readback → Bool
 good r =
     cond (eqb (r .lines) 0) (eqb (r .width) 0 && eqb (r .last) 0 && not (r .ended))
-    (widthKnown (r .width) && leb (r .last) mostLines && leb (besides (r .ended)) (r .lines) && leb (r .lines) (r .last + besides (r .ended)))
+    (leb (r .last) mostLines && (widthKnown (r .width) && leb (besides (r .ended)) (r .lines) && leb (r .lines) (r .last + besides (r .ended))))

@@ -1,7 +1,7 @@
 // A line in its place: what it does to a reader of listings.
 ghost use mathlib.Core.Path.{_≡_};
 ghost use mathlib.Core.Bool.{true};
-ghost use Rattle.readback.specs.Steps.{widthKnown, lastBehind, above, closes, faulty, openedAt, passedBy, opens, passes, stepOf, good};
+ghost use Rattle.readback.specs.Steps.{widthKnown, lastBehind, above, closes, faulty, openedAt, passedBy, opens, passes, stepOf, besides, good};
 use crate::Readback;
 use crate::Step;
 use crate::items;
@@ -54,19 +54,26 @@ fn closes(item: Item) -> bool
     }
 }
 
+// The lines besides those that have numbers of their own.
+fn besides(ended: bool) -> u32
+    ensures { λ r. ⌜ r ≡ besides ended ⌝ }
+{
+    if ended { 2 } else { 1 }
+}
+
 impl Readback {
     // Whether it keeps its rules.
     pub(crate) fn good(self) -> bool
         ensures { λ r. ⌜ r ≡ good self ⌝ }
     {
-        let ended: u32 = if self.ended { 2 } else { 1 };
         if self.lines == 0 {
             return (self.width == 0) & (self.last == 0) & !self.ended;
         }
-        width_known(self.width as u16)
-            & (self.last <= 999_999)
-            & (ended <= self.lines)
-            & (self.lines <= self.last + ended)
+        if self.last > 999_999 {
+            return false;
+        }
+        let more = besides(self.ended);
+        width_known(self.width as u16) & (more <= self.lines) & (self.lines <= self.last + more)
     }
 
     // A faulty line.

@@ -1,0 +1,4 @@
+pub mod Cuts
+pub mod Goodness
+pub mod Loop
+pub mod Values
