@@ -79,7 +79,7 @@ pub(crate) struct Gave {
 }
 
 // A field of a line: the number of a line, a number, buttons, or `over`.
-pub(crate) enum Field {
+pub enum Field {
     Line(u32),
     Number(i64),
     Pressed(Buttons),

@@ -2,3 +2,4 @@ pub mod Cuts
 pub mod Goodness
 pub mod Loop
 pub mod Values
+pub mod Rewrites

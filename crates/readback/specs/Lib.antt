@@ -4,8 +4,8 @@ pub mod Fields
 pub mod Items
 pub mod Steps
 pub mod Pieces
-pub mod Parts
 pub mod Rewriting
+pub mod Parts
 pub mod Promises
 pub mod Calls
 pub mod Whole

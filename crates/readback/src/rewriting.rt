@@ -6,6 +6,7 @@ ghost use lib.ListN.{length};
 ghost use Rattle.listing.specs.Scanning.{mostAt};
 ghost use Rattle.readback.specs.Steps.{widthKnown, good};
 ghost use Rattle.readback.specs.Rewriting.{otherWidth, fitsAt, givenFits, rewriting, rewritten, rewrittenOf};
+ghost use Rattle.readback.specs.Parts.{Rewrites};
 ghost use Rattle.readback.specs.Promises.{RewritePromise};
 use crate::Readback;
 use crate::Rewritten;
@@ -81,6 +82,7 @@ impl Readback {
     // The first line of a piece.
     fn rewrite_first(self, input: &[u8], out: &mut [u8]) -> Rewritten
         requires { ⌜ (good self ≡ true) × (0 < length (now input)) ⌝ }
+        ensures { λ r. ⌜ Rewrites self (now (input .entry)) (now (out .entry)) r (now (out .exit)) ⌝ }
     {
         let n = length_to(input, b'\n');
         if n == input.len() {
