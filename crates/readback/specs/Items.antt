@@ -1,5 +1,5 @@
 -- A line's letter and fields, to its item: Printing's forms read the other way; and an item as five numbers.
-use Prim.Native.Nat.{ℕ, _+_, _/_, _%_, _≤_}
+use Prim.Native.Nat.{ℕ, _+_, _/_, _%_, _^_, _<_, _≤_}
 use mathlib.Core.Path.{_≡_}
 use mathlib.Core.Bool.{Bool, false, cond, _&&_, _||_}
 use mathlib.Core.List.{List, [], _∷_, _++_}
@@ -71,6 +71,17 @@ Small (item.D n k) = (n ≤ mostLines) × (k ≤ high)
 Small (item.H k) = k ≤ high
 Small (item.E n) = n ≤ mostLines
 Small item.Over = Unit {0}
+
+-- an item that a line of a width can show: "values are not judged, but D's count is 1 or more"
+abbrev pub Numbered : ℕ → ℕ → Type 0
+Numbered w n = (n < 10 ^ w) × (n ≤ mostLines)
+
+abbrev pub Proper : ℕ → Item → Type 0
+Proper w (item.R n b x y) = Numbered w n × Sixteen x × Sixteen y
+Proper w (item.D n k) = Numbered w n × (1 ≤ k) × (k ≤ high)
+Proper w (item.H k) = k ≤ high
+Proper w (item.E n) = Numbered w n
+Proper w item.Over = Unit {0}
 
 -- the values of fields
 abbrev pub valueAt : ℕ → Fields → ℤ

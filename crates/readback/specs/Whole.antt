@@ -1,5 +1,6 @@
 -- What the whole of a listing says: the items of its lines up to the first faulty one, and that line.
-use Prim.Native.Nat.{ℕ, _+_}
+use Prim.Native.Nat.{ℕ, _+_, _<_}
+use mathlib.Core.Path.{_≡_}
 use mathlib.Core.Bool.{cond}
 use mathlib.Core.List.{List, [], _∷_, _++_}
 use lib.Dec.{eqb}
@@ -7,6 +8,8 @@ use Rattle.wire.specs.Numbers.{success}
 use Rattle.listing.specs.Items.{itemsIn}
 use Rattle.listing.specs.Printing.{lineOf, opening, allBytes}
 use Rattle.listing.specs.declared.Item.{Item}
+use Rattle.listing.specs.declared.Item.the-variants as item
+use Rattle.readback.specs.Items.{Proper}
 use Rattle.readback.specs.Steps.{fresh}
 use Rattle.readback.specs.Pieces.{cutIn, reads}
 use Rattle.readback.specs.declared.Readback.{Readback}
@@ -32,3 +35,12 @@ readingOf bytes = readingFrom fresh (cutIn bytes)
 -- items printed at a width, behind the line that is always printed first
 unfoldable pub printed : ℕ → List Item → List ℕ
 printed w items = lineOf w (opening w) ++ allBytes w items
+
+-- the items of a listing of a width, behind a line number: each in its bounds, their line numbers going up, and the last one, and no other, an `H` or an `E`
+abbrev pub Listed : ℕ → ℕ → List Item → Type 0
+Listed w last [] = ⊥
+Listed w last (item.R n b x y ∷ is) = Proper w (item.R n b x y) × (last < n) × Listed w n is
+Listed w last (item.D n k ∷ is) = Proper w (item.D n k) × (last < n) × Listed w n is
+Listed w last (item.H k ∷ is) = Proper w (item.H k) × (is ≡ [])
+Listed w last (item.E n ∷ is) = Proper w (item.E n) × (last < n) × (is ≡ [])
+Listed w last (item.Over ∷ is) = is ≡ []
