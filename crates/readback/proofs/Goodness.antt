@@ -31,6 +31,9 @@ known-is w k = go (eqb w oldWidth) refl
 pub known-few : (w : ℕ) → widthKnown w ≡ true → w ≤ width
 known-few w k = ⊎-elim (λ e. omega (arith, e)) (λ e. omega (arith, e)) (known-is w k)
 
+pub known-some : (w : ℕ) → widthKnown w ≡ true → oldWidth ≤ w
+known-some w k = ⊎-elim (λ e. omega (arith, e)) (λ e. omega (arith, e)) (known-is w k)
+
 -- a good reader behind its first line
 pub record Begun (r : Readback) : Type 0 where
   pub last : r .last ≤ mostLines

@@ -1,3 +1,4 @@
+pub mod Across
 pub mod Again
 pub mod AsItWas
 pub mod Cuts
