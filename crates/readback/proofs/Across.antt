@@ -109,8 +109,8 @@ module _ (r : Readback) (g : good r ≡ true) where
           (cases (Goes r) (widthKnown (widthIn line)) (λ k. first-goes (eqb-true _ _ z) e (widthIn line) k) (λ _. no-item))
       go false e false z = subst (Goes r) (sym (step-item r line e (eqb-false _ _ z))) (said-goes (eqb-false _ _ z) e (itemIn (r .width) line) (item-read (r .width) line))
 
--- a line that is rewritten
-module _ (r : Readback) (g : good r ≡ true) (l : List ℕ) (z : rewrites .refusal r l ≡ 0) where
+-- a line that is rewritten is whole, and taken by the reader
+module _ (r : Readback) (l : List ℕ) (z : rewrites .refusal r l ≡ 0) where
   abbrev s : Step
   s = stepOf r (bodyOf l)
 
@@ -122,20 +122,22 @@ module _ (r : Readback) (g : good r ≡ true) (l : List ℕ) (z : rewrites .refu
   both : (isWhole l && s .good ≡ true) × (givenFits (otherWidth (s .next .width)) (s .given) ≡ true)
   both = taken-by (isWhole l && s .good) (givenFits (otherWidth (s .next .width)) (s .given)) z
 
-  same : Same r s
-  same = line-goes r g (bodyOf l) (right (isWhole l) (s .good) (both .0)) (both .1)
-
   pub whole-line : isWhole l ≡ true
   whole-line = left (isWhole l) (s .good) (both .0)
+
+-- and reads the same
+module _ (r : Readback) (g : good r ≡ true) (l : List ℕ) (z : rewrites .refusal r l ≡ 0) where
+  same : Same r (stepOf r (bodyOf l))
+  same = line-goes r g (bodyOf l) (right (isWhole l) (stepOf r (bodyOf l) .good) (both r l z .0)) (both r l z .1)
 
   pub cut-text : (rest : List ℕ) → cutIn (rewrites .answer r l ++ rest) ≡ rewrites .answer r l ∷ cutIn rest
   cut-text = same .cut
 
   -- in front of more lines, at both widths
-  pub reads-same : (more′ more : List (List ℕ)) → readingFrom (across (s .next)) more′ ≡ readingFrom (s .next) more
+  pub reads-same : (more′ more : List (List ℕ)) → readingFrom (across (reads .next r l)) more′ ≡ readingFrom (reads .next r l) more
       → readingFrom (across r) (rewrites .answer r l ∷ more′) ≡ readingFrom r (l ∷ more)
   unfolding readingFrom
-  reads-same more′ more ih = rw (same .whole, same .step, both .0) (rw ih)
+  reads-same more′ more ih = rw (same .whole, same .step, both r l z .0) (rw ih)
 
 -- lines that are rewritten, one after the other: they read the same, and are cut off as they were written
 pub lines-same : (lines : List (List ℕ)) (r : Readback) (room : ℕ) → let f = run rewrites r lines room in

@@ -28,7 +28,7 @@ use Rattle.readback.proofs.Goodness.{known-some, step-ended, step-first
 use Rattle.readback.proofs.Grammar.{Reads, item-read, width-read}
 
 -- the lines of bytes have no newline but the last byte
-abbrev Tidy : List (List ℕ) → Type 0
+abbrev pub Tidy : List (List ℕ) → Type 0
 Tidy [] = Unit {0}
 Tidy (l ∷ ls) = (length l ≤ suc (lengthTo newline l)) × Tidy ls
 
@@ -36,7 +36,7 @@ front-tidy : (c : ℕ) (ls : List (List ℕ)) → eqb c newline ≡ false → Ti
 front-tidy c [] e h = (rw e (omega arith), tt)
 front-tidy c (l ∷ ls) e h = (rw e (omega (arith, h .0)), h .1)
 
-cut-tidy : (l : List ℕ) → Tidy (cutIn l)
+pub cut-tidy : (l : List ℕ) → Tidy (cutIn l)
 unfolding cutIn
 cut-tidy [] = tt
 cut-tidy (c ∷ l) = cases Tidy (eqb c newline) (λ _. (omega arith, cut-tidy l)) (λ e. front-tidy c (cutIn l) e (cut-tidy l))
@@ -55,7 +55,7 @@ whole-is (c ∷ l) h k = go (eqb c newline) refl (whole-is l) l refl
         rw e (ap (λ (m : List ℕ). c ∷ m) (ih (lt-ltb (lengthTo newline l) (length l) (omega arith)) (omega arith)))
 
 -- a line that is not refused
-not-refused : (r : Readback) (l : List ℕ) → eqb (reads .refusal r l) success ≡ true → isWhole l && stepOf r (bodyOf l) .good ≡ true
+pub not-refused : (r : Readback) (l : List ℕ) → eqb (reads .refusal r l) success ≡ true → isWhole l && stepOf r (bodyOf l) .good ≡ true
 not-refused r l h = go (isWhole l && stepOf r (bodyOf l) .good) h
   where
     go : (t : Bool) → eqb (cond t success faultyLine) success ≡ true → t ≡ true
@@ -105,7 +105,7 @@ module _ (w : ℕ) (i : Item) (is : List Item) (last : ℕ) (proper : Proper w i
       go item.Over p u c h = h
 
 -- a line that is accepted: its item, and what comes behind it
-abbrev Went : Readback → List ℕ → Step → Type 0
+abbrev pub Went : Readback → List ℕ → Step → Type 0
 Went r body s = s .good ≡ true → (i : Item) × (s ≡ record { good = true; next = passedBy r i; given = One i }) × (headOf (r .width) (formOf i) ≡ body) × Proper (r .width) i × (above (r .last) i ≡ true)
 
 said-went : (r : Readback) (body : List ℕ) (g : Given) → Reads (r .width) body g → Went r body (said r g)
@@ -117,7 +117,7 @@ said-went r body (One i) h e = go (above (r .last) i) refl e
     go true a e = (i, refl, h .0, h .1, a)
     go false a e = absurd (true≢false (sym e))
 
-step-went : (r : Readback) (body : List ℕ) → r .ended ≡ false → (r .lines ≡ 0 → ⊥) → Went r body (stepOf r body)
+pub step-went : (r : Readback) (body : List ℕ) → r .ended ≡ false → (r .lines ≡ 0 → ⊥) → Went r body (stepOf r body)
 step-went r body on b = subst (Went r body) (sym (step-item r body on b)) (said-went r body (itemIn (r .width) body) (item-read (r .width) body))
 
 line-of : (w : ℕ) (i : Item) (body : List ℕ) → headOf w (formOf i) ≡ body → lineOf w (formOf i) ≡ body ++ newline ∷ []

@@ -39,7 +39,7 @@ cut-line (c ∷ l) h = go (eqb c newline) refl (cut-line l)
     go false b ih = let k : suc (lengthTo newline l) < suc (length l) = rw b at h in rw b (ap (front c) (ih (omega arith)))
 
 -- the first line is whole
-same-length-to : (l : List ℕ) → lengthTo newline (take (suc (lengthTo newline l)) l) ≡ lengthTo newline l
+pub same-length-to : (l : List ℕ) → lengthTo newline (take (suc (lengthTo newline l)) l) ≡ lengthTo newline l
 same-length-to [] = refl
 same-length-to (c ∷ l) = go (eqb c newline) refl (same-length-to l)
   where

@@ -68,9 +68,9 @@ wide p n h =
 in-count : (m k : ℕ) → k ≤ m → within (pos 0) (pos m) (Is (pos k)) ≡ good-value (pos k)
 in-count m k h = let a : ltb k 0 ≡ false = le-ltb k 0 (omega arith) in rw (a, le-ltb m k h)
 
-small-number : (x : ℤ) → Sixteen x → natAbs x ≤ most
-small-number (pos n) h = omega (arith, ltb-false 32767 n (neither (ltZ (pos n) low) (ltb 32767 n) h .1))
-small-number (negsuc n) h = omega (arith, ltb-false 32767 n (neither (ltZ (negsuc n) low) (ltZ (pos 32767) (negsuc n)) h .0))
+pub sixteen-most : (x : ℤ) → Sixteen x → natAbs x ≤ 32768
+sixteen-most (pos n) h = omega (arith, ltb-false 32767 n (neither (ltZ (pos n) low) (ltb 32767 n) h .1))
+sixteen-most (negsuc n) h = omega (arith, ltb-false 32767 n (neither (ltZ (negsuc n) low) (ltZ (pos 32767) (negsuc n)) h .0))
 
 read-pressed : (l : Bool) (m : Middle) (r : Bool) → let b : Buttons = record { left = l; middle = m; right = r } in pressedIn (three b) ≡ good-value (pos (pressedNumber b))
 read-pressed true Up true = refl
@@ -94,7 +94,7 @@ read-value p (line {n} h) =
     let long : length (unsignedOf w n) ≡ w = digits-long (placesOf w n) n ∙ wide p n (h .0) in
     rw (is, long, eq-eqb w w refl) (in-count mostLines n (h .1))
 read-value p (count {k} h) = let is : numberIn plain (decimalOf plain (pos k)) ≡ Is (pos k) = written-read plain (pos k) (omega arith) in rw is (in-count high k h)
-read-value p (number {x} h) = let is : numberIn plain (decimalOf plain x) ≡ Is x = written-read plain x (small-number x h) in rw (is, h)
+read-value p (number {x} h) = let is : numberIn plain (decimalOf plain x) ≡ Is x = written-read plain x (omega (arith, sixteen-most x h)) in rw (is, h)
 read-value p (pressed {b}) = read-pressed (b .left) (b .middle) (b .right)
 read-value p over-word = refl
 
