@@ -74,10 +74,22 @@ fn fields(front: Text, width: u8, item: Item) -> Text
     ensures { λ r. ⌜ r ≡ grownBy front (headOf width (formOf item)) ⌝ }
 {
     match item {
-        Item::D(n, k) => field(letter(front, width, b'D', Field::Line(n)), width, Field::Number(k as i64)),
+        Item::D(n, k) => field(
+            letter(front, width, b'D', Field::Line(n)),
+            width,
+            Field::Number(k as i64),
+        ),
         Item::R(n, buttons, x, y) => {
-            let pressed = field(letter(front, width, b'R', Field::Line(n)), width, Field::Pressed(buttons));
-            field(field(pressed, width, Field::Number(x)), width, Field::Number(y))
+            let pressed = field(
+                letter(front, width, b'R', Field::Line(n)),
+                width,
+                Field::Pressed(buttons),
+            );
+            field(
+                field(pressed, width, Field::Number(x)),
+                width,
+                Field::Number(y),
+            )
         }
         Item::H(k) => letter(front, width, b'H', Field::Number(k as i64)),
         Item::E(n) => letter(front, width, b'E', Field::Line(n)),

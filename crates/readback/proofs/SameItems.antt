@@ -1,15 +1,17 @@
 -- A LISTING REWRITTEN AT THE OTHER WIDTH SHOWS THE SAME ITEMS: in whatever calls, the bytes that were written say what the bytes that were taken say.
 use Prim.Native.Nat.{ℕ}
-use mathlib.Core.Path.{_≡_, refl, sym, _∙_, ap}
-use mathlib.Core.Bool.{true}
+use mathlib.Core.Path.{_≡_, refl, sym, _∙_, ap, subst}
+use mathlib.Core.Bool.{Bool, true, false, cond}
+use mathlib.Core.Logic.{_⊎_, inl, inr}
 use mathlib.Core.List.{List, [], _∷_, _++_, append-assoc}
 use lib.ListN.{length, take, drop}
 use lib.Seq.{take-at}
 use Rattle.fold.specs.Fold.{Ran, written, run}
-use Rattle.fold.proofs.Laws.{stays}
+use Rattle.fold.proofs.Laws.{by-words, stays}
+use Rattle.wire.specs.Numbers.{success, badState}
 use Rattle.readback.specs.Steps.{fresh, good}
-use Rattle.readback.specs.Pieces.{cutIn, bytesIn, bodyOf, linesOf}
-use Rattle.readback.specs.Rewriting.{Rewriting, rewriting, rewrites, counted, rewrittenOf}
+use Rattle.readback.specs.Pieces.{faultyLine, cutIn, bytesIn, bodyOf, linesOf}
+use Rattle.readback.specs.Rewriting.{tooWide, Rewriting, rewriting, rewritten, rewrites, counted, rewrittenOf}
 use Rattle.readback.specs.Promises.{rewriteOf, RewritePromise}
 use Rattle.readback.specs.Rewrites.{Rewrite, PermittedRewrites, tookBy, wroteBy}
 use Rattle.readback.specs.Whole.{readingFrom, readingOf}
@@ -66,3 +68,22 @@ calls-same (k ∷ ks) r g h =
 pub same-items : (ks : List Rewrite) → PermittedRewrites fresh ks → readingOf (wroteBy ks) ≡ readingOf (tookBy ks)
 unfolding readingOf
 same-items ks h = calls-same ks fresh fresh-is-good h
+
+-- 6 leaves all as it was, with counts of 0
+pub bad-state-rewrite : (r : Readback) (piece before after : List ℕ) (a : Rewritten) → good r ≡ false → RewritePromise r piece before a after
+    → rewriting a after ≡ rewriting (rewritten badState r 0 0 0) before
+unfolding rewriteOf
+bad-state-rewrite r piece before after a g p = rw g at p
+
+-- a good reader is refused for a faulty line, 7, and for a number that does not fit, 15, and for nothing else
+told : (t u : Bool) → let n = cond t (cond u success tooWide) faultyLine in (n ≡ success) ⊎ (n ≡ faultyLine) ⊎ (n ≡ tooWide)
+told true true = inl refl
+told true false = inr (inr refl)
+told false u = inr (inl refl)
+
+pub good-rewrite : (r : Readback) (piece before after : List ℕ) (a : Rewritten) → good r ≡ true → RewritePromise r piece before a after
+    → (a .refusal ≡ success) ⊎ (a .refusal ≡ faultyLine) ⊎ (a .refusal ≡ tooWide)
+good-rewrite r piece before after a g p =
+    let P : ℕ → Type 0 = λ n. (n ≡ success) ⊎ (n ≡ faultyLine) ⊎ (n ≡ tooWide) in
+    subst P (sym (ap (λ (w : Rewriting). w .told .refusal) (is r piece before after a g p)))
+    (by-words rewrites (λ r lines room f. P (f .refusal)) (λ r room. inl refl) (λ r l lines room e. told _ _) (λ r l lines room f e ih. ih) (linesOf piece) r (length before))

@@ -46,7 +46,7 @@ abbrev pub rewrites : MachineOver (List ℕ) Readback (List ℕ) ℕ
 rewrites =
     record {
       refusal =
-        λ r l. cond (eqb (reads .refusal r l) success) (cond (givenFits (widthBehind r l) (reads .answer r l)) success tooWide) faultyLine;
+          λ r l. cond (eqb (reads .refusal r l) success) (cond (givenFits (widthBehind r l) (reads .answer r l)) success tooWide) faultyLine;
       next = λ r l. reads .next r l;
       answer = λ r l. lineAt (widthBehind r l) (reads .answer r l);
       writes = λ text. text;
