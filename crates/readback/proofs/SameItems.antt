@@ -4,14 +4,15 @@ use mathlib.Core.Path.{_≡_, refl, sym, _∙_, ap, subst}
 use mathlib.Core.Bool.{Bool, true, false, cond}
 use mathlib.Core.Logic.{_⊎_, inl, inr}
 use mathlib.Core.List.{List, [], _∷_, _++_, append-assoc}
+use lib.Dec.{eqb}
 use lib.ListN.{length, take, drop}
 use lib.Seq.{take-at}
 use Rattle.fold.specs.Fold.{Ran, written, run}
 use Rattle.fold.proofs.Laws.{by-words, stays}
 use Rattle.wire.specs.Numbers.{success, badState}
 use Rattle.readback.specs.Steps.{fresh, good}
-use Rattle.readback.specs.Pieces.{faultyLine, cutIn, bytesIn, bodyOf, linesOf}
-use Rattle.readback.specs.Rewriting.{tooWide, Rewriting, rewriting, rewritten, rewrites, counted, rewrittenOf}
+use Rattle.readback.specs.Pieces.{reads, faultyLine, cutIn, bytesIn, bodyOf, linesOf}
+use Rattle.readback.specs.Rewriting.{givenFits, widthBehind, tooWide, Rewriting, rewriting, rewritten, rewrites, counted, rewrittenOf}
 use Rattle.readback.specs.Promises.{rewriteOf, RewritePromise}
 use Rattle.readback.specs.Rewrites.{Rewrite, PermittedRewrites, tookBy, wroteBy}
 use Rattle.readback.specs.Whole.{readingFrom, readingOf}
@@ -86,4 +87,4 @@ pub good-rewrite : (r : Readback) (piece before after : List ℕ) (a : Rewritten
 good-rewrite r piece before after a g p =
     let P : ℕ → Type 0 = λ n. (n ≡ success) ⊎ (n ≡ faultyLine) ⊎ (n ≡ tooWide) in
     subst P (sym (ap (λ (w : Rewriting). w .told .refusal) (is r piece before after a g p)))
-    (by-words rewrites (λ r lines room f. P (f .refusal)) (λ r room. inl refl) (λ r l lines room e. told _ _) (λ r l lines room f e ih. ih) (linesOf piece) r (length before))
+    (by-words rewrites (λ r lines room f. P (f .refusal)) (λ r room. inl refl) (λ r l lines room e. told (eqb (reads .refusal r l) success) (givenFits (widthBehind r l) (reads .answer r l))) (λ r l lines room f e ih. ih) (linesOf piece) r (length before))
