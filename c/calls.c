@@ -218,7 +218,7 @@ typedef struct {
 } placed;
 
 static placed any_lister(uint64_t call) {
-    placed m = {{(uint32_t)drawn(call, 105, 10002), 0, {0, 0, 0, 0, 0}, 0, any_reader(call)}, drawn(call, 106, 88)};
+    placed m = {{(uint32_t)(990000 * drawn(call, 112, 2) + drawn(call, 105, 10002)), 0, {0, 0, 0, 0, 0}, 0, any_reader(call)}, drawn(call, 106, 88)};
     if (drawn(call, 100, 8) == 0) m.lister.ended = mark(call, 101);
     if (drawn(call, 102, 2) == 0)
         m.lister.held[0] = 66, m.lister.held[1] = 9, m.lister.held[2] = drawn_byte(call, 103, 64), m.lister.count = drawn(call, 104, 8);

@@ -2,9 +2,11 @@
 use Prim.Native.Nat.{ℕ}
 use mathlib.Core.Path.{_≡_, sym, _∙_, ap}
 use mathlib.Core.List.{List}
-use Rattle.listing.specs.Promises.{Whole, whole, FreshPromise, FeedPromise, FinishPromise, ByteScanPromise, ClosedScanPromise, EndScanPromise}
+use Rattle.listing.specs.Promises.{Whole, whole, LinePromise, FreshPromise, FeedPromise, FinishPromise, ByteScanPromise, ClosedScanPromise, EndScanPromise}
 use Rattle.listing.specs.declared.Scan.{Scan}
 use Rattle.listing.specs.declared.Scanner.{Scanner}
+use Rattle.text.specs.declared.Text.{Text}
+use Rattle.listing.specs.declared.Given.{Given}
 use Rattle.listing.specs.declared.Lister.{Lister}
 use Rattle.listing.specs.declared.Listed.{Listed}
 
@@ -13,6 +15,9 @@ parts e = (ap (λ (w : Whole). w .listed) e, ap (λ (w : Whole). w .out) e)
 
 pub one-fresh : {a b : Lister} → FreshPromise a → FreshPromise b → a ≡ b
 one-fresh p q = p ∙ sym q
+
+pub one-line : (g : Given) (w : ℕ) {a b : Text} → LinePromise g w a → LinePromise g w b → a ≡ b
+one-line g w p q = p ∙ sym q
 
 pub one-feed : (m : Lister) (input before : List ℕ) {a b : Listed} {left right : List ℕ} → FeedPromise m input before a left → FeedPromise m input before b right
     → (a ≡ b) × (left ≡ right)

@@ -11,7 +11,7 @@ use borrow.Author.Tests.{ne-eqb, le-leb, leb-false}
 use Rattle.numbers.proofs.Choices.{cases}
 use Rattle.fold.proofs.Laws.{over-taken, stays}
 use Rattle.listing.specs.Lines.{newline, saidBy}
-use Rattle.listing.specs.Scanning.{mostLines, lineIn, ends, scan, unfinished, takenOf, scannedByte, closedOf, endOf, passed, mostBytes}
+use Rattle.listing.specs.Scanning.{width, mostLines, lineIn, ends, scan, unfinished, takenOf, scannedByte, closedOf, endOf, passed, mostBytes}
 use Rattle.listing.specs.Items.{itemsFrom}
 use Rattle.listing.specs.Feeding.{fedByte, lastOf, feeds, feedIn}
 use Rattle.listing.specs.declared.Line.{Line}
@@ -65,7 +65,7 @@ On s next = (next .ended ≡ true) ⊎ ((passed s < passed next) × Within next)
 
 line-on : (s : Scanner) (l : Line) → Within s → On s (takenOf s l .next)
 unfolding takenOf
-line-on s l h = cases (λ (k : Scan). On s (k .next)) (s .ended) (λ _. inl refl) (λ _. go (ends (lineIn (s .line) l)) (goes-on (s .line) l))
+line-on s l h = cases (λ (k : Scan). On s (k .next)) (s .ended) (λ _. inl refl) (λ _. go (ends (lineIn width (s .line) l)) (goes-on (s .line) l))
   where
     go : (t : Bool) → (t ≡ false → s .line < mostLines) → On s (scan (cond t (s .line) (s .line + 1)) t Nothing .next)
     go true k = inl refl

@@ -69,14 +69,14 @@ abbrev ShortGiven : Given → Type 0
 ShortGiven given.Nothing = Unit {0}
 ShortGiven (given.One i) = Short (formOf i .fields)
 
-most-item : (i : Item) → mostOf (formOf i .fields) ≤ 22
+most-item : (i : Item) → mostOf (formOf i .fields) ≤ 24
 most-item (item.D n k) = omega arith
 most-item (item.R n b x y) = omega arith
 most-item (item.H k) = omega arith
 most-item (item.E n) = omega arith
 most-item item.Over = omega arith
 
-few-given : (g : Given) → ShortGiven g → length (allBytes width (itemsIn g)) ≤ 24
+few-given : (g : Given) → ShortGiven g → length (allBytes width (itemsIn g)) ≤ 26
 few-given given.Nothing h = omega arith
 few-given (given.One i) h = omega (arith, few-form (formOf i) h, most-item i, length-append (lineOf width (formOf i)) [])
 
@@ -89,7 +89,7 @@ Numbered (found.Bad n) = n < 10 ^ width
 Numbered found.Over = Unit {0}
 Numbered found.End = ⊥
 
-numbered-line : (n : ℕ) (l : Line) → Numbered (lineIn n l)
+numbered-line : (n : ℕ) (l : Line) → Numbered (lineIn width n l)
 unfolding lineIn
 numbered-line n l = cases Numbered (leb mostLines n) (λ _. tt) (λ e. go l (leb-false _ _ e))
   where
@@ -131,7 +131,7 @@ unfolding frontOf lineOf decimalOf placesOf sizeIn digitsOf
 few-front m = cases (λ (l : List ℕ). length l ≤ 4) (unopened (m .scanner)) (λ _. omega arith) (λ _. omega arith)
 
 -- what the end gives to a reader that keeps few bytes
-few-end : (r : Reader) (t u : Bool) → r .count < 5 → length (allBytes width (itemsIn (gaveOf r (cond t found.Nothing (cond u (found.Bad 1) found.End)) .given))) ≤ 8
+few-end : (r : Reader) (t u : Bool) → r .count < 5 → length (allBytes width (itemsIn (gaveOf r (cond t found.Nothing (cond u (found.Bad 1) found.End)) .given))) ≤ 10
 unfolding gaveOf
 few-end r true u h = omega arith
 few-end r false true h = omega (arith, few-form (formOf (item.E 1)) (omega arith, tt), length-append (lineOf width (formOf (item.E 1))) [])
@@ -156,5 +156,5 @@ few-last m ok =
     let f = closedOf (m .scanner) .found in
     let a = allBytes width (itemsOf m (closedOf (m .scanner))) in
     let e = allBytes width (itemsOf (closed m) (endOf (closed m .scanner))) in
-    let few : length e ≤ 8 = few-end (closed m .reader) (closed m .scanner .ended) (eqb (closed m .scanner .line) 0) (few-kept (closed m .reader) (closed-reads m ok)) in
+    let few : length e ≤ 10 = few-end (closed m .reader) (closed m .scanner .ended) (eqb (closed m .scanner .line) 0) (few-kept (closed m .reader) (closed-reads m ok)) in
     omega (arith, few-front m, few-given (gaveOf (m .reader) f .given) (short-gave (m .reader) f (numbered-closed (m .scanner))), few, length-append (frontOf m) a, length-append (frontOf m ++ a) e)

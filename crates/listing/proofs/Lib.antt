@@ -18,4 +18,5 @@ pub mod Refusals
 pub mod Scanned
 pub mod Small
 pub mod Whole
+pub mod Widths
 pub mod Worked

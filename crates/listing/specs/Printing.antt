@@ -10,6 +10,8 @@ use Rattle.listing.specs.declared.Middle.the-variants.{Up, Down, Unknown
 use Rattle.listing.specs.declared.Buttons.{Buttons}
 use Rattle.listing.specs.declared.Item.{Item}
 use Rattle.listing.specs.declared.Item.the-variants as item
+use Rattle.listing.specs.declared.Given.{Given}
+use Rattle.listing.specs.declared.Given.the-variants.{Nothing, One}
 use Rattle.listing.specs.declared.Field.{Field}
 use Rattle.listing.specs.declared.Field.the-variants as field
 
@@ -68,7 +70,7 @@ abbrev pub letterE : ℕ
 letterE = 0x45
 
 -- "then `D`, line of the word so answered, bytes dropped (when not 0); `R`, line of the last byte, buttons [..], x and y [..]; at the end `H` and
--- bytes kept. A bad line gives `E` and its number [..]; line 10,000 gives `E` and `over`"
+-- bytes kept. A bad line gives `E` and its number [..]; line 1,000,000 gives `E` and `over`"
 abbrev pub formOf : Item → Form
 formOf (item.D n k) = form letterD (field.Line n ∷ field.Number (pos k) ∷ [])
 formOf (item.R n b x y) = form letterR (field.Line n ∷ field.Pressed b ∷ field.Number x ∷ field.Number y ∷ [])
@@ -86,6 +88,11 @@ headOf w f = f .letter ∷ fieldsOf w (f .fields)
 
 unfoldable pub lineOf : ℕ → Form → List ℕ
 lineOf w f = headOf w f ++ newline ∷ []
+
+-- the first line where nothing is given, or an item's
+abbrev pub lineAt : ℕ → Given → List ℕ
+lineAt w Nothing = lineOf w (opening w)
+lineAt w (One i) = lineOf w (formOf i)
 
 -- one line after the other
 abbrev pub allBytes : ℕ → List Item → List ℕ

@@ -1,4 +1,4 @@
--- What is promised of `Lister::fresh`, `Lister::feed` and `Lister::finish`: for every argument one answer, and every byte of the slice; and of the scanner.
+-- What is promised of `Lister::fresh`, `Lister::feed`, `Lister::finish` and `Given::line`: for every argument one answer, and every byte of the slice; and of the scanner.
 use Prim.Native.Nat.{ℕ}
 use mathlib.Core.Path.{_≡_}
 use mathlib.Core.Bool.{cond}
@@ -6,9 +6,13 @@ use mathlib.Core.List.{List, _++_}
 use lib.ListN.{length, drop}
 use Rattle.wire.specs.Numbers.{success, badState}
 use Rattle.listing.specs.Scanning.{scannedByte, closedOf, endOf}
+use Rattle.text.specs.Growth.{textOf}
+use Rattle.text.specs.declared.Text.{Text}
+use Rattle.listing.specs.Printing.{lineAt}
 use Rattle.listing.specs.Feeding.{fresh, Feed, feedIn, finishIn, good}
 use Rattle.listing.specs.declared.Scanner.{Scanner}
 use Rattle.listing.specs.declared.Scan.{Scan}
+use Rattle.listing.specs.declared.Given.{Given}
 use Rattle.listing.specs.declared.Lister.{Lister}
 use Rattle.listing.specs.declared.Listed.{Listed}
 
@@ -41,6 +45,10 @@ feedOf m input out = cond (good m) (written (feedIn m input (length out)) out) (
 -- `Lister::finish(self, out)`
 unfoldable pub finishOf : Lister → List ℕ → Whole
 finishOf m out = cond (good m) (written (finishIn m (length out)) out) (refused m out)
+
+-- `Given::line(self, width)`: the text of a line at a width
+abbrev pub LinePromise : Given → ℕ → Text → Type 0
+LinePromise g w answer = answer ≡ textOf (lineAt w g)
 
 -- `Lister::fresh()`
 abbrev pub FreshPromise : Lister → Type 0

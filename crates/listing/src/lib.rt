@@ -10,7 +10,7 @@ mod printing;
 mod scanning;
 
 // The width of line numbers.
-pub(crate) const WIDTH: usize = 4;
+pub(crate) const WIDTH: u8 = 6;
 
 // What a line says.
 pub(crate) enum Line {

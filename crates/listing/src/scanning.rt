@@ -2,7 +2,7 @@
 ghost use mathlib.Core.Path.{_≡_};
 ghost use Prim.Native.Nat.{_<_};
 ghost use Rattle.listing.specs.Lines.{saidBy};
-ghost use Rattle.listing.specs.Scanning.{mostLines, ends, onLine, lineIn, scan, unfinished, takenOf, good};
+ghost use Rattle.listing.specs.Scanning.{width, mostLines, ends, onLine, lineIn, scan, unfinished, takenOf, good};
 ghost use Rattle.listing.specs.Promises.{ByteScanPromise, ClosedScanPromise, EndScanPromise};
 use crate::Found;
 use crate::Line;
@@ -16,7 +16,7 @@ fn most_lines() -> u32
     ensures { λ r. ⌜ r ≡ mostLines ⌝ }
 {
     let tens = [1u32, 10, 100, 1_000, 10_000, 100_000, 1_000_000];
-    tens[WIDTH] - 1
+    tens[WIDTH as usize] - 1
 }
 
 // Whether nothing is found behind it.
@@ -55,7 +55,7 @@ fn on_line(n: u32, line: Line) -> Found
 
 // The same, and no line too many.
 fn line_in(n: u32, line: Line) -> Found
-    ensures { λ r. ⌜ r ≡ lineIn n line ⌝ }
+    ensures { λ r. ⌜ r ≡ lineIn width n line ⌝ }
 {
     if n >= most_lines() {
         return Found::Over;

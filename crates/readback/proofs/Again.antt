@@ -24,7 +24,7 @@ use Rattle.readback.specs.Whole.{Reading, reading, readingFrom, readingO
 use Rattle.readback.specs.declared.Readback.{Readback}
 use Rattle.readback.specs.declared.Step.{Step}
 use Rattle.readback.proofs.Cuts.{bytes-cut}
-use Rattle.readback.proofs.Goodness.{step-ended, step-first, step-item}
+use Rattle.readback.proofs.Goodness.{known-some, step-ended, step-first, step-item}
 use Rattle.readback.proofs.Grammar.{Reads, item-read, width-read}
 
 -- the lines of bytes have no newline but the last byte
@@ -192,7 +192,7 @@ module _ (bytes l : List ℕ) (ls : List (List ℕ)) (is : l ++ bytesIn ls ≡ b
       let fault : readingFrom (openedAt w) ls .fault ≡ 0 = rw step at h in
       let a = accepted-from ls (openedAt w) refl (λ z. omega arith) (t .1) fault in
       let line : l ≡ lineOf w (opening w) =
-      sym (whole-is l (left (isWhole l) (stepOf fresh (bodyOf l) .good) two) (t .0)) ∙ first-line w (bodyOf l) (width-read (bodyOf l) (λ z. omega (arith, eqb-true w 4 (went .0)))) in
+      sym (whole-is l (left (isWhole l) (stepOf fresh (bodyOf l) .good) two) (t .0)) ∙ first-line w (bodyOf l) (width-read (bodyOf l) (λ z. omega (arith, z, known-some w (went .0)))) in
       rw step (record { width = w; known = went .0; listed = a .0; again = rw (a .1, ← line) is })
 
 pub accepted : (bytes : List ℕ) → readingOf bytes .fault ≡ 0 → Printed bytes (readingOf bytes .items)

@@ -14,17 +14,18 @@ use borrow.Author.Tests.{lt-ltb, le-ltb, eqb-true, eqb-false, eq-eqb, ne-eqb}
 use Rattle.numbers.proofs.Choices.{cases}
 use Rattle.numbers.proofs.Tested.{left, right}
 use Rattle.wire.specs.Numbers.{success}
-use Rattle.listing.specs.Lines.{newline, lengthTo}
-use Rattle.listing.specs.Scanning.{width, mostLines, recordingOf}
+use Rattle.listing.specs.Lines.{newline, lengthTo, linesIn}
+use Rattle.listing.specs.Scanning.{mostAt, width}
 use Rattle.listing.specs.Items.{itemsIn, itemsFrom}
 use Rattle.listing.specs.Printing.{fieldsOf, fieldOf, Form, formOf, headOf, lineOf, opening, allBytes}
-use Rattle.listing.specs.Listing.{waiting, listingOf}
+use Rattle.listing.specs.Listing.{itemsAt, listingAt, listingOf}
 use Rattle.listing.specs.declared.Field.{Field}
 use Rattle.listing.specs.declared.Item.{Item}
 use Rattle.listing.specs.declared.Item.the-variants as item
 use Rattle.listing.specs.declared.Given.{Given}
 use Rattle.listing.specs.declared.Given.the-variants.{Nothing, One}
 use Rattle.listing.proofs.Ordered.{Ordered, ordered}
+use Rattle.listing.proofs.Widths.{same-at-four-and-six}
 use Rattle.readback.specs.Fields.{low, high}
 use Rattle.readback.specs.Items.{Sixteen, Numbered, Proper, itemIn, widthIn}
 use Rattle.readback.specs.Steps.{widthKnown, readback, fresh, openedAt, passedBy, lastBehind, above, closes, faulty, opens, passes, said, stepOf, good}
@@ -33,7 +34,7 @@ use Rattle.readback.specs.Whole.{Reading, reading, readingFrom, readingO
 use Rattle.readback.specs.declared.Readback.{Readback}
 use Rattle.readback.specs.declared.Step.{Step}
 use Rattle.readback.proofs.Cuts.{cut-line, bytes-cut}
-use Rattle.readback.proofs.Goodness.{step-first, step-item}
+use Rattle.readback.proofs.Goodness.{known-few, step-first, step-item}
 use Rattle.readback.proofs.Grammar.{past, field-above, read-item, Reads, item-read, read-width, width-read}
 
 -- a line has no newline but its last byte
@@ -79,7 +80,7 @@ module _ (w : ℕ) (f : Form) (not-newline : eqb (f .letter) newline ≡ false) 
   unfolding lineOf
   line-body = rw alone (take-at (headOf w f) (newline ∷ []) (length (headOf w f)) refl)
 
-letter-plain : (i : Item) → eqb (formOf i .letter) newline ≡ false
+pub letter-plain : (i : Item) → eqb (formOf i .letter) newline ≡ false
 letter-plain (item.R n b x y) = refl
 letter-plain (item.D n k) = refl
 letter-plain (item.H k) = refl
@@ -88,7 +89,7 @@ letter-plain item.Over = refl
 
 -- a line of an item, in its place
 module _ (p : ℕ) (r : Readback) (at : r .width ≡ suc p) (on : r .ended ≡ false) (begun : r .lines ≡ 0 → ⊥) (i : Item) (proper : Proper (suc p) i) (up : above (r .last) i ≡ true) where
-  item-step : stepOf r (bodyOf (lineOf (suc p) (formOf i))) ≡ record { good = true; next = passedBy r i; given = One i }
+  pub item-step : stepOf r (bodyOf (lineOf (suc p) (formOf i))) ≡ record { good = true; next = passedBy r i; given = One i }
   item-step =
       ap (stepOf r) (line-body (suc p) (formOf i) (letter-plain i)) ∙ step-item r (headOf (suc p) (formOf i)) on begun
       ∙ ap (said r) (ap (λ (w : ℕ). itemIn w (headOf (suc p) (formOf i))) at ∙ read-item p i proper)
@@ -116,9 +117,9 @@ items-back p (item.E n ∷ is) r at on b h = rw (h .2) (ap (readingFrom r) (cut-
 items-back p (item.Over ∷ is) r at on b h = rw h (ap (readingFrom r) (cut-first (suc p) (formOf item.Over) refl []) ∙ item-goes p r at on b item.Over tt refl [])
 
 -- the first line
-first-step : (w : ℕ) → widthKnown w ≡ true → stepOf fresh (bodyOf (lineOf w (opening w))) ≡ record { good = true; next = openedAt w; given = Nothing }
+pub first-step : (w : ℕ) → widthKnown w ≡ true → stepOf fresh (bodyOf (lineOf w (opening w))) ≡ record { good = true; next = openedAt w; given = Nothing }
 first-step w h =
-    let few : w ≤ high = omega (arith, eqb-true w width h) in
+    let few : w ≤ high = omega (arith, known-few w h) in
     ap (stepOf fresh) (line-body w (opening w) refl) ∙ step-first fresh (headOf w (opening w)) refl refl ∙ ap (opens fresh) (read-width w few)
     ∙ ap (λ (t : Bool). cond t (record { good = true; next = openedAt w; given = Nothing }) (faulty fresh)) h
 
@@ -138,15 +139,26 @@ four-digits : (x : ℤ) → natAbs x < 10 ^ 4 → Sixteen x
 four-digits (pos n) h = le-ltb 32767 n (omega arith)
 four-digits (negsuc n) h = let e : ltb 32767 n ≡ false = le-ltb 32767 n (omega arith) in rw e
 
-lister-items : (is : List Item) (last : ℕ) → Ordered last is → Listed width last is
-lister-items [] last h = absurd h
-lister-items (item.R n b x y ∷ is) last h = (((omega (arith, h .0), h .0 .1), four-digits x (h .1), four-digits y (h .2)), h .0 .0, lister-items is n (h .3))
-lister-items (item.D n k ∷ is) last h = (((omega (arith, h .0), h .0 .1), h .1, omega (arith, h .2)), h .0 .0, lister-items is n (h .3))
-lister-items (item.H k ∷ is) last h = (omega (arith, h .0), h .1)
-lister-items (item.E n ∷ is) last h = ((omega (arith, h .0), h .0 .1), h .0 .0, h .1)
-lister-items (item.Over ∷ is) last h = h
+module _ (w : ℕ) (bound : (n : ℕ) → n ≤ mostAt w → Numbered w n) where
+  lister-items : (is : List Item) (last : ℕ) → Ordered (mostAt w) last is → Listed w last is
+  lister-items [] last h = absurd h
+  lister-items (item.R n b x y ∷ is) last h = ((bound n (h .0 .1), four-digits x (h .1), four-digits y (h .2)), h .0 .0, lister-items is n (h .3))
+  lister-items (item.D n k ∷ is) last h = ((bound n (h .0 .1), h .1, omega (arith, h .2)), h .0 .0, lister-items is n (h .3))
+  lister-items (item.H k ∷ is) last h = (omega (arith, h .0), h .1)
+  lister-items (item.E n ∷ is) last h = (bound n (h .0 .1), h .0 .0, h .1)
+  lister-items (item.Over ∷ is) last h = h
 
--- AS IT WAS: the listing of every input comes back as its items, without a fault
-pub as-it-was : (input : List ℕ) → readingOf (listingOf input) ≡ reading (itemsFrom waiting (recordingOf input)) 0
+-- AS IT WAS: the listing of every input comes back as its items, without a fault, at either width; and so does what a lister writes
+pub as-it-was-at-four : (input : List ℕ) → readingOf (listingAt 4 input) ≡ reading (itemsAt 4 input) 0
+unfolding printed
+as-it-was-at-four input = printed-read 3 (itemsAt 4 input) refl (lister-items 4 (λ n h. (omega (arith, h), omega (arith, h))) (itemsAt 4 input) 0 (ordered 4 (omega arith) input))
+
+pub as-it-was : (input : List ℕ) → readingOf (listingOf input) ≡ reading (itemsAt width input) 0
 unfolding listingOf printed
-as-it-was input = printed-read 3 (itemsFrom waiting (recordingOf input)) refl (lister-items (itemsFrom waiting (recordingOf input)) 0 (ordered input))
+as-it-was input =
+    printed-read 5 (itemsAt width input) refl (lister-items width (λ n h. (omega (arith, h), omega (arith, h))) (itemsAt width input) 0 (ordered width (omega arith) input))
+
+-- THE SAME ITEMS: the listings of an input of at most 9,999 lines at both widths say the same
+pub same-at-both : (input : List ℕ) → length (linesIn input) ≤ mostAt 4 → readingOf (listingAt 4 input) ≡ readingOf (listingAt 6 input)
+unfolding listingOf
+same-at-both input h = as-it-was-at-four input ∙ ap (λ (is : List Item). reading is 0) (same-at-four-and-six input h) ∙ sym (as-it-was input)

@@ -2,22 +2,37 @@
 use Prim.Native.Nat.{ℕ, _+_, _≤_}
 use mathlib.Core.Path.{_≡_, refl, sym, _∙_, ap, subst}
 use mathlib.Core.Bool.{Bool, true, false, not, cond, _&&_, true≢false}
+use mathlib.Core.Logic.{_⊎_, inl, inr, ⊎-elim}
 use mathlib.Core.List.{List}
 use native.Mathlib.Omega.{arith}
 use lib.Dec.{ltb, leb, eqb}
 use borrow.Author.Tests.{ltb-true, leb-true, eqb-true, eqb-false, le-leb, eq-eqb, ne-eqb}
 use Rattle.numbers.proofs.Choices.{cases, both}
 use Rattle.numbers.proofs.Tested.{left, right}
-use Rattle.listing.specs.Scanning.{mostLines}
+use Rattle.listing.specs.Scanning.{width, mostLines}
 use Rattle.listing.specs.declared.Item.{Item}
 use Rattle.listing.specs.declared.Item.the-variants as item
 use Rattle.listing.specs.declared.Given.{Given}
 use Rattle.listing.specs.declared.Given.the-variants.{Nothing, One}
 use Rattle.readback.specs.Items.{Small, itemIn, widthIn}
-use Rattle.readback.specs.Steps.{widthKnown, openedAt, passedBy, lastBehind, above, closes, faulty, opens, passes, said, stepOf, besides, fresh, good}
+use Rattle.readback.specs.Steps.{oldWidth, widthKnown, openedAt, passedBy, lastBehind, above, closes, faulty, opens, passes, said, stepOf, besides, fresh, good}
 use Rattle.readback.specs.declared.Readback.{Readback}
 use Rattle.readback.specs.declared.Step.{Step}
 use Rattle.readback.proofs.Values.{SmallGiven, small-item}
+
+-- the widths that are known: four, or six
+pub known-is : (w : ℕ) → widthKnown w ≡ true → (w ≡ oldWidth) ⊎ (w ≡ width)
+known-is w k = go (eqb w oldWidth) refl
+  where
+    go : (t : Bool) → eqb w oldWidth ≡ t → (w ≡ oldWidth) ⊎ (w ≡ width)
+    go true e = inl (eqb-true w oldWidth e)
+    go false e = inr (eqb-true w width (rw e at k))
+
+pub known-few : (w : ℕ) → widthKnown w ≡ true → w ≤ width
+known-few w k = ⊎-elim (λ e. omega (arith, e)) (λ e. omega (arith, e)) (known-is w k)
+
+pub known-some : (w : ℕ) → widthKnown w ≡ true → oldWidth ≤ w
+known-some w k = ⊎-elim (λ e. omega (arith, e)) (λ e. omega (arith, e)) (known-is w k)
 
 -- a good reader behind its first line
 pub record Begun (r : Readback) : Type 0 where

@@ -2,6 +2,7 @@
 use Prim.Native.Nat.{ℕ, suc, _+_, _<_, _≤_, _^_}
 use mathlib.Core.Path.{_≡_, refl, sym, _∙_, ap, subst}
 use mathlib.Core.Bool.{Bool, true, false, cond, true≢false}
+use mathlib.Core.Logic.{⊎-elim}
 use mathlib.Core.List.{List, [], _∷_, _++_}
 use native.Mathlib.Omega.{arith}
 use lib.Dec.{eqb}
@@ -23,7 +24,7 @@ use Rattle.readback.specs.Steps.{widthKnown, openedAt, faulty, opens, st
 use Rattle.readback.specs.Pieces.{longest}
 use Rattle.readback.specs.declared.Readback.{Readback}
 use Rattle.readback.specs.declared.Step.{Step}
-use Rattle.readback.proofs.Goodness.{begun, step-ended, step-first}
+use Rattle.readback.proofs.Goodness.{known-is, known-few, known-some, begun, step-ended, step-first}
 use Rattle.readback.proofs.Grammar.{sixteen-most, width-read}
 use Rattle.readback.proofs.Again.{step-went}
 
@@ -41,11 +42,14 @@ item-short p (item.H k) h = simp length-append (omega (arith, number-few (pos k)
 item-short p (item.E n) h = simp length-append (omega (arith, line-few p n (h .0)))
 item-short p item.Over h = omega arith
 
-short-at : (w : ℕ) (i : Item) → w ≡ 4 → Proper w i → length (headOf w (formOf i)) ≤ 24
-short-at w i at = subst (λ (w : ℕ). Proper w i → length (headOf w (formOf i)) ≤ 24) (sym at) (item-short 3 i)
+short-at : (w : ℕ) (i : Item) → widthKnown w ≡ true → Proper w i → length (headOf w (formOf i)) ≤ longest
+short-at w i k = ⊎-elim (λ e. at 3 e (omega arith)) (λ e. at 5 e (omega arith)) (known-is w k)
+  where
+    at : (p : ℕ) → w ≡ suc p → 21 + p ≤ longest → Proper w i → length (headOf w (formOf i)) ≤ longest
+    at p e h = subst (λ (w : ℕ). Proper w i → length (headOf w (formOf i)) ≤ longest) (sym e) (λ q. omega (arith, h, item-short p i q))
 
-opening-short : (w : ℕ) → widthKnown w ≡ true → length (headOf w (opening w)) ≤ 24
-opening-short w k = simp length-append (omega (arith, number-few (pos w) (omega (arith, eqb-true w 4 k))))
+opening-short : (w : ℕ) → widthKnown w ≡ true → length (headOf w (opening w)) ≤ longest
+opening-short w k = simp length-append (omega (arith, number-few (pos w) (omega (arith, known-few w k))))
 
 opens-known : (r : Readback) (w : ℕ) → opens r w .good ≡ true → widthKnown w ≡ true
 opens-known r w h = go (widthKnown w) h
@@ -63,9 +67,9 @@ long-faulty r body g h = refused (stepOf r body .good) (λ t. go t (r .ended) re
     go t false e true ez =
         let w = widthIn body in
         let k = opens-known r w (sym (ap (λ (s : Step). s .good) (step-first r body e (eqb-true _ _ ez))) ∙ t) in
-        let is = width-read body (λ z. omega (arith, eqb-true w 4 k)) in
+        let is = width-read body (λ z. omega (arith, z, known-some w k)) in
         omega (arith, ap length is, opening-short w k)
     go t false e false ez =
         let b = begun r g (eqb-false _ _ ez) in
         let went = step-went r body e (eqb-false _ _ ez) t in
-        omega (arith, short-at (r .width) (went .0) (eqb-true (r .width) 4 (b .width)) (went .3), ap length (went .2))
+        omega (arith, short-at (r .width) (went .0) (b .width) (went .3), ap length (went .2))

@@ -8,9 +8,8 @@ use native.Mathlib.Omega.{arith}
 use lib.IntN.{ℤ}
 use lib.ListN.{length, take}
 use Rattle.wire.specs.Numbers.{success}
-use Rattle.listing.specs.Scanning.{recordingOf}
-use Rattle.listing.specs.Items.{itemsFrom}
-use Rattle.listing.specs.Listing.{waiting, listingOf}
+use Rattle.listing.specs.Scanning.{width}
+use Rattle.listing.specs.Listing.{itemsAt, listingOf}
 use Rattle.listing.specs.Feeding as lister
 use Rattle.listing.specs.Promises.{FinishPromise as EndPromise}
 use Rattle.listing.specs.Calls as lister-calls
@@ -42,7 +41,7 @@ module _ (ls : List lister-calls.Call) (before after : List ℕ) (e : Listed) (p
 
   -- where the reader's calls took all that was written, they wrote the numbers of the listing's items, and its end tells no fault
   pub comes-back : (ks : List Call) (a : Back) → Permitted fresh ks → takenBy ks ≡ listing-bytes → FinishPromise (readerAfter fresh ks) 0 a
-      → (writtenBy ks ≡ allNumbers (itemsFrom waiting (recordingOf input))) × (a .line ≡ 0)
+      → (writtenBy ks ≡ allNumbers (itemsAt width input)) × (a .line ≡ 0)
   comes-back ks a h all f =
       let said : readingOf (takenBy ks ++ []) ≡ _ = ap readingOf (append-nil (takenBy ks) ∙ all ∙ is-listing) ∙ as-it-was input in
       let c = in-calls ks [] a h refl f in

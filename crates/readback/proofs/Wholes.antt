@@ -11,7 +11,7 @@ use lib.Seq.{take-add, take-at, drop-at, length-take-le}
 use borrow.Author.Tests.{ltb-true, lt-ltb, eq-eqb}
 use Rattle.numbers.proofs.Choices.{cases}
 use Rattle.numbers.proofs.Tested.{left}
-use Rattle.fold.specs.Fold.{Ran, ran, behind, written, run}
+use Rattle.fold.specs.Fold.{MachineOver, Ran, ran, behind, written, run}
 use Rattle.fold.proofs.Laws.{join, up-to, within, over-taken}
 use Rattle.wire.specs.Numbers.{success}
 use Rattle.listing.specs.Lines.{newline, lengthTo, front}
@@ -74,6 +74,23 @@ tidy-handed : (ls : List (List ℕ)) → Tidy ls → Tidy (handed ls)
 tidy-handed [] h = tt
 tidy-handed (l ∷ ls) h = cases Tidy (cutOff l) (λ _. tt) (λ _. (h .0, tidy-handed ls (h .1)))
 
+tidy-take : (ls : List (List ℕ)) (k : ℕ) → Tidy ls → Tidy (take k ls)
+tidy-take ls zero h = tt
+tidy-take [] (suc k) h = tt
+tidy-take (l ∷ ls) (suc k) h = (h .0, tidy-take ls k (h .1))
+
+-- so many lines stand at the front of the piece; and those that a machine took are whole, if it refuses all others
+pub lines-front : (piece : List ℕ) (k : ℕ) → take (length (bytesIn (take k (linesOf piece)))) piece ≡ bytesIn (take k (linesOf piece))
+unfolding linesOf
+lines-front piece k = ap (take (length (bytesIn (take k (linesOf piece))))) (sym (bytes-cut piece)) ∙ front-of (cutIn piece) k
+
+pub lines-whole : {A X : Type 0} (m : MachineOver (List ℕ) Readback A X) → ((r : Readback) (l : List ℕ) → m .refusal r l ≡ 0 → isWhole l ≡ true)
+    → (r : Readback) (piece : List ℕ) (room : ℕ) → Wholes (take (length (run m r (linesOf piece) room .answers)) (linesOf piece))
+unfolding linesOf
+lines-whole m whole r piece room =
+    over-taken m (λ r ls answers next. Tidy ls → Wholes ls) (λ r h. tt) (λ r l ls answers next z ih h. (whole r l z, h .0, ih (h .1))) (linesOf piece) r room
+    (tidy-take (linesOf piece) (length (run m r (linesOf piece) room .answers)) (tidy-handed (cutIn piece) (cut-tidy piece)))
+
 -- lines that a reader took
 module _ (r : Readback) (piece : List ℕ) (room : ℕ) where
   abbrev f : Ran Readback Given
@@ -86,20 +103,10 @@ module _ (r : Readback) (piece : List ℕ) (room : ℕ) where
   t = length (bytesIn ws)
 
   pub taken-front : take t piece ≡ bytesIn ws
-  unfolding linesOf
-  taken-front = ap (take t) (sym (bytes-cut piece)) ∙ front-of (cutIn piece) (length (f .answers))
+  taken-front = lines-front piece (length (f .answers))
 
   pub taken-whole : Wholes ws
-  unfolding linesOf
-  taken-whole =
-      over-taken reads (λ r ls answers next. Tidy ls → Wholes ls) (λ r h. tt)
-      (λ r l ls answers next z ih h. (left (isWhole l) (stepOf r (bodyOf l) .good) (not-refused r l (eq-eqb (reads .refusal r l) success z)), h .0, ih (h .1)))
-      (linesOf piece) r room (tidy-take (linesOf piece) (length (f .answers)) (tidy-handed (cutIn piece) (cut-tidy piece)))
-    where
-      tidy-take : (ls : List (List ℕ)) (k : ℕ) → Tidy ls → Tidy (take k ls)
-      tidy-take ls zero h = tt
-      tidy-take [] (suc k) h = tt
-      tidy-take (l ∷ ls) (suc k) h = (h .0, tidy-take ls k (h .1))
+  taken-whole = lines-whole reads (λ r l z. left (isWhole l) (stepOf r (bodyOf l) .good) (not-refused r l (eq-eqb (reads .refusal r l) success z))) r piece room
 
   pub front-and-rest : (q : List ℕ) → piece ++ q ≡ bytesIn ws ++ (drop t piece ++ q)
   front-and-rest q = ap (λ (l : List ℕ). l ++ q) (sym (take-append-drop t piece)) ∙ append-assoc (take t piece) (drop t piece) q ∙ ap (λ (l : List ℕ). l ++ (drop t piece ++ q)) taken-front

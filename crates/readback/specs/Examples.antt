@@ -4,14 +4,19 @@ use mathlib.Core.List.{List, [], _∷_}
 use mathlib.Core.Bool.{true, false}
 use Prim.Native.Nat.{ℕ}
 use lib.IntN.{pos, negsuc}
-use Rattle.text.specs.Decimals.{sizeIn, placesOf, readable, plusIn, numberIn}
+use lib.ListN.{take, replicate}
+use Rattle.fold.specs.Fold.{run}
+use Rattle.text.specs.Decimals.{digitsOf, decimalOf, sizeIn, placesOf, readable, plusIn, numberIn}
+use Rattle.listing.specs.Printing.{lineOf}
 use Rattle.listing.specs.Examples as listing
 use Rattle.listing.specs.declared.Middle.the-variants.{Up, Unknown}
 use Rattle.listing.specs.declared.Item.the-variants as item
 use Rattle.readback.specs.Fields.{valueIn, fieldIn, fieldsIn}
 use Rattle.readback.specs.Items.{droppedIn, reportIn, keptIn, badIn, itemIn, widthIn}
-use Rattle.readback.specs.Steps.{stepOf}
-use Rattle.readback.specs.Pieces.{cutIn}
+use Rattle.readback.specs.Steps.{fresh, stepOf, good}
+use Rattle.readback.specs.Pieces.{cutIn, linesOf}
+use Rattle.readback.specs.Rewriting.{rewrittenOf}
+use Rattle.readback.specs.Promises.{rewriteOf}
 use Rattle.readback.specs.Whole.{reading, readingFrom, readingOf}
 
 unfoldable pub computing : Unit {0}
@@ -80,3 +85,28 @@ surplus = refl
 no-newline : readingOf (76 ∷ 9 ∷ 52 ∷ 10 ∷ 72 ∷ 9 ∷ 48 ∷ []) ≡ reading [] 2
 unfolding computing
 no-newline = refl
+
+-- L 6/D 00002 1/: five digits
+five-digits : readingOf (76 ∷ 9 ∷ 54 ∷ 10 ∷ 68 ∷ 9 ∷ 48 ∷ 48 ∷ 48 ∷ 48 ∷ 50 ∷ 9 ∷ 49 ∷ 10 ∷ []) ≡ reading [] 2
+unfolding computing
+five-digits = refl
+
+-- what small listings are rewritten to, with sixty places
+unfoldable pub rewriting-computes : Unit {0}
+unfolding computing rewriteOf rewrittenOf run linesOf good lineOf decimalOf digitsOf
+rewriting-computes = tt
+
+-- L 4/D 0002 1/H 0/ to L 6/D 000002 1/H 0/
+wider : take 19 (rewriteOf fresh (76 ∷ 9 ∷ 52 ∷ 10 ∷ 68 ∷ 9 ∷ 48 ∷ 48 ∷ 48 ∷ 50 ∷ 9 ∷ 49 ∷ 10 ∷ 72 ∷ 9 ∷ 48 ∷ 10 ∷ []) (replicate 60 0) .out) ≡ 76 ∷ 9 ∷ 54 ∷ 10 ∷ 68 ∷ 9 ∷ 48 ∷ 48 ∷ 48 ∷ 48 ∷ 48 ∷ 50 ∷ 9 ∷ 49 ∷ 10 ∷ 72 ∷ 9 ∷ 48 ∷ 10 ∷ []
+unfolding rewriting-computes
+wider = refl
+
+-- L 6/D 010000 1/ to L 4/, and 15 at line 2
+too-wide : let w = rewriteOf fresh (76 ∷ 9 ∷ 54 ∷ 10 ∷ 68 ∷ 9 ∷ 48 ∷ 49 ∷ 48 ∷ 48 ∷ 48 ∷ 48 ∷ 9 ∷ 49 ∷ 10 ∷ []) (replicate 60 0) .told in (w .refusal ∷ w .line ∷ w .written ∷ [] ≡ 15 ∷ 2 ∷ 4 ∷ [])
+unfolding rewriting-computes
+too-wide = refl
+
+-- L 6/D 010000 0/: it is faulty before it does not fit
+seven-first : let w = rewriteOf fresh (76 ∷ 9 ∷ 54 ∷ 10 ∷ 68 ∷ 9 ∷ 48 ∷ 49 ∷ 48 ∷ 48 ∷ 48 ∷ 48 ∷ 9 ∷ 48 ∷ 10 ∷ []) (replicate 60 0) .told in (w .refusal ∷ w .line ∷ w .written ∷ [] ≡ 7 ∷ 2 ∷ 4 ∷ [])
+unfolding rewriting-computes
+seven-first = refl

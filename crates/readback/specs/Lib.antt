@@ -4,8 +4,10 @@ pub mod Fields
 pub mod Items
 pub mod Steps
 pub mod Pieces
+pub mod Rewriting
 pub mod Parts
 pub mod Promises
 pub mod Calls
+pub mod Rewrites
 pub mod Whole
 pub mod Examples

@@ -1,4 +1,4 @@
--- What is promised of `Readback::fresh`, `Readback::read` and `Readback::finish`: for every argument one answer, and every number of the slice.
+-- What is promised of `Readback::fresh`, `Readback::read`, `Readback::finish` and `Readback::rewrite`: for every argument one answer, and every number of the slice.
 use Prim.Native.Nat.{ℕ, _+_}
 use mathlib.Core.Path.{_≡_}
 use mathlib.Core.Bool.{cond, _&&_}
@@ -8,7 +8,9 @@ use lib.IntN.{ℤ}
 use Rattle.wire.specs.Numbers.{success, badState}
 use Rattle.readback.specs.Steps.{fresh, good}
 use Rattle.readback.specs.Pieces.{faultyLine, back, Whole, whole, piecesOf}
+use Rattle.readback.specs.Rewriting.{Rewriting, rewriting, rewritten, rewrittenOf}
 use Rattle.readback.specs.declared.Readback.{Readback}
+use Rattle.readback.specs.declared.Rewritten.{Rewritten}
 use Rattle.readback.specs.declared.Back.{Back}
 
 -- "a state that breaks the rules below", 6: "A refusal returns the old state [..] and counts of 0", and the slice is as it was
@@ -33,3 +35,10 @@ finishOf r left =
 
 abbrev pub FinishPromise : Readback → ℕ → Back → Type 0
 FinishPromise r left answer = answer ≡ finishOf r left
+
+-- `Readback::rewrite(self, input, out)`
+unfoldable pub rewriteOf : Readback → List ℕ → List ℕ → Rewriting
+rewriteOf r input out = cond (good r) (rewrittenOf r input out) (rewriting (rewritten badState r 0 0 0) out)
+
+abbrev pub RewritePromise : Readback → List ℕ → List ℕ → Rewritten → List ℕ → Type 0
+RewritePromise r input before answer after = rewriting answer after ≡ rewriteOf r input before

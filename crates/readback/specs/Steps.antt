@@ -1,6 +1,6 @@
 -- A line in its place: what it does to a reader of listings, and which readers are good.
 use Prim.Native.Nat.{ℕ, _+_}
-use mathlib.Core.Bool.{Bool, true, false, not, cond, _&&_}
+use mathlib.Core.Bool.{Bool, true, false, not, cond, _&&_, _||_}
 use mathlib.Core.List.{List}
 use lib.Dec.{ltb, leb, eqb}
 use Rattle.listing.specs.Scanning.{width, mostLines}
@@ -12,9 +12,12 @@ use Rattle.readback.specs.Items.{itemIn, widthIn}
 use Rattle.readback.specs.declared.Readback.{Readback}
 use Rattle.readback.specs.declared.Step.{Step}
 
--- "wrong width"
+-- "Width 4 is still read, by the same rule over the width; any other is a faulty line"
+abbrev pub oldWidth : ℕ
+oldWidth = 4
+
 abbrev pub widthKnown : ℕ → Bool
-widthKnown w = eqb w width
+widthKnown w = eqb w oldWidth || eqb w width
 
 abbrev pub readback : ℕ → ℕ → ℕ → Bool → Readback
 readback w last lines ended = record { width = w; last = last; lines = lines; ended = ended }

@@ -10,7 +10,7 @@ use crate::Value;
 use text::Number;
 
 // The highest number of a line.
-const MOST: i64 = 9_999;
+const MOST: i64 = 999_999;
 
 // The highest and the lowest number of 16 bits signed.
 const HIGH: i64 = 32_767;

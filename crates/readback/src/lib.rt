@@ -1,10 +1,11 @@
 // The reader of listings: the bytes of a listing in, its items out, five numbers each. A line's fields are read by their kinds (fields), its letter and its
-// fields to an item (items), a line in its place among the others (steps), and the lines of a piece one after the other (pieces).
+// fields to an item (items), a line in its place among the others (steps), and the lines of a piece one after the other (pieces); and they are rewritten at the other width (rewriting).
 use listing::Given;
 
 mod fields;
 mod items;
 mod pieces;
+mod rewriting;
 mod steps;
 
 // The kinds of fields: the number of a line, a count, a number, buttons, and `over`.
@@ -52,6 +53,16 @@ pub(crate) struct Step {
     pub good: bool,
     pub next: Readback,
     pub given: Given,
+}
+
+// What rewriting gives back: 0, 6 or 7 as above, or 15 for a line number that does not fit the other width; the next reader; the bytes taken and written; and
+// the place of the line that was not rewritten among the lines, counted from 1, or 0.
+pub struct Rewritten {
+    pub refusal: u8,
+    pub next: Readback,
+    pub taken: usize,
+    pub written: usize,
+    pub line: u32,
 }
 
 // What a call gives back: 0, 6 for a reader that breaks its rules, or 7 for a faulty line; the next reader; the bytes taken and the items written; and the

@@ -17,7 +17,7 @@ use listing::Given;
 use listing::Item;
 
 // The bytes of the longest line, without its newline.
-const LONGEST: usize = 24;
+pub(crate) const LONGEST: usize = 26;
 
 // The five numbers of an item, to the front of a slice.
 fn put(out: &mut [i32], item: Item)

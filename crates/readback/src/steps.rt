@@ -12,7 +12,7 @@ use listing::Item;
 fn width_known(width: u16) -> bool
     ensures { λ r. ⌜ r ≡ widthKnown width ⌝ }
 {
-    width == 4
+    (width == 4) | (width == 6)
 }
 
 // The last line number behind an item.
@@ -69,7 +69,7 @@ impl Readback {
         if self.lines == 0 {
             return (self.width == 0) & (self.last == 0) & !self.ended;
         }
-        if self.last > 9_999 {
+        if self.last > 999_999 {
             return false;
         }
         let more = besides(self.ended);

@@ -9,10 +9,11 @@ use lib.Seq.{length-take-le}
 use borrow.Author.Tests.{not-true, not-false}
 use Rattle.listing.specs.Lines.{newline, lengthTo}
 use Rattle.readback.specs.Steps.{stepOf}
+use Rattle.readback.specs.Pieces as pieces
 use Rattle.readback.specs.declared.Step.{Step}
 use Rattle.readback.proofs.Values.{to-within, SmallGiven}
 use Rattle.readback.proofs.Goodness.{few-lines, step-leaves}
-use Rattle.readback.proofs.Loop.{cut-stop, long-stop, faulty-stop, room-stop, line-taken}
+use Rattle.readback.proofs.Loop.{reading-follows, cut-stop, long-stop, faulty-stop, read-stop, read-taken}
 use Rattle.readback.proofs.Readback.first.Statement.{statement}
 use Rattle.readback.proofs.Readback.first.Tie as tie
 use Rattle.readback.proofs.Readback.first.Reads as reads
@@ -36,7 +37,7 @@ back-requires : tie.Need-back-requires
 back-requires c κs = search needs
 
 returns : tie.Need-returns
-returns c = let s = c .before .before .before .before .before in rw (c .back .ensures) (cut-stop (s .args .self) (s .args .input .now) (s .args .out .now) (s .pre .0) (s .pre .1) (sym (c .before .before .before .length-to .ensures) ∙ c .before .before .if1 .taken) (omega arith))
+returns c = let s = c .before .before .before .before .before in rw (c .back .ensures) (cut-stop pieces.reads reading-follows (s .args .self) (s .args .input .now) (s .args .out .now) (s .pre .0) (s .pre .1) (sym (c .before .before .before .length-to .ensures) ∙ c .before .before .if1 .taken) (omega arith))
 
 add-back : tie.Need-add-back
 add-back c = record { fits = omega (arith, few-lines (c .before .before .before .before .before .args .self) (c .before .before .before .before .before .pre .0)) }
@@ -45,7 +46,7 @@ back-requires-2 : tie.Need-back-requires-2
 back-requires-2 c κs = search needs
 
 returns-2 : tie.Need-returns-2
-returns-2 c = let s = c .before .before .before .before .before .before in rw (c .back2 .ensures) (long-stop (s .args .self) (s .args .input .now) (s .args .out .now) (s .pre .0) (s .pre .1) (sym (c .before .before .before .before .length-to .ensures) ∙ c .before .before .before .if1 .taken) (omega arith))
+returns-2 c = let s = c .before .before .before .before .before .before in rw (c .back2 .ensures) (long-stop pieces.reads reading-follows (s .args .self) (s .args .input .now) (s .args .out .now) (s .pre .0) (s .pre .1) (sym (c .before .before .before .before .length-to .ensures) ∙ c .before .before .before .if1 .taken) (omega arith))
 
 slice-aggregate-step : tie.Need-slice-aggregate-step
 slice-aggregate-step c = let s = c .before .before .before .before in sym (length-take-le (c .before .before .length-to .result) (s .args .input .now) (omega (arith, c .before .before .length-to .ensures, to-within newline (s .args .input .now))))
@@ -60,7 +61,7 @@ back-requires-3 : tie.Need-back-requires-3
 back-requires-3 c κs = search needs
 
 returns-3 : tie.Need-returns-3
-returns-3 c = let s = c .before .before .before .before .before .before .before .before .before in rw (c .back3 .ensures) (faulty-stop (s .args .self) (s .args .input .now) (s .args .out .now) (s .pre .0) (c .before .before .before .before .step .result) (there (c .before .before .before .before)) (step-is (c .before .before .before .before)) (not-true _ (c .before .before .if3 .taken)))
+returns-3 c = let s = c .before .before .before .before .before .before .before .before .before in rw (c .back3 .ensures) (faulty-stop pieces.reads reading-follows (s .args .self) (s .args .input .now) (s .args .out .now) (s .pre .0) (c .before .before .before .before .step .result) (there (c .before .before .before .before)) (step-is (c .before .before .before .before)) (not-true _ (c .before .before .if3 .taken)))
 
 enum-told : tie.Need-enum-told
 enum-told c = search needs
@@ -80,7 +81,7 @@ back-requires-5 c κs = search needs
 returns-4 : tie.Need-returns-4
 returns-4 c = let s = c .before .before .before .before .before .before .before .before .before .before .before .before .before in
     let g = c .before .before .before .given .given in
-    rw (c .back5 .ensures) (room-stop (s .args .self) (s .args .input .now) (s .args .out .now) (s .pre .0) (c .before .before .before .before .before .before .before .before .step .result) (there (c .before .before .before .before .before .before .before .before)) (step-is (c .before .before .before .before .before .before .before .before)) (not-false _ (c .before .before .before .before .before .before .if3 .left)) (rw (g .1) (omega arith)))
+    rw (c .back5 .ensures) (read-stop (s .args .self) (s .args .input .now) (s .args .out .now) (s .pre .0) (c .before .before .before .before .before .before .before .before .step .result) (there (c .before .before .before .before .before .before .before .before)) (step-is (c .before .before .before .before .before .before .before .before)) (not-false _ (c .before .before .before .before .before .before .if3 .left)) (rw (g .1) (omega arith)))
 
 put-requires : tie.Need-put-requires
 put-requires c κs = let s = c .before .before .before .before .before .before .before .before .before .before .before .before .before in
@@ -97,7 +98,7 @@ returns-5 : tie.Need-returns-5
 returns-5 c = let s = c .before .before .before .before .before .before .before .before .before .before .before in
     let k = c .before .before .before .before .before .before .before .before .before .length-to .ensures in
     let g = c .before .enum-told .given .1 in
-    rw (c .back4 .ensures, k) (rw g at (line-taken (s .args .self) (s .args .input .now) (s .args .out .now) (s .pre .0) (c .before .before .before .before .before .before .step .result) (there (c .before .before .before .before .before .before)) (step-is (c .before .before .before .before .before .before)) (not-false _ (c .before .before .before .before .if3 .left)) (rw g (omega arith))))
+    rw (c .back4 .ensures, k) (rw g at (read-taken (s .args .self) (s .args .input .now) (s .args .out .now) (s .pre .0) (c .before .before .before .before .before .before .step .result) (there (c .before .before .before .before .before .before)) (step-is (c .before .before .before .before .before .before)) (not-false _ (c .before .before .before .before .if3 .left)) (rw g (omega arith))))
 
 same-length : tie.Need-same-length
 same-length c = search needs
@@ -106,7 +107,7 @@ returns-6 : tie.Need-returns-6
 returns-6 c = let s = c .before .before .before .before .before .before .before .before .before .before .before .before .before .before .before .before in
     let k = c .before .before .before .before .before .before .before .before .before .before .before .before .before .before .length-to .ensures in
     let g = c .before .before .before .before .before .before .given .given .1 in
-    rw (c .back6 .ensures, k, c .before .before .put .ensures) (rw g at (line-taken (s .args .self) (s .args .input .now) (s .args .out .now) (s .pre .0) (c .before .before .before .before .before .before .before .before .before .before .before .step .result) (there (c .before .before .before .before .before .before .before .before .before .before .before)) (step-is (c .before .before .before .before .before .before .before .before .before .before .before)) (not-false _ (c .before .before .before .before .before .before .before .before .before .if3 .left)) (rw g (omega arith))))
+    rw (c .back6 .ensures, k, c .before .before .put .ensures) (rw g at (read-taken (s .args .self) (s .args .input .now) (s .args .out .now) (s .pre .0) (c .before .before .before .before .before .before .before .before .before .before .before .step .result) (there (c .before .before .before .before .before .before .before .before .before .before .before)) (step-is (c .before .before .before .before .before .before .before .before .before .before .before)) (not-false _ (c .before .before .before .before .before .before .before .before .before .if3 .left)) (rw g (omega arith))))
 
 pub first-spec : {M : Type 1} → statement M
 first-spec =

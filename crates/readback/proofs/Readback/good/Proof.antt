@@ -19,7 +19,7 @@ returns c = rw (eq-eqb _ _ (c .before .before .before .if1 .taken))
 
 returns-2 : tie.Need-returns-2
 unfolding good
-returns-2 c = rw (ne-eqb _ _ (c .before .before .if1 .left), lt-leb (c .before .before .before .before .args .self .last) 9999 (c .if2 .taken))
+returns-2 c = rw (ne-eqb _ _ (c .before .before .if1 .left), lt-leb (c .before .before .before .before .args .self .last) 999999 (c .if2 .taken))
 
 besides-requires : tie.Need-besides-requires
 besides-requires c κs = search needs
@@ -36,7 +36,7 @@ add-result c = let few : c .before .before .before .before .besides .result ≤ 
 
 returns-3 : tie.Need-returns-3
 unfolding good
-returns-3 c = rw (ne-eqb _ _ (c .before .before .before .before .before .before .before .before .if1 .left), le-leb (c .before .before .before .before .before .before .before .before .before .before .args .self .last) 9999 (c .before .before .before .before .before .before .if2 .left), c .before .before .before .width-known .ensures, c .before .before .before .before .before .besides .ensures)
+returns-3 c = rw (ne-eqb _ _ (c .before .before .before .before .before .before .before .before .if1 .left), le-leb (c .before .before .before .before .before .before .before .before .before .before .args .self .last) 999999 (c .before .before .before .before .before .before .if2 .left), c .before .before .before .width-known .ensures, c .before .before .before .before .before .besides .ensures)
 
 pub good-spec : {M : Type 1} → statement M
 good-spec =

@@ -3,8 +3,9 @@ use borrow.Author.Needs.{needs}
 use mathlib.Core.Path.{_≡_, sym, _∙_}
 use mathlib.Core.Bool.{true}
 use native.Mathlib.Omega.{arith}
-use borrow.Author.Tests.{not-true, not-false, eqb-true}
+use borrow.Author.Tests.{not-true, not-false}
 use Rattle.readback.specs.Steps.{widthKnown}
+use Rattle.readback.proofs.Goodness.{known-few}
 use Rattle.readback.proofs.Readback.opens.Statement.{statement}
 use Rattle.readback.proofs.Readback.opens.Tie as tie
 use Rattle.readback.proofs.Readback.opens.Reads as reads
@@ -22,7 +23,7 @@ returns : tie.Need-returns
 returns c = rw (sym (c .before .before .width-known .ensures) ∙ not-true _ (c .before .if1 .taken)) (c .faulty .ensures)
 
 cast-t5 : tie.Need-cast-t5
-cast-t5 c = record { fits = omega (arith, eqb-true (c .before .before .args .width) 4 (sym (c .before .width-known .ensures) ∙ not-false _ (c .if1 .left))) }
+cast-t5 c = record { fits = omega (arith, known-few (c .before .before .args .width) (sym (c .before .width-known .ensures) ∙ not-false _ (c .if1 .left))) }
 
 returns-2 : tie.Need-returns-2
 returns-2 c = rw (sym (c .before .width-known .ensures) ∙ not-false _ (c .if1 .left))
