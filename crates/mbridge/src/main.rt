@@ -49,7 +49,7 @@ fn bad_line(line: u32) -> Text
     Text::none()
         .with(b'E')
         .with(b'\t')
-        .decimal(4, line as i64)
+        .decimal(6, line as i64)
         .with(b'\n')
 }
 
