@@ -1,5 +1,5 @@
 -- The earliest choice is a best one, and there is no other.
-use Prim.Native.Nat.{ℕ, zero, suc, _+_, _-_, _<_, _≤_}
+use Prim.Native.Nat.{ℕ, zero, suc, _+_, _-_, _*_, _<_, _≤_}
 use mathlib.Core.Path.{_≡_, refl, sym, ap, _∙_}
 use mathlib.Core.Bool.{Bool, true, false, cond, _&&_}
 use mathlib.Core.List.{List, [], _∷_}
@@ -12,7 +12,7 @@ use borrow.Author.Tests.{le-leb, leb-true, ltb-true, ltb-false}
 use Rattle.numbers.proofs.Tested.{left, right}
 use Rattle.choosing.specs.Choice.{allBytes, bytesIn, Smaller, here, there, run, Run, ChoiceFrom, Choice, leftFrom, leftOut, Best}
 use Rattle.choosing.specs.Earliest.{starts, earliestFrom, earliest}
-use Rattle.choosing.proofs.Left.{never, inRuns, parts}
+use Rattle.choosing.proofs.Left.{never, inRuns, in-runs, parts}
 
 -- each place of a list is met by one of the other that is no greater
 abbrev Ahead : List ℕ → List ℕ → Type 0
@@ -80,7 +80,7 @@ module _ (size : ℕ) (valid : List ℕ → Bool) (some : 1 ≤ size) (words : L
   sooner [] from to l c = tt
   sooner (s ∷ cs) from to l c = (omega (arith, c .0), c .1, c .2)
 
-  tail : (place w : ℕ) (rest : List ℕ) → w ∷ rest ≡ drop place words → rest ≡ drop (suc place) words
+  pub tail : (place w : ℕ) (rest : List ℕ) → w ∷ rest ≡ drop place words → rest ≡ drop (suc place) words
   tail place w rest e =
       let n : place + 1 ≡ suc place = omega arith in
       ap (λ (l : List ℕ). drop 1 l) e ∙ drop-drop 1 place words ∙ ap (λ (m : ℕ). drop m words) n
@@ -131,6 +131,10 @@ module _ (size : ℕ) (valid : List ℕ → Bool) (some : 1 ≤ size) (words : L
 module _ (size : ℕ) (valid : List ℕ → Bool) (some : 1 ≤ size) (words : List ℕ) where
   whole : (cs : List ℕ) → Choice size valid words cs → leftOut size valid words cs + inRuns size cs ≡ bytesIn words
   whole cs c = parts size valid words cs 0 (omega arith) c
+
+  -- the bytes left out, and those of the runs, are all the bytes
+  pub left-and-runs : (cs : List ℕ) → Choice size valid words cs → leftOut size valid words cs + size * length cs ≡ bytesIn words
+  left-and-runs cs c = omega (arith, whole cs c, in-runs size cs)
 
   pub earliest-is-best : Best size valid words (earliest size valid words)
   earliest-is-best =

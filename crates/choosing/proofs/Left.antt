@@ -4,6 +4,7 @@ use mathlib.Core.Path.{_≡_, refl, sym, ap, _∙_}
 use mathlib.Core.Bool.{Bool, true, false, not, cond, _&&_, _||_}
 use mathlib.Core.List.{List, [], _∷_, _++_}
 use native.Mathlib.Omega.{arith}
+use native.Mathlib.Nat.{mul-suc}
 use lib.ListN.{length, take, drop, take-append-drop, length-take, length-drop, length-append}
 use lib.Seq.{length-take-le, drop-drop}
 use lib.Dec.{leb, ltb}
@@ -14,13 +15,23 @@ use Rattle.choosing.specs.Choice.{allBytes, bytesIn, run, Run, ChoiceFro
 pub never : {A : Type 0} → false ≡ true → A
 never e = let z : _≡_ {A = ℕ} 0 1 = cc in absurd (omega arith)
 
-bytes-append : (a b : List ℕ) → bytesIn (a ++ b) ≡ bytesIn a + bytesIn b
+pub bytes-append : (a b : List ℕ) → bytesIn (a ++ b) ≡ bytesIn a + bytesIn b
 unfolding bytesIn
 bytes-append [] b = omega arith
 bytes-append (w ∷ a) b = omega (arith, bytes-append a b)
 
+-- no more than the words
+pub few-bytes : (a : List ℕ) → bytesIn a ≤ length a
+unfolding bytesIn
+few-bytes [] = omega arith
+few-bytes (w ∷ a) = go (isByte w) (few-bytes a)
+  where
+    go : (t : Bool) → bytesIn a ≤ length a → cond t 1 0 + bytesIn a ≤ suc (length a)
+    go true r = omega arith
+    go false r = omega arith
+
 -- of bytes, all are
-all-counted : (a : List ℕ) → allBytes a ≡ true → bytesIn a ≡ length a
+pub all-counted : (a : List ℕ) → allBytes a ≡ true → bytesIn a ≡ length a
 unfolding allBytes bytesIn
 all-counted [] h = refl
 all-counted (w ∷ a) h = go (isByte w) refl (all-counted a)
@@ -33,6 +44,11 @@ all-counted (w ∷ a) h = go (isByte w) refl (all-counted a)
 unfoldable pub inRuns : ℕ → List ℕ → ℕ
 inRuns size [] = 0
 inRuns size (s ∷ starts) = size + inRuns size starts
+
+pub in-runs : (size : ℕ) (starts : List ℕ) → inRuns size starts ≡ size * length starts
+unfolding inRuns
+in-runs size [] = omega arith
+in-runs size (s ∷ starts) = omega (arith, in-runs size starts, mul-suc size (length starts))
 
 module _ (size : ℕ) (valid : List ℕ → Bool) where
   abbrev In : List ℕ → ℕ → Bool

@@ -1,0 +1,15 @@
+-- What each public function promises: for every argument one answer, and every number of the slice.
+use Prim.Native.Nat.{ℕ}
+use mathlib.Core.Path.{_≡_}
+use mathlib.Core.Bool.{Bool}
+use mathlib.Core.List.{List}
+use Rattle.salvage.specs.Picking.{startsBy, whole, pickOf}
+use Rattle.salvage.specs.declared.Picked.{Picked}
+
+-- `starts(letter, words)`
+abbrev pub StartsPromise : ℕ → List ℕ → Bool → Type 0
+StartsPromise letter words answer = answer ≡ startsBy letter words
+
+-- `pick(letter, words, places)`
+abbrev pub PickPromise : ℕ → List ℕ → List ℕ → Picked → List ℕ → Type 0
+PickPromise letter words before answer after = whole answer after ≡ pickOf letter words before
