@@ -2,15 +2,17 @@
 use Prim.Native.Nat.{ℕ, _<_, _≤_}
 use mathlib.Core.Path.{_≡_, refl, sym, _∙_}
 use mathlib.Core.Bool.{Bool, true, false, not, cond}
-use mathlib.Core.List.{List}
+use mathlib.Core.List.{List, List·Memᴰ·head as here, List·Memᴰ·tail as there}
 use native.Mathlib.Omega.{arith}
 use lib.ListN.{length}
-use lib.Dec.{ltb}
+use lib.Dec.{ltb, eqb}
 use borrow.Author.Tests.{lt-ltb, le-ltb, ltb-false}
 use Rattle.frames.specs.Words.{lineWords}
 use Rattle.wire.specs.Line.{known, markedBy}
-use Rattle.wire.specs.Numbers.{success, badLetter, badWord}
-use Rattle.salvage.specs.Picking.{mostWords, markedFormat, longLog, refusalOf}
+use Rattle.wire.specs.Numbers.{success, badLetter, badWord, accepted, refusal}
+use Rattle.salvage.specs.Picking.{mostWords, markedFormat, longLog, refusalOf, Whole, whole, refused, picking, pickOf}
+use Rattle.salvage.specs.Promises.{PickPromise, PickRefusal}
+use Rattle.salvage.specs.declared.Picked.{Picked}
 
 module _ (letter : ℕ) (words : List ℕ) where
   pub unknown-first : known letter ≡ false → refusalOf letter words ≡ badLetter
@@ -54,3 +56,25 @@ module _ (letter : ℕ) (words : List ℕ) where
       go true p false q true r w s e = absurd (omega arith)
       go true p false q false r false s e = absurd (omega arith)
       go true p false q false r true s e = record { is-known = p; unmarked = q; few = ltb-false mostWords (length words) r; line = s }
+
+done : (letter : ℕ) (words before : List ℕ) → picking letter words before .picked .refusal ≡ success
+unfolding picking
+done letter words before = refl
+
+rightly : (letter : ℕ) (words before : List ℕ) → PickRefusal before (pickOf letter words before)
+unfolding pickOf refusalOf picking
+rightly letter words before =
+    go (known letter) (markedBy letter) (ltb mostWords (length words)) (lineWords words)
+  where
+    go : (k m l w : Bool)
+        → let n = cond (not k) badLetter (cond m markedFormat (cond l longLog (cond (not w) badWord success))) in
+        PickRefusal before (cond (eqb n success) (picking letter words before) (refused n before))
+    go false m l w = refusal (here refl)
+    go true true l w = refusal (there (here refl))
+    go true false true w = refusal (there (there (here refl)))
+    go true false false false = refusal (there (there (there (here refl))))
+    go true false false true = accepted (done letter words before)
+
+-- whatever meets the promise is no refusal, or one of the four, which leaves the slice and counts nothing
+pub refusals : (letter : ℕ) (words before after : List ℕ) (a : Picked) → PickPromise letter words before a after → PickRefusal before (whole a after)
+refusals letter words before after a p = rw p (rightly letter words before)
