@@ -31,11 +31,18 @@ fn told(refusal: u8, taken: usize, runs: usize, left: usize) -> Picked
     }
 }
 
+// Whether a word is a byte, and no 256 or 257.
+fn is_byte(word: u16) -> bool
+    ensures { λ r. ⌜ r ≡ isByte word ⌝ }
+{
+    word <= 255
+}
+
 // Whether a word is a byte, valid at a place of a report.
 fn fits_word(letter: u8, place: u8, word: u16) -> bool
     ensures { λ r. ⌜ r ≡ fitsWord letter place word ⌝ }
 {
-    if word <= 255 {
+    if is_byte(word) {
         wire::fits(letter, place, word as u8)
     } else {
         false
@@ -46,7 +53,7 @@ fn fits_word(letter: u8, place: u8, word: u16) -> bool
 fn byte(word: u16) -> usize
     ensures { λ r. ⌜ r ≡ cond (isByte word) 1 0 ⌝ }
 {
-    if word <= 255 { 1 } else { 0 }
+    if is_byte(word) { 1 } else { 0 }
 }
 
 // Whether a run starts with the first of these words: as many neighbouring bytes as a report has, and they are a valid one.
