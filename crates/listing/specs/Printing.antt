@@ -75,3 +75,7 @@ lineOf w f = headOf w f ++ newline ∷ []
 abbrev pub allBytes : ℕ → List Item → List ℕ
 allBytes w [] = []
 allBytes w (i ∷ is) = lineOf w (formOf i) ++ allBytes w is
+
+-- "its listing begins with `S` instead of `L`"
+abbrev pub openingS : ℕ → Form
+openingS w = form 0x53 (field.Number (pos w) ∷ [])

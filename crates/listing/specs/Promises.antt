@@ -5,7 +5,14 @@ use mathlib.Core.Bool.{cond}
 use mathlib.Core.List.{List, _++_}
 use lib.ListN.{length, drop}
 use Rattle.wire.specs.Numbers.{success, badState}
+use Rattle.wire.specs.declared.Report.{Report}
+use Rattle.text.specs.Growth.{textOf}
+use Rattle.text.specs.declared.Text.{Text}
+use Rattle.listing.specs.Scanning.{width}
+use Rattle.listing.specs.Items.{reportItem}
+use Rattle.listing.specs.Printing.{formOf, openingS, lineOf}
 use Rattle.listing.specs.Feeding.{fresh, Feed, feedIn, finishIn, good}
+use Rattle.listing.specs.declared.Item.{Item}
 use Rattle.listing.specs.declared.Lister.{Lister}
 use Rattle.listing.specs.declared.Listed.{Listed}
 
@@ -48,3 +55,15 @@ FeedPromise m input before answer after = whole answer after ≡ feedOf m input 
 
 abbrev pub FinishPromise : Lister → List ℕ → Listed → List ℕ → Type 0
 FinishPromise m before answer after = whole answer after ≡ finishOf m before
+
+-- `Item::reported(letter, n, report)`: what a report shows
+abbrev pub ReportedPromise : ℕ → ℕ → Report → Item → Type 0
+ReportedPromise letter n report answer = answer ≡ reportItem letter n report
+
+-- `Item::line(self)`: the text of its line
+abbrev pub LinePromise : Item → Text → Type 0
+LinePromise item answer = answer ≡ textOf (lineOf width (formOf item))
+
+-- `salvage_opening()`: the text of a salvage's first line
+abbrev pub SalvagePromise : Text → Type 0
+SalvagePromise answer = answer ≡ textOf (lineOf width (openingS width))

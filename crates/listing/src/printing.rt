@@ -5,7 +5,7 @@ ghost use Rattle.text.specs.Growth.{grownBy, textOf};
 ghost use Rattle.listing.specs.Lines.{tab};
 ghost use Rattle.listing.specs.Scanning.{width};
 ghost use Rattle.listing.specs.Items.{itemsIn};
-ghost use Rattle.listing.specs.Printing.{pressed, middle, three, over, fieldOf, formOf, headOf, lineOf, opening, allBytes};
+ghost use Rattle.listing.specs.Printing.{pressed, middle, three, over, fieldOf, formOf, headOf, lineOf, opening, openingS, allBytes};
 use crate::Buttons;
 use crate::Field;
 use crate::Given;
@@ -101,4 +101,11 @@ pub(crate) fn opening() -> Text
     ensures { λ r. ⌜ r ≡ textOf (lineOf width (opening width)) ⌝ }
 {
     letter(Text::none(), b'L', Field::Number(WIDTH as i64)).with(b'\n')
+}
+
+// The first line of a salvage.
+pub(crate) fn opening_s() -> Text
+    ensures { λ r. ⌜ r ≡ textOf (lineOf width (openingS width)) ⌝ }
+{
+    letter(Text::none(), b'S', Field::Number(WIDTH as i64)).with(b'\n')
 }

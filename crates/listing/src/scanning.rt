@@ -108,7 +108,7 @@ impl Scanner {
     }
 
     // One byte: a newline ends the line, and a sixth byte makes it bad.
-    pub(crate) fn byte(self, b: u8) -> Scan
+    pub fn byte(self, b: u8) -> Scan
         ensures { λ r. ⌜ r ≡ scannedByte self b ⌝ }
     {
         if b == b'\n' {
@@ -132,7 +132,7 @@ impl Scanner {
     }
 
     // The last line, which may lack its newline.
-    pub(crate) fn closed(self) -> Scan
+    pub fn closed(self) -> Scan
         ensures { λ r. ⌜ r ≡ closedOf self ⌝ }
     {
         if self.count == 0 {
@@ -145,7 +145,7 @@ impl Scanner {
     }
 
     // The end of the input.
-    pub(crate) fn end(self) -> Scan
+    pub fn end(self) -> Scan
         ensures { λ r. ⌜ r ≡ endOf self ⌝ }
     {
         if self.ended {
