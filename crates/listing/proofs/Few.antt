@@ -65,7 +65,7 @@ unfolding lineOf
 few-form f h = omega (arith, few-fields (f .fields) h, length-append (headOf width f) (newline ∷ []))
 
 -- the line of what is given
-abbrev ShortGiven : Given → Type 0
+abbrev pub ShortGiven : Given → Type 0
 ShortGiven given.Nothing = Unit {0}
 ShortGiven (given.One i) = Short (formOf i .fields)
 

@@ -1,0 +1,1 @@
+// What a log falls into, printed from left to right.
