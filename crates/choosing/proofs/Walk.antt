@@ -23,7 +23,7 @@ unfolding bytesIn
 word-counted words at h =
     rw (add-one, take-suc words at 0 h) (bytes-append (take at words) (getD words at 0 ∷ []) ∙ omega arith)
 
-module _ (size : ℕ) (valid : List ℕ → Bool) (some : 1 ≤ size) where
+module _ (size : ℕ) (valid : List ℕ → Bool) where
   -- words that belong to a run are passed over
   skipped : (place taken q : ℕ) (words : List ℕ) → place + taken ≡ q → earliestFrom size valid place taken words ≡ earliestFrom size valid q 0 (drop taken words)
   unfolding earliestFrom
@@ -39,24 +39,24 @@ module _ (size : ℕ) (valid : List ℕ → Bool) (some : 1 ≤ size) where
 
   module _ (words : List ℕ) (at : ℕ) (h : at < length words) where
     -- the words behind a run that starts at a place
-    rest : drop (size - 1) (drop (suc at) words) ≡ drop (at + size) words
-    rest = let e : suc at + (size - 1) ≡ at + size = omega arith in drop-drop (size - 1) (suc at) words ∙ ap (λ (n : ℕ). drop n words) e
+    rest : 1 ≤ size → drop (size - 1) (drop (suc at) words) ≡ drop (at + size) words
+    rest some = let e : suc at + (size - 1) ≡ at + size = omega arith in drop-drop (size - 1) (suc at) words ∙ ap (λ (n : ℕ). drop n words) e
 
     -- a run starts
-    module _ (e : starts size valid (drop at words) ≡ true) where
+    module _ (some : 1 ≤ size) (e : starts size valid (drop at words) ≡ true) where
       pub picks : earliestFrom size valid at 0 (drop at words) ≡ at ∷ earliestFrom size valid (at + size) 0 (drop (at + size) words)
       unfolding earliestFrom
       picks =
           let d = drop-cons words at 0 h in
           let k : starts size valid (getD words at 0 ∷ drop (suc at) words) ≡ true = rw d at e in
-          rw (d, k, skipped (suc at) (size - 1) (at + size) (drop (suc at) words) (omega arith), rest)
+          rw (d, k, skipped (suc at) (size - 1) (at + size) (drop (suc at) words) (omega arith), rest some)
 
       pub pieces-picks : (n : ℕ) → piecesFrom size valid at 0 n (drop at words) ≡ behind size valid at n ++ piece.picked at ∷ piecesFrom size valid (at + size) 0 0 (drop (at + size) words)
       unfolding piecesFrom
       pieces-picks n =
           let d = drop-cons words at 0 h in
           let k : starts size valid (getD words at 0 ∷ drop (suc at) words) ≡ true = rw d at e in
-          rw (d, k, pieces-skipped (suc at) (size - 1) (at + size) (drop (suc at) words) (omega arith), rest)
+          rw (d, k, pieces-skipped (suc at) (size - 1) (at + size) (drop (suc at) words) (omega arith), rest some)
 
       whole : leb size (length (drop at words)) && allBytes (take size (drop at words)) ≡ true
       unfolding starts

@@ -57,15 +57,15 @@ module _ {letter : ℕ} {words before out : List ℕ} {at runs left : ℕ} (g : 
         few = omega (arith, long);
         wrote = rw (next, append-assoc) put;
         small = omega (arith, g .small);
-        within = reaches (sizeBy letter) (validBy letter) some words at h e;
-        rest = g .rest ∙ rw (picks (sizeBy letter) (validBy letter) some words at h e, append-assoc);
-        bytes = omega (arith, g .bytes, run-counted (sizeBy letter) (validBy letter) some words at h e, mul-add (sizeBy letter) runs 1);
+        within = reaches (sizeBy letter) (validBy letter) words at h some e;
+        rest = g .rest ∙ rw (picks (sizeBy letter) (validBy letter) words at h some e, append-assoc);
+        bytes = omega (arith, g .bytes, run-counted (sizeBy letter) (validBy letter) words at h some e, mul-add (sizeBy letter) runs 1);
       }
 
   -- a word more that starts none
-  pub word-more : 0 < sizeBy letter → at < length words → startsBy letter (drop at words) ≡ false
+  pub word-more : at < length words → startsBy letter (drop at words) ≡ false
       → Going letter words before out (at + 1) runs (left + cond (isByte (getD words at 0)) 1 0)
-  word-more some h e =
+  word-more h e =
       record {
         front = g .front;
         many = g .many;
@@ -73,7 +73,7 @@ module _ {letter : ℕ} {words before out : List ℕ} {at runs left : ℕ} (g : 
         wrote = g .wrote;
         within = omega arith;
         small = omega (arith, g .small, one-at-most (isByte (getD words at 0)));
-        rest = g .rest ∙ ap (λ (l : List ℕ). g .front ++ l) (passes (sizeBy letter) (validBy letter) some words at h e);
+        rest = g .rest ∙ ap (λ (l : List ℕ). g .front ++ l) (passes (sizeBy letter) (validBy letter) words at h e);
         bytes = omega (arith, g .bytes, word-counted words at h);
       }
 
@@ -92,15 +92,15 @@ module _ {letter : ℕ} {words before out : List ℕ} {at runs left : ℕ} (g : 
   stops some h full e =
       let room : length before ≡ runs = omega (arith, long, g .few) in
       let more = later letter (at + sizeBy letter) words in
-      let all : pickedBy letter words ≡ g .front ++ at ∷ more = g .rest ∙ ap (λ (l : List ℕ). g .front ++ l) (picks (sizeBy letter) (validBy letter) some words at h e) in
+      let all : pickedBy letter words ≡ g .front ++ at ∷ more = g .rest ∙ ap (λ (l : List ℕ). g .front ++ l) (picks (sizeBy letter) (validBy letter) words at h some e) in
       let fewer : runs < length (g .front ++ at ∷ more) = omega (arith, length-append (g .front) (at ∷ more), g .many) in
       closes (rw (room, all) (take-at (g .front) (at ∷ more) runs (g .many)))
       (rw (room, all, lt-leb (length (g .front ++ at ∷ more)) runs fewer) (getD-at (g .front) at more 0 runs (g .many)))
 
-  pub finishes : 0 < sizeBy letter → length words ≤ at → whole (record { refusal = 0; taken = at; runs = runs; left = left }) out ≡ picking letter words before
+  pub finishes : length words ≤ at → whole (record { refusal = 0; taken = at; runs = runs; left = left }) out ≡ picking letter words before
   unfolding takenOf
-  finishes some h =
+  finishes h =
       let all : pickedBy letter words ≡ g .front =
-      g .rest ∙ ap (λ (l : List ℕ). g .front ++ l) (ended (sizeBy letter) (validBy letter) some words at h) ∙ append-nil (g .front) in
+      g .rest ∙ ap (λ (l : List ℕ). g .front ++ l) (ended (sizeBy letter) (validBy letter) words at h) ∙ append-nil (g .front) in
       let room : length (g .front) ≤ length before = omega (arith, g .many, g .few) in
       closes (rw all (take-all (length before) (g .front) room)) (rw (all, le-leb (length (g .front)) (length before) room) (omega (arith, g .within)))

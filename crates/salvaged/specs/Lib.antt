@@ -1,8 +1,9 @@
--- The salvage of a recording: its log (Log), as it is read (Hearing), the items of the log (Items), lines to a slice (Writing), the whole (Listing), and what is promised
--- (Promises).
+-- The salvage of a recording: its log (Log), as it is read (Hearing), the items of the log (Items), lines to a slice (Writing), the whole (Listing), as it is printed
+-- (Walk), and what is promised (Promises).
 pub mod Log
 pub mod Hearing
 pub mod Items
 pub mod Writing
 pub mod Listing
+pub mod Walk
 pub mod Promises

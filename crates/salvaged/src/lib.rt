@@ -21,10 +21,20 @@ pub(crate) struct Heard {
     pub alone: Given,
 }
 
+// How far a log has been printed: the place, the bytes left out right before it, and what is told so far.
+pub(crate) struct Step {
+    pub at: usize,
+    pub left: usize,
+    pub told: Salvaged,
+}
+
 // The salvage of an input, to a lent slice. It stops before a line that has no room.
 pub fn list(input: &[u8], out: &mut [u8]) -> Salvaged
+    ensures { λ r. ⌜ ListPromise (now (input .entry)) (now (out .entry)) r (now (out .exit)) ⌝ }
 {
     let mut words = [0u16; 4096];
     let heard = log::read(input, &mut words);
-    Salvaged { written: heard.count, whole: true }
+    let n = heard.count;
+    let alone = heard.alone;
+    walk::print(heard.letter, alone, &words[..n], out)
 }

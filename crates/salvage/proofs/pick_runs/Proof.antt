@@ -67,7 +67,7 @@ add-at c =
     let s = c .before .before .before .before .before .before .before .before in
     let l = c .before .before .before .before .before .loop in
     let here = rw (rest-is (s .args .words .now) (l .at)) at (sym (c .before .before .starts .ensures) ∙ c .before .if1 .taken) in
-    omega (arith, s .pre .0, s .pre .2, reaches (sizeBy (s .args .letter)) (validBy (s .args .letter)) (omega (arith, s .pre .0)) (s .args .words .now) (l .at) (omega arith) here)
+    omega (arith, s .pre .0, s .pre .2, reaches (sizeBy (s .args .letter)) (validBy (s .args .letter)) (s .args .words .now) (l .at) (omega arith) (omega (arith, s .pre .0)) here)
 
 loop-less : tie.Need-loop-less Inv-loop μ-loop
 loop-less c = search needs
@@ -105,7 +105,7 @@ loop-again-2 c =
     let s = c .before .before .before .before .before .before .before .before .before in
     let l = c .before .before .before .before .before .before .loop in
     let here = rw (rest-is (s .args .words .now) (l .at)) at (sym (c .before .before .before .starts .ensures) ∙ c .before .before .if1 .left) in
-    rw (c .byte .ensures) (word-more (l .inv) (omega (arith, s .pre .0)) (omega arith) here)
+    rw (c .byte .ensures) (word-more (l .inv) (omega arith) here)
 
 told-requires-2 : tie.Need-told-requires-2 Inv-loop μ-loop
 told-requires-2 c κs = search needs
@@ -117,7 +117,7 @@ returns-2 : tie.Need-returns-2 Inv-loop μ-loop
 returns-2 c =
     let s = c .before .before .before .before .before in
     let l = c .before .before .loop in
-    rw (c .told2 .ensures) (finishes (l .inv) (omega (arith, s .pre .0)) (omega arith))
+    rw (c .told2 .ensures) (finishes (l .inv) (omega arith))
 
 pub pick-runs-spec : {M : Type 1} → statement M
 pick-runs-spec =

@@ -1,35 +1,30 @@
+-- `end`: the last line, and then the end.
+use Rattle.salvaged.proofs.Hearing.{closed-numbered, end-numbered, then}
 use borrow.Author.Needs.{needs}
 use Rattle.salvaged.proofs.log.end.Statement.{statement}
 use Rattle.salvaged.proofs.log.end.Tie as tie
-use Rattle.salvaged.proofs.log.end.Reads as reads
-use Rattle.salvaged.proofs.log.end.Lts as lts
-use Rattle.listing.proofs.Scanner.closed.Reads as closed-reads
-use Rattle.listing.proofs.Scanner.end.Reads as end-reads
-use Rattle.salvaged.proofs.log.hear.Reads as hear-reads
 
--- src/log.rt:81:9
 closed-requires : tie.Need-closed-requires
 closed-requires c κs = search needs
 
--- src/log.rt:83:9
 hear-requires : tie.Need-hear-requires
-hear-requires c κs = ?
+hear-requires c κs = (c .before .before .before .pre, rw (c .before .closed .ensures) (closed-numbered (c .before .before .before .args .scanner)))
 
--- src/log.rt:85:9
 end-requires : tie.Need-end-requires
 end-requires c κs = search needs
 
--- src/log.rt:87:5
 hear-requires-2 : tie.Need-hear-requires-2
-hear-requires-2 c κs = ?
+hear-requires-2 c κs = (c .before .before .before .before .before .hear .ensures .fine, rw (c .before .end .ensures) (end-numbered _))
 
--- src/log.rt:77:1
 same-length : tie.Need-same-length
 same-length c = search needs
 
--- src/log.rt:77:1
 returns : tie.Need-returns
-returns c = ?
+returns c =
+    let closed = c .before .before .before .before .before .before .before .before .before .before .closed in
+    let end = c .before .before .before .before .end in
+    then _ (rw (closed .ensures) at (c .before .before .before .before .before .before .before .before .hear .ensures))
+    (rw (end .ensures, closed .ensures) at (c .before .before .hear2 .ensures))
 
 pub end-spec : {M : Type 1} → statement M
 end-spec =

@@ -1,21 +1,20 @@
+-- `marked`: the test of the format.
+use mathlib.Core.Path.{sym, _∙_}
+use Rattle.salvaged.specs.Log.{marked}
 use borrow.Author.Needs.{needs}
 use Rattle.salvaged.proofs.log.marked.Statement.{statement}
 use Rattle.salvaged.proofs.log.marked.Tie as tie
-use Rattle.salvaged.proofs.log.marked.Reads as reads
-use Rattle.salvaged.proofs.log.marked.Lts as lts
-use Rattle.wire.proofs.marked.Reads as marked-reads
 
--- src/log.rt:29:8
 marked-requires : tie.Need-marked-requires
 marked-requires c κs = search needs
 
--- src/log.rt:30:9
 returns : tie.Need-returns
-returns c = ?
+unfolding marked
+returns c = rw (sym (c .before .marked .ensures) ∙ c .if1 .taken)
 
--- src/log.rt:26:1
 returns-2 : tie.Need-returns-2
-returns-2 c = ?
+unfolding marked
+returns-2 c = rw (sym (c .before .marked .ensures) ∙ c .if1 .left)
 
 pub marked-spec : {M : Type 1} → statement M
 marked-spec = tie.close (tie.spec marked-requires returns returns-2)

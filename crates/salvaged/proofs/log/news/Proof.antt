@@ -1,83 +1,66 @@
+-- `news`: by the case of what is found.
+use Rattle.salvaged.proofs.Hearing.{beside, as-it-was, marked-short}
 use borrow.Author.Needs.{needs}
 use Rattle.salvaged.proofs.log.news.Statement.{statement}
 use Rattle.salvaged.proofs.log.news.Tie as tie
-use Rattle.salvaged.proofs.log.news.Reads as reads
-use Rattle.salvaged.proofs.log.news.Lts as lts
-use Rattle.salvaged.proofs.log.made.Reads as made-reads
-use Rattle.salvaged.proofs.log.marked.Reads as marked-reads
-use Rattle.salvaged.proofs.log.word.Reads as word-reads
 
--- src/log.rt:55:27
 enum-told : tie.Need-enum-told
 enum-told c = search needs
 
--- src/log.rt:56:23
 enum-known-found : tie.Need-enum-known-found
 enum-known-found c = search needs
 
--- src/log.rt:56:50
 marked-requires : tie.Need-marked-requires
 marked-requires c κs = search needs
 
--- src/log.rt:56:34
 made-requires : tie.Need-made-requires
 made-requires c κs = search needs
 
--- src/log.rt:57:24
 enum-known-found-2 : tie.Need-enum-known-found-2
 enum-known-found-2 c = search needs
 
--- src/log.rt:57:30
 word-requires : tie.Need-word-requires
 word-requires c κs = search needs
 
--- src/log.rt:58:20
 enum-known-found-3 : tie.Need-enum-known-found-3
 enum-known-found-3 c = search needs
 
--- src/log.rt:58:29
 made-requires-2 : tie.Need-made-requires-2
 made-requires-2 c κs = search needs
 
--- src/log.rt:59:55
 enum-told-2 : tie.Need-enum-told-2
 enum-told-2 c = search needs
 
--- src/log.rt:59:24
 made-requires-3 : tie.Need-made-requires-3
 made-requires-3 c κs = search needs
 
--- src/log.rt:60:23
 enum-told-3 : tie.Need-enum-told-3
 enum-told-3 c = search needs
 
--- src/log.rt:49:1
 returns : tie.Need-returns
-returns c = ?
+returns c = rw (c .enum-told .given .1) (as-it-was (c .before .before .before .pre .0))
 
--- src/log.rt:49:1
 returns-2 : tie.Need-returns-2
-returns-2 c = ?
+returns-2 c =
+    rw (c .before .before .before .found .given .1, c .made .ensures, c .before .marked .ensures)
+    (beside (c .before .before .before .before .before .before .pre .0) _ _ (marked-short _))
 
--- src/log.rt:49:1
 same-length : tie.Need-same-length
 same-length c = search needs
 
--- src/log.rt:49:1
 returns-3 : tie.Need-returns-3
-returns-3 c = ?
+returns-3 c = rw (c .before .before .before .before .before .found2 .given .1) (c .before .before .word .ensures)
 
--- src/log.rt:49:1
 returns-4 : tie.Need-returns-4
-returns-4 c = ?
+returns-4 c =
+    let e = c .before .before .found3 .given .1 in
+    rw (e, c .made2 .ensures) (beside (c .before .before .before .before .before .pre .0) _ _ (rw e at (c .before .before .before .before .before .pre .1), tt))
 
--- src/log.rt:49:1
 returns-5 : tie.Need-returns-5
-returns-5 c = ?
+returns-5 c = rw (c .before .enum-told2 .given .1, c .made3 .ensures) (beside (c .before .before .before .before .pre .0) _ _ tt)
 
--- src/log.rt:49:1
 returns-6 : tie.Need-returns-6
-returns-6 c = ?
+returns-6 c = rw (c .enum-told3 .given .1) (as-it-was (c .before .before .before .pre .0))
 
 pub news-spec : {M : Type 1} → statement M
 news-spec =
