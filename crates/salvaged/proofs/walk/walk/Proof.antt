@@ -1,48 +1,53 @@
+-- `walk`: at the loop's head some pieces are printed, and the others are left.
+use borrow.Author.Needs.{needs}
+use Prim.Native.Nat.{_-_}
+use mathlib.Core.Path.{_≡_, refl, sym, ap, _∙_}
+use native.Mathlib.Omega.{arith}
+use lib.ListN.{length}
+use Rattle.salvaged.specs.declared.Step.{Step}
+use Rattle.salvaged.proofs.Walking.{Walking, begins, goes-on, all-printed}
 use Rattle.salvaged.proofs.walk.walk.Statement.{statement}
 use Rattle.salvaged.proofs.walk.walk.Tie as tie
-use Rattle.salvaged.proofs.walk.walk.Reads as reads
-use Rattle.salvaged.proofs.walk.walk.Lts as lts
-use Rattle.salvaged.proofs.walk.left_out.Reads as left-out-reads
-use Rattle.salvaged.proofs.walk.reached.Reads as reached-reads
-use Rattle.salvaged.proofs.walk.step.Reads as step-reads
 
 abbrev Inv-loop : tie.InvT-loop
-Inv-loop letter size words out₀ s₀ out s = ?
+Inv-loop letter size words out₀ s₀ out s = Walking letter words (s₀ .told) out₀ s out × (length out ≡ length out₀)
 
 abbrev μ-loop : tie.MeasureT-loop
-μ-loop letter size words out₀ s₀ out s = ?
+μ-loop letter size words out₀ s₀ out s = length words - s .at
 
--- src/walk.rt:99:9
 reached-requires : tie.Need-reached-requires Inv-loop μ-loop
-reached-requires c κs = ?
+reached-requires c κs = search needs
 
--- src/walk.rt:100:5
 loop-holds : tie.Need-loop-holds Inv-loop μ-loop
-loop-holds c = ?
+loop-holds c = rw (c .reached .ensures) (begins, refl)
 
--- src/walk.rt:101:9
 step-requires : tie.Need-step-requires Inv-loop μ-loop
-step-requires c κs = ?
+step-requires c κs =
+    let w = c .before .before .before .loop .inv .0 in
+    (c .before .before .before .before .before .before .before .pre, record { in-words = c .before .if1 .taken; small = w .small })
 
--- src/walk.rt:100:5
 loop-less : tie.Need-loop-less Inv-loop μ-loop
-loop-less c = ?
+loop-less c = let t = c .before .before .step .ensures in omega (arith, t .further, t .within)
 
--- src/walk.rt:100:5
 loop-again : tie.Need-loop-again Inv-loop μ-loop
-loop-again c = ?
+loop-again c =
+    let l = c .before .before .before .before .before .before .loop in
+    let same : length (c .before .before .step .last .1 .1 .0) ≡ length (l .out) = search needs in
+    (goes-on (l .inv .0) (c .before .before .step .ensures), same ∙ l .inv .1)
 
--- src/walk.rt:104:5
 left-out-requires : tie.Need-left-out-requires Inv-loop μ-loop
-left-out-requires c κs = ?
+left-out-requires c κs =
+    let w = c .before .before .before .before .loop .inv .0 in
+    (w .small, omega (arith, w .within, c .before .before .before .before .before .before .before .before .pre .few))
 
--- src/walk.rt:95:1
 same-length : tie.Need-same-length Inv-loop μ-loop
-same-length c = ?
+same-length c = search needs
 
--- src/walk.rt:95:1
 returns : tie.Need-returns Inv-loop μ-loop
-returns c = ?
+returns c =
+    let l = c .before .before .before .before .before .before .before .loop in
+    let told = ap (λ (s : Step). s .told) (c .before .before .before .before .before .before .before .before .reached .ensures) in
+    rw told at (all-printed (l .inv .0) (c .before .before .before .before .before .if1 .left) (c .before .before .left-out .ensures))
 
 pub walk-spec : {M : Type 1} → statement M
 walk-spec =
