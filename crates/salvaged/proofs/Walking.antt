@@ -13,9 +13,14 @@ use Rattle.choosing.proofs.Walk.{pieces-picks, pieces-left, pieces-marked, piec
 use Rattle.salvage.specs.Picking.{validBy, startsBy}
 use Rattle.listing.specs.declared.Item.{Item}
 use Rattle.listing.specs.declared.Item.the-variants as item
-use Rattle.salvaged.specs.Items.{itemOf}
+use Rattle.listing.specs.Scanning.{width}
+use Rattle.listing.specs.Printing.{openingS, lineOf}
+use Rattle.listing.proofs.Few.{few-form}
+use Rattle.salvaged.specs.Items.{itemOf, itemsIn}
+use Rattle.salvaged.specs.Writing.{Written}
 use Rattle.salvaged.specs.Listing.{itemLine}
-use Rattle.salvaged.specs.Walk.{Adds, AddsLeft, linesIn, restAt, Stepped}
+use Rattle.salvaged.specs.Walk.{Stands, Adds, AddsLeft, linesIn, restAt, Stepped}
+use Rattle.salvaged.specs.Promises.{whole, told}
 use Rattle.salvaged.specs.declared.Salvaged.{Salvaged}
 use Rattle.salvaged.specs.declared.Step.{Step}
 use Rattle.salvaged.proofs.Writing.{adds-both, adds-none}
@@ -109,3 +114,15 @@ module _ {letter : ℕ} {words : List ℕ} {told : Salvaged} {before : List ℕ}
         let e : pieces (sizeBy letter) (validBy letter) words ≡ w .printed ++ b =
         w .rest ∙ ap (λ (l : List Piece). w .printed ++ l) (pieces-ended (sizeBy letter) (validBy letter) words (s .at) (s .left) h) in
         rw (e, lines-append letter words (w .printed) b) (adds-both (w .adds) (p letter words))
+
+-- the lines of a whole log: those of its pieces, and then `H` and 0
+pub items-lines : (letter : ℕ) (words : List ℕ) → map itemLine (itemsIn letter words) ≡ linesIn letter words (pieces (sizeBy letter) (validBy letter) words) ++ itemLine (item.H 0) ∷ []
+items-lines letter words = map-append itemLine (map (itemOf letter words) (pieces (sizeBy letter) (validBy letter) words)) (item.H 0 ∷ [])
+
+-- the first line is short
+pub opening-few : length (lineOf width (openingS width)) ≤ 40
+opening-few = omega (arith, few-form (openingS width) (omega arith, tt))
+
+-- what is told in the end
+pub in-the-end : {before : List ℕ} {w : Written} {s : Salvaged} {out : List ℕ} → Stands before w s out → whole s out ≡ told w before
+in-the-end {before} {w} t = rw (t .is, t .wrote)

@@ -32,7 +32,7 @@ loop-less c = let t = c .before .before .step .ensures in omega (arith, t .furth
 loop-again : tie.Need-loop-again Inv-loop μ-loop
 loop-again c =
     let l = c .before .before .before .before .before .before .loop in
-    let same : length (c .before .before .step .last .1 .1 .0) ≡ length (l .out) = search needs in
+    let same : length (c .before .before .step .last .1 .1 .1 .1 .0) ≡ length (l .out) = search needs in
     (goes-on (l .inv .0) (c .before .before .step .ensures), same ∙ l .inv .1)
 
 left-out-requires : tie.Need-left-out-requires Inv-loop μ-loop
