@@ -4,7 +4,7 @@ use mathlib.Core.Path.{_≡_, refl, sym, ap, _∙_}
 use mathlib.Core.Bool.{Bool, true, false, cond, _&&_}
 use mathlib.Core.List.{List, [], _∷_, _++_, append-assoc, append-nil}
 use native.Mathlib.Omega.{arith}
-use lib.ListN.{length, take}
+use lib.ListN.{length, take, length-append}
 use lib.Dec.{leb, eqb}
 use borrow.Author.Tests.{leb-true}
 use Rattle.numbers.proofs.Tested.{left, right}
@@ -167,3 +167,29 @@ module _ (size : ℕ) (valid : List ℕ → Bool) where
         each-byte = all-placed some 0 0 0 words (omega arith) (λ k. refl) (omega arith) refl;
         longest = all-longest 0 0 0 words (omega arith);
       }
+
+  -- no more pieces than words
+  places-long : (place n : ℕ) → length (upFrom place n) ≡ n
+  unfolding upFrom
+  places-long place zero = refl
+  places-long place (suc n) = ap suc (places-long (suc place) n)
+
+  bytes-long : (place : ℕ) (words : List ℕ) → length (bytePlaces place words) ≤ length words
+  unfolding bytePlaces
+  bytes-long place [] = omega arith
+  bytes-long place (w ∷ words) = go (isByte w) (bytes-long (suc place) words)
+    where
+      go : (t : Bool) → length (bytePlaces (suc place) words) ≤ length words → length (cond t (place ∷ []) [] ++ bytePlaces (suc place) words) ≤ suc (length words)
+      go true h = omega arith
+      go false h = omega arith
+
+  few-places : 1 ≤ size → (l : List Piece) → Longest l → length l ≤ length (placesIn size valid l)
+  unfolding placesIn Longest
+  few-places some [] h = omega arith
+  few-places some (piece.picked s ∷ l) h = omega (arith, few-places some l h, places-long s size, length-append (upFrom s size) (placesIn size valid l))
+  few-places some (piece.left a n ∷ l) h = omega (arith, h .0, few-places some l (h .2), places-long a n, length-append (upFrom a n) (placesIn size valid l))
+
+  pub few-pieces : 1 ≤ size → (words : List ℕ) → length (pieces size valid words) ≤ length words
+  few-pieces some words =
+      let f = falls some words in
+      omega (arith, few-places some (pieces size valid words) (f .longest), ap length (f .each-byte), bytes-long 0 words)

@@ -16,5 +16,6 @@ pub mod Pieces
 pub mod Refusals
 pub mod Scanned
 pub mod Small
+pub mod Viewed
 pub mod Whole
 pub mod Worked

@@ -4,3 +4,6 @@ pub mod Hearing
 pub mod Writing
 pub mod Runs
 pub mod Walking
+pub mod Sound
+pub mod Room
+pub mod Whole

@@ -1,5 +1,5 @@
 -- The salvage of a recording: its log (Log), as it is read (Hearing), the items of the log (Items), lines to a slice (Writing), the whole (Listing), as it is printed
--- (Walk), and what is promised (Promises).
+-- (Walk), what is promised (Promises), and the theorems (Whole).
 pub mod Log
 pub mod Hearing
 pub mod Items
@@ -7,3 +7,4 @@ pub mod Writing
 pub mod Listing
 pub mod Walk
 pub mod Promises
+pub mod Whole
