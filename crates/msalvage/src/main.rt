@@ -1,9 +1,8 @@
 // msalvage: the salvage of standard input, to standard output.
-ghost use mathlib.Core.Path.{_≡_};
-ghost use mathlib.Core.Bool.{true};
 ghost use Prim.Native.Nat.{_≤_};
-ghost use lib.ListN.{length};
-ghost use Rattle.msalvage.specs.Blocks.{Reads};
+ghost use lib.ListN.{length, take};
+ghost use Rattle.salvaged.specs.Whole.{enough};
+ghost use Rattle.msalvage.specs.Blocks.{Reads, Shows};
 use libc::STDIN_FILENO;
 use libc::STDOUT_FILENO;
 
@@ -51,9 +50,10 @@ fn blocks(input: &mut [u8]) -> Got
     got
 }
 
-// The salvage of the first bytes; where it cannot be written, why, to standard error.
+// The salvage of the first bytes, all of it; where it cannot be written, why, to standard error.
 fn show(input: &[u8], count: usize, out: &mut [u8])
-    requires { ⌜ count ≤ length (now input) ⌝ }
+    requires { ⌜ (count ≤ length (now input)) × (enough ≤ length (now out)) ⌝ }
+    ensures { λ _. ⌜ Shows (take count (now (input .entry))) (now (out .exit)) ⌝ }
 {
     let told = salvaged::list(&input[..count], out);
     let n = told.written;
