@@ -1,55 +1,57 @@
+-- All of the salvage has room, and that much is written.
+use mathlib.Core.Path.{_≡_, sym, _∙_}
+use native.Mathlib.Omega.{arith}
+use lib.ListN.{length, take}
+use lib.Seq.{length-take-le}
+use Rattle.msalvage.proofs.Shown.{in-buffer, shows}
 use borrow.Author.Needs.{needs}
 use Rattle.msalvage.proofs.show.Statement.{statement}
 use Rattle.msalvage.proofs.show.Tie as tie
-use Rattle.msalvage.proofs.show.Reads as reads
-use Rattle.msalvage.proofs.show.Lts as lts
-use Rattle.io.proofs.write_all.Reads as write-all-reads
-use Rattle.os.proofs.fail.Reads as fail-reads
-use Rattle.salvaged.proofs.list.Reads as list-reads
 
--- src/main.rt:58:31
 slice-aggregate-list : tie.Need-slice-aggregate-list
-slice-aggregate-list c = ?
+slice-aggregate-list c = let s = c .before .before .before in sym (length-take-le (s .args .count) (s .args .input .now) (s .pre .0))
 
--- src/main.rt:58:9
 list-requires : tie.Need-list-requires
 list-requires c κs = search needs
 
--- src/main.rt:60:38
 slice-reshare-prefix-write-all : tie.Need-slice-reshare-prefix-write-all
-slice-reshare-prefix-write-all c = ?
+slice-reshare-prefix-write-all c =
+    let s = c .before .before .before .before .before .before .before in
+    let l = c .before .before .list in
+    in-buffer (take (s .args .count) (s .args .input .now)) (s .args .out .now) (l .result) (l .last .1 .0) (l .ensures) (s .pre .1)
 
--- src/main.rt:60:38
 slice-aggregate-write-all : tie.Need-slice-aggregate-write-all
-slice-aggregate-write-all c = ?
+slice-aggregate-write-all c =
+    let s = c .before .before .before .before .before .before .before .before in
+    let l = c .before .before .before .list in
+    sym (length-take-le (l .result .written) (l .last .1 .0) (in-buffer (take (s .args .count) (s .args .input .now)) (s .args .out .now) (l .result) (l .last .1 .0) (l .ensures) (s .pre .1)))
 
--- src/main.rt:60:9
 write-all-requires : tie.Need-write-all-requires
 write-all-requires c κs = search needs
 
--- src/main.rt:61:18
 slice-aggregate-fail : tie.Need-slice-aggregate-fail
 slice-aggregate-fail c = search needs
 
--- src/main.rt:61:9
 fail-requires : tie.Need-fail-requires
 fail-requires c κs = search needs
 
--- src/main.rt:55:1
 same-length : tie.Need-same-length
 same-length c = search needs
 
--- src/main.rt:55:1
 returns : tie.Need-returns
-returns c = search needs
+returns c =
+    let s = c .before .before .before .before .before .before .before .before .before .before .before .before in
+    let l = c .before .before .before .before .before .before .before .list in
+    shows (take (s .args .count) (s .args .input .now)) (s .args .out .now) (l .result) (l .last .1 .0) (l .ensures) (s .pre .1)
 
--- src/main.rt:55:1
 same-length-2 : tie.Need-same-length-2
 same-length-2 c = search needs
 
--- src/main.rt:55:1
 returns-2 : tie.Need-returns-2
-returns-2 c = search needs
+returns-2 c =
+    let s = c .before .before .before .before .before .before .before .before .before .before in
+    let l = c .before .before .before .before .before .list in
+    shows (take (s .args .count) (s .args .input .now)) (s .args .out .now) (l .result) (l .last .1 .0) (l .ensures) (s .pre .1)
 
 pub show-spec : {M : Type 1} → statement M
 show-spec =
