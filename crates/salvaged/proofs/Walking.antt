@@ -31,17 +31,17 @@ lines-append : (letter : ℕ) (words : List ℕ) (a b : List Piece) → linesIn 
 lines-append letter words a b =
     ap (map itemLine) (map-append (itemOf letter words) a b) ∙ map-append itemLine (map (itemOf letter words) a) (map (itemOf letter words) b)
 
--- the line of bytes left out is that of the last of them
-pub left-line : (letter at n : ℕ) (words : List ℕ) → n ≤ at → (n ≡ 0 → ⊥) → linesIn letter words (behind (sizeBy letter) (validBy letter) at n) ≡ itemLine (item.D (at + 1) n) ∷ []
+-- the line of bytes left out
+left-line : (letter at n : ℕ) (words : List ℕ) → (n ≡ 0 → ⊥) → linesIn letter words (behind (sizeBy letter) (validBy letter) at n) ≡ itemLine (item.D (at - n + n + 1) n) ∷ []
 unfolding itemOf
-left-line letter at zero words h k = absurd (k refl)
-left-line letter at (suc n) words h k = let e : at - suc n + suc n + 1 ≡ at + 1 = omega arith in rw e
+left-line letter at zero words k = absurd (k refl)
+left-line letter at (suc n) words k = refl
 
 pub none-left : (at left : ℕ) (told : Salvaged) (out : List ℕ) → left ≡ 0 → AddsLeft at left told out told out
 none-left at left told out e letter words = rw e (adds-none told out)
 
-pub some-left : {at left : ℕ} {told next : Salvaged} {out after : List ℕ} → left ≤ at → (left ≡ 0 → ⊥) → Adds (itemLine (item.D (at + 1) left) ∷ []) told out next after → AddsLeft at left told out next after
-some-left {at} {left} h k a letter words = rw (left-line letter at left words h k) a
+pub some-left : {at left : ℕ} {told next : Salvaged} {out after : List ℕ} → (left ≡ 0 → ⊥) → Adds (itemLine (item.D (at - left + left + 1) left) ∷ []) told out next after → AddsLeft at left told out next after
+some-left {at} {left} k a letter words = rw (left-line letter at left words k) a
 
 module _ (letter : ℕ) (words : List ℕ) (at left : ℕ) (told : Salvaged) (out : List ℕ) (h : at < length words) (small : left ≤ at) where
   -- a run

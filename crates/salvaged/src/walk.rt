@@ -68,7 +68,8 @@ fn left_out(told: Salvaged, at: usize, left: usize, out: &mut [u8]) -> Salvaged
     if left == 0 {
         return told;
     }
-    let line = at + 1;
+    let first = at - left;
+    let line = first + left + 1;
     lines::item(told, Item::D(line as u32, left as u16), out)
 }
 
