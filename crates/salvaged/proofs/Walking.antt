@@ -40,8 +40,8 @@ left-line letter at (suc n) words k = refl
 pub none-left : (at left : ℕ) (told : Salvaged) (out : List ℕ) → left ≡ 0 → AddsLeft at left told out told out
 none-left at left told out e letter words = rw e (adds-none told out)
 
-pub some-left : {at left : ℕ} {told next : Salvaged} {out after : List ℕ} → (left ≡ 0 → ⊥) → Adds (itemLine (item.D (at - left + left + 1) left) ∷ []) told out next after → AddsLeft at left told out next after
-some-left {at} {left} k a letter words = rw (left-line letter at left words k) a
+pub some-left : (at left : ℕ) {told next : Salvaged} {out after : List ℕ} → (left ≡ 0 → ⊥) → Adds (itemLine (item.D (at - left + left + 1) left) ∷ []) told out next after → AddsLeft at left told out next after
+some-left at left k a letter words = rw (left-line letter at left words k) a
 
 module _ (letter : ℕ) (words : List ℕ) (at left : ℕ) (told : Salvaged) (out : List ℕ) (h : at < length words) (small : left ≤ at) where
   -- a run

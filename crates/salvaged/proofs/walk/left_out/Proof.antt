@@ -29,7 +29,7 @@ same-length : tie.Need-same-length
 same-length c = search needs
 
 returns-2 : tie.Need-returns-2
-returns-2 c = some-left (c .before .before .before .before .if1 .left) (c .before .before .item .ensures)
+returns-2 c = let a = c .before .before .before .before .before .before .args in some-left (a .at) (a .left) (c .before .before .before .before .if1 .left) (c .before .before .item .ensures)
 
 pub left-out-spec : {M : Type 1} → statement M
 left-out-spec =
