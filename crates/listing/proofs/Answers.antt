@@ -2,11 +2,13 @@
 use Prim.Native.Nat.{ℕ}
 use mathlib.Core.Path.{_≡_, sym, _∙_, ap}
 use mathlib.Core.List.{List}
-use Rattle.listing.specs.Promises.{Whole, whole, LinePromise, FreshPromise, FeedPromise, FinishPromise, ByteScanPromise, ClosedScanPromise, EndScanPromise}
+use Rattle.listing.specs.Promises.{Whole, whole, LinePromise, FreshPromise, FeedPromise, FinishPromise, ByteScanPromise, ClosedScanPromise, EndScanPromise, ReportedPromise, ItemLinePromise, SalvagePromise}
 use Rattle.listing.specs.declared.Scan.{Scan}
 use Rattle.listing.specs.declared.Scanner.{Scanner}
 use Rattle.text.specs.declared.Text.{Text}
 use Rattle.listing.specs.declared.Given.{Given}
+use Rattle.wire.specs.declared.Report.{Report}
+use Rattle.listing.specs.declared.Item.{Item}
 use Rattle.listing.specs.declared.Lister.{Lister}
 use Rattle.listing.specs.declared.Listed.{Listed}
 
@@ -36,3 +38,13 @@ one-closed-scan s p q = p ∙ sym q
 
 pub one-end-scan : (s : Scanner) {x y : Scan} → EndScanPromise s x → EndScanPromise s y → x ≡ y
 one-end-scan s p q = p ∙ sym q
+
+-- of items and of a salvage's first line
+pub one-reported : (letter n : ℕ) (report : Report) {a b : Item} → ReportedPromise letter n report a → ReportedPromise letter n report b → a ≡ b
+one-reported letter n report p q = p ∙ sym q
+
+pub one-item-line : (item : Item) {a b : Text} → ItemLinePromise item a → ItemLinePromise item b → a ≡ b
+one-item-line item p q = p ∙ sym q
+
+pub one-salvage : {a b : Text} → SalvagePromise a → SalvagePromise b → a ≡ b
+one-salvage p q = p ∙ sym q

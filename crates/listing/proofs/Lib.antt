@@ -17,6 +17,7 @@ pub mod Pieces
 pub mod Refusals
 pub mod Scanned
 pub mod Small
+pub mod Viewed
 pub mod Whole
 pub mod Widths
 pub mod Worked

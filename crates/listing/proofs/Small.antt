@@ -103,7 +103,7 @@ Small (answer.Dropped k) = (1 ≤ k) × (k < 10 ^ 4)
 near-small : (p : Report) → Near p → Small (answer.Report p)
 near-small p h = (omega (arith, abs-sum (p .x1) (p .x2), h .x1, h .x2), omega (arith, abs-sum (p .y1) (p .y2), h .y1, h .y2))
 
-small-report : (letter : ℕ) (bs : List ℕ) → Small (answer.Report (reportBy letter bs))
+pub small-report : (letter : ℕ) (bs : List ℕ) → Small (answer.Report (reportBy letter bs))
 unfolding reportBy
 small-report letter bs = go (namedBy letter)
   where

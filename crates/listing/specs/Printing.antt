@@ -98,3 +98,7 @@ lineAt w (One i) = lineOf w (formOf i)
 abbrev pub allBytes : ℕ → List Item → List ℕ
 allBytes w [] = []
 allBytes w (i ∷ is) = lineOf w (formOf i) ++ allBytes w is
+
+-- "its listing begins with `S` instead of `L`"
+abbrev pub openingS : ℕ → Form
+openingS w = form 0x53 (field.Number (pos w) ∷ [])

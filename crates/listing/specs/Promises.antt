@@ -8,11 +8,15 @@ use Rattle.wire.specs.Numbers.{success, badState}
 use Rattle.listing.specs.Scanning.{scannedByte, closedOf, endOf}
 use Rattle.text.specs.Growth.{textOf}
 use Rattle.text.specs.declared.Text.{Text}
-use Rattle.listing.specs.Printing.{lineAt}
+use Rattle.wire.specs.declared.Report.{Report}
+use Rattle.listing.specs.Scanning.{width}
+use Rattle.listing.specs.Items.{reportItem}
+use Rattle.listing.specs.Printing.{formOf, openingS, lineOf, lineAt}
 use Rattle.listing.specs.Feeding.{fresh, Feed, feedIn, finishIn, good}
 use Rattle.listing.specs.declared.Scanner.{Scanner}
 use Rattle.listing.specs.declared.Scan.{Scan}
 use Rattle.listing.specs.declared.Given.{Given}
+use Rattle.listing.specs.declared.Item.{Item}
 use Rattle.listing.specs.declared.Lister.{Lister}
 use Rattle.listing.specs.declared.Listed.{Listed}
 
@@ -69,3 +73,15 @@ ClosedScanPromise s answer = answer ≡ closedOf s
 
 abbrev pub EndScanPromise : Scanner → Scan → Type 0
 EndScanPromise s answer = answer ≡ endOf s
+
+-- `Item::reported(letter, n, report)`: what a report shows
+abbrev pub ReportedPromise : ℕ → ℕ → Report → Item → Type 0
+ReportedPromise letter n report answer = answer ≡ reportItem letter n report
+
+-- `Item::line(self)`: the text of its line
+abbrev pub ItemLinePromise : Item → Text → Type 0
+ItemLinePromise item answer = answer ≡ textOf (lineOf width (formOf item))
+
+-- `salvage_opening()`: the text of a salvage's first line
+abbrev pub SalvagePromise : Text → Type 0
+SalvagePromise answer = answer ≡ textOf (lineOf width (openingS width))

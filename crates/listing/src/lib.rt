@@ -1,5 +1,6 @@
 // The listing of a recording: a lister that is fed the input in pieces of any size. The scanner finds numbered words in the input (lines, scanning),
 // the reader makes items of them (items), and the items are printed (printing).
+ghost use Rattle.listing.specs.Promises.{SalvagePromise};
 use reader::Reader;
 use text::Text;
 
@@ -8,6 +9,7 @@ mod items;
 mod lines;
 mod printing;
 mod scanning;
+mod shown;
 
 // The width of line numbers.
 pub(crate) const WIDTH: u8 = 6;
@@ -111,4 +113,11 @@ pub(crate) struct Turn {
 pub(crate) struct Front {
     pub taken: usize,
     pub turn: Turn,
+}
+
+// The first line of a salvage: `S` and the width of line numbers.
+pub fn salvage_opening() -> Text
+    ensures { λ r. ⌜ SalvagePromise r ⌝ }
+{
+    printing::opening_s()
 }

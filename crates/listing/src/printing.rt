@@ -3,14 +3,16 @@ ghost use mathlib.Core.Path.{_≡_};
 ghost use mathlib.Core.List.{_∷_};
 ghost use Rattle.text.specs.Growth.{grownBy, textOf};
 ghost use Rattle.listing.specs.Lines.{tab};
+ghost use Rattle.listing.specs.Scanning.{width};
 ghost use Rattle.listing.specs.Items.{itemsIn};
 ghost use Rattle.listing.specs.Promises.{LinePromise};
-ghost use Rattle.listing.specs.Printing.{pressed, middle, three, over, fieldOf, formOf, headOf, lineOf, opening, allBytes};
+ghost use Rattle.listing.specs.Printing.{pressed, middle, three, over, fieldOf, formOf, headOf, lineOf, opening, openingS, allBytes};
 use crate::Buttons;
 use crate::Field;
 use crate::Given;
 use crate::Item;
 use crate::Middle;
+use crate::WIDTH;
 use text::Text;
 
 // The width of other numbers: no leading zeros.
@@ -124,4 +126,11 @@ impl Given {
             Given::One(item) => fields(Text::none(), width, item).with(b'\n'),
         }
     }
+}
+
+// The first line of a salvage.
+pub(crate) fn opening_s() -> Text
+    ensures { λ r. ⌜ r ≡ textOf (lineOf width (openingS width)) ⌝ }
+{
+    letter(Text::none(), WIDTH, b'S', Field::Number(WIDTH as i64)).with(b'\n')
 }

@@ -6,7 +6,7 @@ use lib.IntN.{pos}
 use Rattle.text.specs.Decimals.{plain, decimalOf}
 use Rattle.wire.specs.Line.{letterOf}
 use Rattle.wire.specs.declared.Format.the-variants.{FiveByte}
-use Rattle.listing.specs.Scanning.{unfed, recordingOf, scannedByte, closedOf, endOf}
+use Rattle.listing.specs.Scanning.{width, unfed, recordingOf, scannedByte, closedOf, endOf}
 use Rattle.listing.specs.declared.Scanner.{Scanner}
 use Rattle.listing.specs.declared.Scan.{Scan}
 use Rattle.listing.specs.declared.Found.{Found}
@@ -55,7 +55,7 @@ waiting = freshOf (letterOf FiveByte) .yard
 
 -- what is said of an input
 unfoldable pub verdictOn : List ℕ → Verdict
-verdictOn input = verdictFrom waiting Yes (recordingOf input)
+verdictOn input = verdictFrom waiting Yes (recordingOf width input)
 
 -- the line that is written; its numbers have no leading zeros
 abbrev pub numbered : ℕ → ℕ → List ℕ
