@@ -8,7 +8,7 @@ use Rattle.wire.specs.declared.Report.{Report}
 use Rattle.ballbox.specs.declared.Event.{Event}
 use Rattle.istrolf.specs.Readers as readers
 use Rattle.istrolf.specs.Listers as listers
-use Rattle.istrolf.specs.Promises.{FreshReaderPromise, ReaderStepPromise, ReadPromise, EncodePromise, FreshBoxPromise, BoxStepPromise, FreshListerPromise, FeedPromise, FinishPromise}
+use Rattle.istrolf.specs.Promises.{FreshReaderPromise, ReaderStepPromise, ReadPromise, EncodePromise, FreshBoxPromise, BoxStepPromise, FreshListerPromise, FeedPromise, FinishPromise, PickPromise, SalvagePromise}
 use Rattle.istrolf.specs.declared.HeldReader.{HeldReader}
 use Rattle.istrolf.specs.declared.FreshReader.{FreshReader}
 use Rattle.istrolf.specs.declared.ReadWord.{ReadWord}
@@ -18,6 +18,10 @@ use Rattle.istrolf.specs.declared.HeldBox.{HeldBox}
 use Rattle.istrolf.specs.declared.SteppedBox.{SteppedBox}
 use Rattle.istrolf.specs.declared.HeldLister.{HeldLister}
 use Rattle.istrolf.specs.declared.ListedBytes.{ListedBytes}
+use Rattle.istrolf.specs.declared.SalvagedBytes.{SalvagedBytes}
+use Rattle.istrolf.specs.Salvages as salvages
+use Rattle.salvage.specs.declared.Picked.{Picked}
+use Rattle.salvage.proofs.Picks as below
 
 listed-same : {a b : ListedBytes} {x y : List ℕ} → listers.whole a x ≡ listers.whole b y → (a ≡ b) × (x ≡ y)
 listed-same e = (ap (λ (l : listers.Whole). l .listed) e, ap (λ (l : listers.Whole). l .out) e)
@@ -54,3 +58,12 @@ one-feed h input out a b x y e f = listed-same (e ∙ sym f)
 pub one-finish : (h : HeldLister) (out : List ℕ) (a b : ListedBytes) (x y : List ℕ)
     → FinishPromise h out a x → FinishPromise h out b y → (a ≡ b) × (x ≡ y)
 one-finish h out a b x y e f = listed-same (e ∙ sym f)
+
+pub one-pick : (letter : ℕ) (words places : List ℕ) (a b : Picked) (x y : List ℕ)
+    → PickPromise letter words places a x → PickPromise letter words places b y → (a ≡ b) × (x ≡ y)
+one-pick letter words places a b x y e f = below.one-pick letter words places e f
+
+pub one-salvage : (input out : List ℕ) (a b : SalvagedBytes) (x y : List ℕ)
+    → SalvagePromise input out a x → SalvagePromise input out b y → (a ≡ b) × (x ≡ y)
+one-salvage input out a b x y e f =
+    (ap (λ (w : salvages.Whole). w .told) (e ∙ sym f), ap (λ (w : salvages.Whole). w .out) (e ∙ sym f))

@@ -12,9 +12,13 @@ use Rattle.ballbox.specs.Promises as ballbox
 use Rattle.ballbox.specs.declared.Event.{Event}
 use Rattle.listing.specs.Feeding as feeding
 use Rattle.listing.specs.Promises as listing
+use Rattle.salvage.specs.Promises as salvage
+use Rattle.salvage.specs.declared.Picked.{Picked}
+use Rattle.salvaged.specs.Promises as salvaged
 use Rattle.istrolf.specs.Readers as readers
 use Rattle.istrolf.specs.Boxes as boxes
 use Rattle.istrolf.specs.Listers as listers
+use Rattle.istrolf.specs.Salvages as salvages
 use Rattle.istrolf.specs.declared.HeldReader.{HeldReader}
 use Rattle.istrolf.specs.declared.FreshReader.{FreshReader}
 use Rattle.istrolf.specs.declared.ReadWord.{ReadWord}
@@ -24,6 +28,7 @@ use Rattle.istrolf.specs.declared.HeldBox.{HeldBox}
 use Rattle.istrolf.specs.declared.SteppedBox.{SteppedBox}
 use Rattle.istrolf.specs.declared.HeldLister.{HeldLister}
 use Rattle.istrolf.specs.declared.ListedBytes.{ListedBytes}
+use Rattle.istrolf.specs.declared.SalvagedBytes.{SalvagedBytes}
 
 -- `istrolf_reader_fresh(letter)`
 abbrev pub FreshReaderPromise : ℕ → FreshReader → Type 0
@@ -79,3 +84,14 @@ finishOf h out =
 
 abbrev pub FinishPromise : HeldLister → List ℕ → ListedBytes → List ℕ → Type 0
 FinishPromise h before answer after = listers.whole answer after ≡ finishOf h before
+
+-- `istrolf_salvage_pick(letter, words, places)`
+abbrev pub PickPromise : ℕ → List ℕ → List ℕ → Picked → List ℕ → Type 0
+PickPromise letter words before answer after = salvage.PickPromise letter words before answer after
+
+-- `istrolf_salvage_list(input, out)`
+unfoldable pub salvageOf : List ℕ → List ℕ → salvages.Whole
+salvageOf input out = salvages.packedWhole (salvaged.listOf input out)
+
+abbrev pub SalvagePromise : List ℕ → List ℕ → SalvagedBytes → List ℕ → Type 0
+SalvagePromise input before answer after = salvages.whole answer after ≡ salvageOf input before

@@ -9,6 +9,7 @@ mod boxes;
 mod encoder;
 mod listers;
 mod readers;
+mod salvages;
 
 // What is given back for what stands for no state.
 pub(crate) const BAD_STATE: u8 = 6;
@@ -103,4 +104,11 @@ pub struct ListedBytes {
     pub taken: usize,
     pub written: usize,
     pub next: HeldLister,
+}
+
+// What a salvage tells: whether every line had room is 0 or 1.
+#[repr(C)]
+pub struct SalvagedBytes {
+    pub whole: u8,
+    pub written: usize,
 }
