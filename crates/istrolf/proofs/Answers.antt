@@ -9,7 +9,7 @@ use Rattle.ballbox.specs.declared.Event.{Event}
 use Rattle.istrolf.specs.Readers as readers
 use Rattle.istrolf.specs.Listers as listers
 use Rattle.istrolf.specs.Bridges as bridges
-use Rattle.istrolf.specs.Promises.{FreshReaderPromise, ReaderStepPromise, ReadPromise, EncodePromise, FreshBoxPromise, BoxStepPromise, FreshListerPromise, FeedPromise, FinishPromise, FreshYardPromise, YardStepPromise, YardCheckPromise, FreshBridgePromise, ConvertPromise}
+use Rattle.istrolf.specs.Promises.{FreshReaderPromise, ReaderStepPromise, ReadPromise, EncodePromise, FreshBoxPromise, BoxStepPromise, FreshListerPromise, FeedPromise, FinishPromise, FreshYardPromise, YardStepPromise, YardCheckPromise, FreshBridgePromise, ConvertPromise, PickPromise, SalvagePromise}
 use Rattle.istrolf.specs.declared.HeldReader.{HeldReader}
 use Rattle.istrolf.specs.declared.FreshReader.{FreshReader}
 use Rattle.istrolf.specs.declared.ReadWord.{ReadWord}
@@ -26,6 +26,10 @@ use Rattle.istrolf.specs.declared.CheckedWords.{CheckedWords}
 use Rattle.istrolf.specs.declared.HeldBridge.{HeldBridge}
 use Rattle.istrolf.specs.declared.FreshBridge.{FreshBridge}
 use Rattle.istrolf.specs.declared.ConvertedWords.{ConvertedWords}
+use Rattle.istrolf.specs.declared.SalvagedBytes.{SalvagedBytes}
+use Rattle.istrolf.specs.Salvages as salvages
+use Rattle.salvage.specs.declared.Picked.{Picked}
+use Rattle.salvage.proofs.Picks as below
 
 listed-same : {a b : ListedBytes} {x y : List ℕ} → listers.whole a x ≡ listers.whole b y → (a ≡ b) × (x ≡ y)
 listed-same e = (ap (λ (l : listers.Whole). l .listed) e, ap (λ (l : listers.Whole). l .out) e)
@@ -78,3 +82,12 @@ one-fresh-bridge letter a b e f = e ∙ sym f
 pub one-convert : (h : HeldBridge) (words out : List ℕ) (a b : ConvertedWords) (x y : List ℕ)
     → ConvertPromise h words out a x → ConvertPromise h words out b y → (a ≡ b) × (x ≡ y)
 one-convert h words out a b x y e f = (ap (λ (l : bridges.Whole). l .told) (e ∙ sym f), ap (λ (l : bridges.Whole). l .out) (e ∙ sym f))
+
+pub one-pick : (letter : ℕ) (words places : List ℕ) (a b : Picked) (x y : List ℕ)
+    → PickPromise letter words places a x → PickPromise letter words places b y → (a ≡ b) × (x ≡ y)
+one-pick letter words places a b x y e f = below.one-pick letter words places e f
+
+pub one-salvage : (input out : List ℕ) (a b : SalvagedBytes) (x y : List ℕ)
+    → SalvagePromise input out a x → SalvagePromise input out b y → (a ≡ b) × (x ≡ y)
+one-salvage input out a b x y e f =
+    (ap (λ (w : salvages.Whole). w .told) (e ∙ sym f), ap (λ (w : salvages.Whole). w .out) (e ∙ sym f))

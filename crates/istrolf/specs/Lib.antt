@@ -4,6 +4,7 @@ pub mod Boxes
 pub mod Listers
 pub mod Yards
 pub mod Bridges
+pub mod Salvages
 pub mod Promises
 pub mod Runs
 pub mod Demand3

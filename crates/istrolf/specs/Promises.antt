@@ -14,10 +14,14 @@ use Rattle.listing.specs.Feeding as feeding
 use Rattle.listing.specs.Promises as listing
 use Rattle.yard.specs.Promises as yard
 use Rattle.bridge.specs.Promises as bridge
+use Rattle.salvage.specs.Promises as salvage
+use Rattle.salvage.specs.declared.Picked.{Picked}
+use Rattle.salvaged.specs.Promises as salvaged
 use Rattle.istrolf.specs.Readers as readers
 use Rattle.istrolf.specs.Boxes as boxes
 use Rattle.istrolf.specs.Listers as listers
 use Rattle.istrolf.specs.Bridges as bridges
+use Rattle.istrolf.specs.Salvages as salvages
 use Rattle.istrolf.specs.declared.HeldReader.{HeldReader}
 use Rattle.istrolf.specs.declared.FreshReader.{FreshReader}
 use Rattle.istrolf.specs.declared.ReadWord.{ReadWord}
@@ -35,6 +39,7 @@ use Rattle.istrolf.specs.declared.CheckedWords.{CheckedWords}
 use Rattle.istrolf.specs.declared.HeldBridge.{HeldBridge}
 use Rattle.istrolf.specs.declared.FreshBridge.{FreshBridge}
 use Rattle.istrolf.specs.declared.ConvertedWords.{ConvertedWords}
+use Rattle.istrolf.specs.declared.SalvagedBytes.{SalvagedBytes}
 
 -- `istrolf_reader_fresh(letter)`
 abbrev pub FreshReaderPromise : ℕ → FreshReader → Type 0
@@ -117,3 +122,14 @@ convertOf h words out =
 
 abbrev pub ConvertPromise : HeldBridge → List ℕ → List ℕ → ConvertedWords → List ℕ → Type 0
 ConvertPromise h words before answer after = bridges.whole answer after ≡ convertOf h words before
+
+-- `istrolf_salvage_pick(letter, words, places)`
+abbrev pub PickPromise : ℕ → List ℕ → List ℕ → Picked → List ℕ → Type 0
+PickPromise letter words before answer after = salvage.PickPromise letter words before answer after
+
+-- `istrolf_salvage_list(input, out)`
+unfoldable pub salvageOf : List ℕ → List ℕ → salvages.Whole
+salvageOf input out = salvages.packedWhole (salvaged.listOf input out)
+
+abbrev pub SalvagePromise : List ℕ → List ℕ → SalvagedBytes → List ℕ → Type 0
+SalvagePromise input before answer after = salvages.whole answer after ≡ salvageOf input before

@@ -11,6 +11,7 @@ mod encoder;
 mod listers;
 mod readers;
 mod yards;
+mod salvages;
 
 // What is given back for what stands for no state.
 pub(crate) const BAD_STATE: u8 = 6;
@@ -167,4 +168,11 @@ pub struct ConvertedWords {
     pub reports: usize,
     pub sent: usize,
     pub dropped: usize,
+}
+
+// What a salvage tells: whether every line had room is 0 or 1.
+#[repr(C)]
+pub struct SalvagedBytes {
+    pub whole: u8,
+    pub written: usize,
 }
