@@ -2,3 +2,9 @@
 pub mod Fronts
 pub mod Counted
 pub mod Lines
+pub mod Word
+pub mod Permitted
+pub mod Goodness
+pub mod Refusals
+pub mod Counting
+pub mod Joining

@@ -65,6 +65,19 @@ abbrev pub replyAmong : List Both → Reply
 replyAmong [] = reply.Nothing
 replyAmong (a ∷ answers) = orElse (a .reply) (replyAmong answers)
 
+-- the replies among answers, whole or broken, in their order
+abbrev pub toldIn : Reply → List Reply
+toldIn reply.Nothing = []
+toldIn reply.Ack = reply.Ack ∷ []
+toldIn (reply.Format f) = reply.Format f ∷ []
+toldIn (reply.Letters f m) = reply.Letters f m ∷ []
+toldIn (reply.Buttons n) = reply.Buttons n ∷ []
+toldIn (reply.Broken came) = reply.Broken came ∷ []
+
+abbrev pub repliesAmong : List Both → List Reply
+repliesAmong [] = []
+repliesAmong (a ∷ answers) = toldIn (a .reply) ++ repliesAmong answers
+
 abbrev pub ownAnswers : List Both → List Answer
 ownAnswers answers = map (λ (a : Both). a .answer) answers
 
