@@ -8,3 +8,4 @@ pub mod Goodness
 pub mod Refusals
 pub mod Counting
 pub mod Joining
+pub mod Apart
