@@ -116,7 +116,7 @@ step-good : (a : Awaited) (r : Reader) (w : ℕ) → good (toldReader r a) ≡ t
 step-good a r w g = rw (step-word (toldReader r a) w g) (word-fine (toldReader r a) w g .0)
 
 -- a legal telling
-tells : (a : Awaited) (r : Reader) (asked : Asked) → good (toldReader r a) ≡ true → not (isNone (kindOf asked)) ≡ true
+pub tells : (a : Awaited) (r : Reader) (asked : Asked) → good (toldReader r a) ≡ true → not (isNone (kindOf asked)) ≡ true
     → tellOf (toldReader r a) asked ≡ tellingOf success (toldReader r (awaiting (kindOf asked) none)) (a .came .count)
 unfolding tellOf
 tells a r asked g n = rw (g, not-true (isNone (kindOf asked)) n)

@@ -9,3 +9,4 @@ pub mod Refusals
 pub mod Counting
 pub mod Joining
 pub mod Apart
+pub mod Calls
