@@ -10,3 +10,4 @@ pub mod Counting
 pub mod Joining
 pub mod Apart
 pub mod Calls
+pub mod Passed
