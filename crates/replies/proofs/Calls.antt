@@ -133,7 +133,7 @@ reads-all s ws before a after g l h p =
     }
 
 -- legal items in two parts
-legal-left : (p q : List Item) → legalItems (p ++ q) ≡ true → (legalItems p ≡ true) × (legalItems q ≡ true)
+pub legal-left : (p q : List Item) → legalItems (p ++ q) ≡ true → (legalItems p ≡ true) × (legalItems q ≡ true)
 unfolding legalItems
 legal-left [] q l = (refl, l)
 legal-left (i ∷ p) q l =

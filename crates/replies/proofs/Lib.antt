@@ -11,3 +11,5 @@ pub mod Joining
 pub mod Apart
 pub mod Calls
 pub mod Passed
+pub mod Meeting
+pub mod Damaged

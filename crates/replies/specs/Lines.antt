@@ -1,14 +1,14 @@
 -- What the theorems on lines with tellings speak of: the replies as they were sent, and what is handed out.
-use Prim.Native.Nat.{ℕ, _*_, _%_, _≤_}
+use Prim.Native.Nat.{ℕ, _+_, _*_, _%_, _≤_}
 use mathlib.Core.Path.{_≡_}
 use mathlib.Core.Bool.{cond}
 use mathlib.Core.List.{List, [], _∷_, _++_}
 use lib.ListN.{length, take, drop, getD}
 use lib.Dec.{eqb}
 use lib.IntN.{ℤ}
-use Rattle.frames.specs.Passages.{Passage, silent, finished, broken}
+use Rattle.frames.specs.Passages.{Passage, silent, finished, broken, UnderWay, first, passageWords}
 use Rattle.wire.specs.Line.{letterOf}
-use Rattle.wire.specs.Messages.{Message, report, reply}
+use Rattle.wire.specs.Messages.{Latched, Message, report, reply, messageBytes}
 use Rattle.wire.specs.declared.Report.{Report}
 use Rattle.wire.specs.declared.Format.{Format}
 use Rattle.reader.specs.State.{fiveOf}
@@ -73,3 +73,18 @@ pub record HandsOut (f : Format) (items : List Item) (found : List Report) : Typ
 -- A fresh reader of f, given the items, tells these replies, in this order, and no others; what calls tell is told of them with `repliesOf` above.
 pub record TellsReplies (f : Format) (items : List Item) (replies : List Reply) : Type 0 where
   pub told : (a : NewToldReader) (done : List Done) → FreshPromise (letterOf f) a → ItemsPromise (a .reader) items done → repliesOf done ≡ replies
+
+-- The stretch `old`, behind the words `pre`, lies within the bytes of one report, a finished one, one that was broken off, or the one that is under way; and the
+-- passages other than that report.
+pub data InReport (pre old : List ℕ) : List (Passage Message) → UnderWay Message → List (Passage Message) → Type 0 where
+  in-finished : (before after : List (Passage Message)) (going : UnderWay Message) (l : Latched)
+      → length (passageWords messageBytes before) ≤ length pre
+      → length pre + length old ≤ length (passageWords messageBytes before) + length (messageBytes (report l))
+      → InReport pre old (before ++ (finished (report l) ∷ after)) going (before ++ after)
+  in-broken : (before after : List (Passage Message)) (going : UnderWay Message) (n : ℕ) (l : Latched)
+      → length (passageWords messageBytes before) ≤ length pre
+      → length pre + length old ≤ length (passageWords messageBytes before) + length (take n (messageBytes (report l)))
+      → InReport pre old (before ++ (broken n (report l) ∷ after)) going (before ++ after)
+  in-going : (passages : List (Passage Message)) (n : ℕ) (l : Latched)
+      → length (passageWords messageBytes passages) ≤ length pre
+      → InReport pre old passages (first n (report l)) passages
