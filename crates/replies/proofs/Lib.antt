@@ -13,3 +13,4 @@ pub mod Calls
 pub mod Passed
 pub mod Meeting
 pub mod Damaged
+pub mod Answering

@@ -19,6 +19,7 @@ use Rattle.wire.specs.declared.Format.the-variants.{Mm, Microsoft, Absolute, Re
 use Rattle.wire.proofs.Front.{size-between}
 use Rattle.wire.proofs.Codec.{bytes-length}
 use Rattle.ballbox.specs.Commands.{space, letterf, lettert, byte05}
+use Rattle.history.proofs.Asking.{HeldWith}
 use Rattle.replies.specs.Replying as replying
 use Rattle.replies.specs.Replying.{none, awaiting, isNone, finishes, more, told}
 use Rattle.replies.specs.Rules.{kindOf, continues}
@@ -160,8 +161,7 @@ zero-accepted Hexadecimal = refl
 module _ (f : Format) where
   -- a report that f holds, or a reply
   abbrev pub HeldOrReply : Message → Type 0
-  HeldOrReply (report l) = HeldBy f (report l)
-  HeldOrReply (reply bytes) = IsReply bytes
+  HeldOrReply m = HeldWith IsReply f m
 
   -- the line without its replies; a broken one "counts as a broken-off report", of which no byte has gone
   abbrev zeroReport : Message
