@@ -78,7 +78,7 @@ letter-byte ThreeByte = omega arith
 letter-byte Hexadecimal = omega arith
 
 -- the format that a known letter names
-formatOf : (l : ℕ) → known l ≡ true → (f : Format) × (l ≡ letterOf f)
+pub formatOf : (l : ℕ) → known l ≡ true → (f : Format) × (l ≡ letterOf f)
 formatOf l k = go (lettered l)
   where
     go : Lettered l → (f : Format) × (l ≡ letterOf f)
@@ -99,7 +99,7 @@ mode-byte m =
     (is-byte modeO m (omega arith)))
     (is-byte modeD m (omega arith))
 
-code-is : (f : Format) → codeByte (letterOf f) ≡ codeByteOf f
+pub code-is : (f : Format) → codeByte (letterOf f) ≡ codeByteOf f
 unfolding codeByte
 code-is f = rw (letter-named f)
 

@@ -14,3 +14,4 @@ pub mod Passed
 pub mod Meeting
 pub mod Damaged
 pub mod Answering
+pub mod Runs
