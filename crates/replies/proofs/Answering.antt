@@ -3,6 +3,7 @@ use Prim.Native.Nat.{ℕ, _≤_, _<_}
 use mathlib.Core.Path.{_≡_, refl, sym, _∙_, ap}
 use mathlib.Core.Bool.{Bool, true, false, not, cond, _||_}
 use mathlib.Core.List.{List, [], _∷_}
+use native.Mathlib.Nat.{mod-eq-of-lt}
 use native.Mathlib.Omega.{arith}
 use lib.ListN.{length}
 use lib.Dec.{eqb, leb}
@@ -28,9 +29,11 @@ use Rattle.history.proofs.Carries.{Alike}
 use Rattle.history.proofs.Asking.{HeldWith, Hosts, asking-command, asking-alike, asking-reply}
 use Rattle.replies.specs.Replying.{none, awaiting, isNone, codeByteOf, letterOfCode, isMode, letterFits, fits, more}
 use Rattle.replies.specs.Rules.{replyTo, continues}
-use Rattle.replies.specs.Runs.{hasReply, asksOrTells}
-use Rattle.replies.specs.declared.Kind.the-variants as kind
-use Rattle.replies.proofs.Passed.{IsReply}
+use Rattle.replies.specs.Lines.{replyTold}
+use Rattle.replies.specs.Runs.{hasReply, asksOrTells, answerOf}
+use Rattle.replies.specs.declared.Asked.the-variants.{Command}
+use Rattle.replies.specs.declared.Reply.the-variants as reply
+use Rattle.replies.proofs.Passed.{IsReply, askedFor}
 
 -- each reply, by its bytes
 is-ack : IsReply (0x06 ∷ [])
@@ -129,18 +132,63 @@ asks-alike b byte (an-f e) = rw e (record { format = refl; dormant = refl })
 asks-alike b byte (a-t e) = rw e (record { format = refl; dormant = refl })
 asks-alike b byte (a-05 e) = rw e (record { format = refl; dormant = refl })
 
-asks-leave : (f : Format) (b : BallBox) (byte : ℕ) → good b ≡ true → Asks byte → SoundPart messageBytes (HeldWith IsReply f) (unsentReply (box.replyTo b (commandOf byte)))
+pub asks-reply : (b : BallBox) (byte : ℕ) → good b ≡ true → Asks byte → IsReply (box.replyTo b (commandOf byte))
 unfolding commandOf known namedBy
-asks-leave f b byte g (a-space e) = rw e (is-ack, omega arith)
-asks-leave f b byte g (an-f e) =
+asks-reply b byte g (a-space e) = rw e is-ack
+asks-reply b byte g (an-f e) =
     let (h, same) = formatOf (b .settings .format) (letter-known (b .settings) (parts b g .settings)) in
-    rw e (rw (same, code-is h) (is-code h), omega arith)
-asks-leave f b byte g (a-t e) =
+    rw e (rw (same, code-is h) (is-code h))
+asks-reply b byte g (a-t e) =
     let s = parts b g .settings in
     let k = letter-known (b .settings) s in
     let m = mode-known (b .settings) s in
-    rw e (is-letters (b .settings .format) (b .settings .mode) k m (known-byte (b .settings .format) k) (mode-byte (b .settings .mode) m), omega arith)
-asks-leave f b byte g (a-05 e) = rw e (is-buttons (b .settings .buttons) (leb-true (b .settings .buttons) 7 (few (b .settings) (parts b g .settings))), omega arith)
+    rw e (is-letters (b .settings .format) (b .settings .mode) k m (known-byte (b .settings .format) k) (mode-byte (b .settings .mode) m))
+asks-reply b byte g (a-05 e) = rw e (is-buttons (b .settings .buttons) (leb-true (b .settings .buttons) 7 (few (b .settings) (parts b g .settings))))
+
+unsent-sound : (f : Format) (bytes : List ℕ) → IsReply bytes → SoundPart messageBytes (HeldWith IsReply f) (unsentReply bytes)
+unsent-sound f [] r = tt
+unsent-sound f (b ∷ bytes) r = (r, omega arith)
+
+-- the telling that it answers
+code-not-ack : (f : Format) → eqb (codeByteOf f) 0x06 ≡ false
+code-not-ack Mm = refl
+code-not-ack Microsoft = refl
+code-not-ack Absolute = refl
+code-not-ack Relative = refl
+code-not-ack FiveByte = refl
+code-not-ack ThreeByte = refl
+code-not-ack Hexadecimal = refl
+
+pub asks-for : (b : BallBox) (byte : ℕ) → good b ≡ true → Asks byte → askedFor (box.replyTo b (commandOf byte)) ≡ Command byte
+unfolding commandOf known namedBy
+asks-for b byte g (a-space e) = rw e
+asks-for b byte g (an-f e) =
+    let (h, same) = formatOf (b .settings .format) (letter-known (b .settings) (parts b g .settings)) in
+    rw e (rw (same, code-is h, code-not-ack h))
+asks-for b byte g (a-t e) = rw e
+asks-for b byte g (a-05 e) = rw e
+
+-- and what it tells
+letter-again : (f : Format) → letterOfCode (codeByteOf f) ≡ letterOf f
+unfolding letterOfCode
+letter-again Mm = refl
+letter-again Microsoft = refl
+letter-again Absolute = refl
+letter-again Relative = refl
+letter-again FiveByte = refl
+letter-again ThreeByte = refl
+letter-again Hexadecimal = refl
+
+pub asks-told : (b : BallBox) (byte : ℕ) → good b ≡ true → Asks byte → replyTold (box.replyTo b (commandOf byte)) ≡ answerOf b byte
+unfolding commandOf known namedBy
+asks-told b byte g (a-space e) = rw e
+asks-told b byte g (an-f e) =
+    let (h, same) = formatOf (b .settings .format) (letter-known (b .settings) (parts b g .settings)) in
+    rw e (rw (same, code-is h, code-not-ack h, letter-again h))
+asks-told b byte g (a-t e) = rw e
+asks-told b byte g (a-05 e) =
+    let small : b .settings .buttons ≤ 7 = leb-true (b .settings .buttons) 7 (few (b .settings) (parts b g .settings)) in
+    rw e (ap reply.Buttons (mod-eq-of-lt (omega arith)))
 
 -- the host bytes of a run with replies
 pub with-replies : Hosts IsReply asksOrTells
@@ -149,5 +197,5 @@ with-replies =
       stays = λ b byte t.
           or-else (asksForReports byte) (hasReply byte) (λ a. asking-alike b (commandOf byte) (asking-command byte a)) (λ h. asks-alike b byte (asks-by byte h)) t;
       leaves = λ f b byte g t.
-          or-else (asksForReports byte) (hasReply byte) (λ a. rw (asking-reply b (commandOf byte) (asking-command byte a)) tt) (λ h. asks-leave f b byte g (asks-by byte h)) t;
+          or-else (asksForReports byte) (hasReply byte) (λ a. rw (asking-reply b (commandOf byte) (asking-command byte a)) tt) (λ h. unsent-sound f (box.replyTo b (commandOf byte)) (asks-reply b byte g (asks-by byte h))) t;
     }

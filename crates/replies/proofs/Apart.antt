@@ -29,7 +29,7 @@ use Rattle.replies.specs.Good.{good}
 use Rattle.replies.specs.Rules.{toldReader, kindOf, heard, refusing, continues, wordOf}
 use Rattle.replies.specs.Line.{toldIn}
 use Rattle.replies.specs.Promises.{tellOf, stepOf, tellingOf}
-use Rattle.replies.specs.Items.{Item, word, telling, asItems, wordsIn, isLegal, legalItems, Done, nextOf, ItemsPromise, ownAnswersOf, repliesOf}
+use Rattle.replies.specs.Items.{Item, word, telling, asItems, wordsIn, isLegal, legalItems, Done, nextOf, afterDone, ItemsPromise, ownAnswersOf, repliesOf}
 use Rattle.replies.specs.Items as items
 use Rattle.replies.specs.Clear.{awaitedThen, awaitedBehind}
 use Rattle.replies.specs.declared.Asked.{Asked}
@@ -93,6 +93,12 @@ ownOver a r [] = []
 ownOver a r (word w ∷ is) = readOn a r w .answer ∷ ownOver (awaitedThen a (word w)) (readOn a r w .next) is
 ownOver a r (telling asked ∷ is) = ownOver (awaitedThen a (telling asked)) r is
 
+-- the report reader behind items
+abbrev readerBehind : Awaited → Reader → List Item → Reader
+readerBehind a r [] = r
+readerBehind a r (word w ∷ is) = readerBehind (awaitedThen a (word w)) (readOn a r w .next) is
+readerBehind a r (telling asked ∷ is) = readerBehind (awaiting (kindOf asked) none) r is
+
 -- a legal word, by halves
 record Halves (a : Awaited) (r : Reader) (w : ℕ) (h : Heard) : Type 0 where
   next : h .next ≡ toldReader (readOn a r w .next) (awaitedThen a (word w))
@@ -125,10 +131,11 @@ tells a r asked g n = rw (g, not-true (isNone (kindOf asked)) n)
 pub record Decomposed (a : Awaited) (r : Reader) (is : List Item) (done : List Done) : Type 0 where
   pub own : ownAnswersOf done ≡ ownOver a r is
   pub replies : repliesOf done ≡ repliesOver a is
+  pub state : afterDone (toldReader r a) done ≡ toldReader (readerBehind a r is) (awaitedBehind a is)
 
 pub decomposed : (is : List Item) (a : Awaited) (r : Reader) → good (toldReader r a) ≡ true → legalItems is ≡ true → Decomposed a r is (doneOf (toldReader r a) is)
 unfolding doneOf ownOver repliesOver legalItems
-decomposed [] a r g l = record { own = refl; replies = refl }
+decomposed [] a r g l = record { own = refl; replies = refl; state = refl }
 decomposed (word w ∷ is) a r g l =
     let h = halves a r w g (leb-true w silence (left (leb w silence) (legalItems is) l)) in
     let k : good (toldReader (readOn a r w .next) (awaitedThen a (word w))) ≡ true = rw (h .next) at (step-good a r w g) in
@@ -136,11 +143,12 @@ decomposed (word w ∷ is) a r g l =
     record {
       own = rw (h .next, h .answer) (ap (λ (x : List Answer). readOn a r w .answer ∷ x) (later .own));
       replies = rw (h .next, h .reply) (ap (λ (x : List Reply). toldIn (replyOf a w) ++ x) (later .replies));
+      state = rw (h .next) (later .state);
     }
 decomposed (telling asked ∷ is) a r g l =
     let t = tells a r asked g (left (not (isNone (kindOf asked))) (legalItems is) l) in
     let later = decomposed is (awaiting (kindOf asked) none) r (told-fine (toldReader r a) (kindOf asked) g) (right (not (isNone (kindOf asked))) (legalItems is) l) in
-    record { own = rw t (later .own); replies = rw t (later .replies) }
+    record { own = rw t (later .own); replies = rw t (later .replies); state = rw t (later .state) }
 
 -- the report reader hands out what it hands out of the words that it is given
 same-handed : (x : Answer) (l k : List Answer) → handedOut l ≡ handedOut k → handedOut (x ∷ l) ≡ handedOut (x ∷ k)
@@ -176,19 +184,13 @@ replies-append [] q a = refl
 replies-append (word w ∷ p) q a = rw (replies-append p q (awaitedThen a (word w)), append-assoc)
 replies-append (telling asked ∷ p) q a = replies-append p q (awaiting (kindOf asked) none)
 
--- the report reader behind items
-abbrev readerBehind : Awaited → Reader → List Item → Reader
-readerBehind a r [] = r
-readerBehind a r (word w ∷ is) = readerBehind (awaitedThen a (word w)) (readOn a r w .next) is
-readerBehind a r (telling asked ∷ is) = readerBehind (awaiting (kindOf asked) none) r is
-
 own-append : (p q : List Item) (a : Awaited) (r : Reader) → ownOver a r (p ++ q) ≡ ownOver a r p ++ ownOver (awaitedBehind a p) (readerBehind a r p) q
 unfolding ownOver
 own-append [] q a r = refl
 own-append (word w ∷ p) q a r = ap (λ (x : List Answer). readOn a r w .answer ∷ x) (own-append p q (awaitedThen a (word w)) (readOn a r w .next))
 own-append (telling asked ∷ p) q a r = own-append p q (awaiting (kindOf asked) none) r
 
-reader-behind : (is : List Item) (a : Awaited) (r : Reader) → readerBehind a r is ≡ readerAfter r (stepsOf r (given a is))
+pub reader-behind : (is : List Item) (a : Awaited) (r : Reader) → readerBehind a r is ≡ readerAfter r (stepsOf r (given a is))
 unfolding given stepsOf
 reader-behind [] a r = refl
 reader-behind (word w ∷ is) a r = go (continues a w) refl (reader-behind is (awaitedThen a (word w)) (readOn a r w .next))

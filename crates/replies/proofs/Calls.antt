@@ -27,7 +27,7 @@ use Rattle.replies.specs.Good.{good}
 use Rattle.replies.specs.Rules.{kindOf, wordOf}
 use Rattle.replies.specs.Line.{Long, whole, Both, hears, toldIn, replyAmong, repliesAmong, ownAnswers, counted, lineOf}
 use Rattle.replies.specs.Promises.{ReadPromise, TellPromise, tellOf, stepOf, readOf}
-use Rattle.replies.specs.Items.{Item, word, telling, asItems, legalItems, Done, ownAnswersOf, repliesOf, Call, long, tell, itemsOf, Called, was-read, was-told, CallsPromise, AllTaken, sliceAfter, reportsCalled, repliesCalled, TookAll}
+use Rattle.replies.specs.Items.{Item, word, telling, asItems, legalItems, Done, afterDone, ownAnswersOf, repliesOf, Call, long, tell, itemsOf, Called, was-read, was-told, CallsPromise, AllTaken, sliceAfter, reportsCalled, repliesCalled, TookAll}
 use Rattle.replies.specs.Items as items
 use Rattle.replies.specs.declared.Reply.{Reply}
 use Rattle.replies.specs.declared.ToldReader.{ToldReader}
@@ -42,16 +42,11 @@ use Rattle.replies.proofs.Refusals.{word-taken}
 use Rattle.replies.proofs.Counting.{once}
 use Rattle.replies.proofs.Apart.{doneOf, tells}
 
--- the answers to words, and the reader behind what was done
+-- the answers to words
 abbrev bothsOf : List Done → List Both
 bothsOf [] = []
 bothsOf (items.heard h ∷ done) = both (h .reply) (h .answer) ∷ bothsOf done
 bothsOf (items.told t ∷ done) = bothsOf done
-
-abbrev afterDone : ToldReader → List Done → ToldReader
-afterDone s [] = s
-afterDone s (items.heard h ∷ done) = afterDone (h .next) done
-afterDone s (items.told t ∷ done) = afterDone (t .next) done
 
 boths-own : (done : List Done) → ownAnswers (bothsOf done) ≡ ownAnswersOf done
 boths-own [] = refl

@@ -105,7 +105,7 @@ module _ (f : Format) (items : List Item) (legal : legalItems items ≡ true) wh
   tells-replies rs h = record { told = λ a done n q. replies-told a n done q ∙ h }
 
 -- the items of a line are legal
-legal-words : (ws : List ℕ) → legalItems (asItems ws) ≡ lineWords ws
+pub legal-words : (ws : List ℕ) → legalItems (asItems ws) ≡ lineWords ws
 unfolding legalItems lineWords
 legal-words [] = refl
 legal-words (w ∷ ws) = rw (legal-words ws)
@@ -123,7 +123,7 @@ unfolding lineWords
 no-words zero = refl
 no-words (suc n) = refl
 
-legal-reply : (n : ℕ) (bytes : List ℕ) (a : Awaited) → WholeFrom a bytes → lineWords (take n bytes) ≡ true
+pub legal-reply : (n : ℕ) (bytes : List ℕ) (a : Awaited) → WholeFrom a bytes → lineWords (take n bytes) ≡ true
 unfolding lineWords
 legal-reply zero bytes a h = refl
 legal-reply (suc n) [] a h = absurd h

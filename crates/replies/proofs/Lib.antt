@@ -15,3 +15,4 @@ pub mod Meeting
 pub mod Damaged
 pub mod Answering
 pub mod Runs
+pub mod There

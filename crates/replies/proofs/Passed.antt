@@ -77,7 +77,7 @@ over-last : (a : Awaited) (b : ℕ) → continues a b ≡ true → finishes a �
 unfolding given repliesOver
 over-last a b e f = record { gives = rw e; awaits = rw (e, f); tells = rw (e, f) }
 
-over-whole : (bytes : List ℕ) (a : Awaited) → WholeFrom a bytes → Over a (asItems bytes) [] replying.nothing (toldIn (valueFrom a bytes) ++ [])
+pub over-whole : (bytes : List ℕ) (a : Awaited) → WholeFrom a bytes → Over a (asItems bytes) [] replying.nothing (toldIn (valueFrom a bytes) ++ [])
 over-whole [] a h = absurd h
 over-whole (b ∷ []) a h = over-last a b (h .0) (h .1)
 over-whole (b ∷ c ∷ bytes) a h = over-append {p = word b ∷ []} {q = asItems (c ∷ bytes)} (over-next a b (h .0) (h .1)) (over-whole (c ∷ bytes) (more a b) (h .2))

@@ -41,29 +41,15 @@ use Rattle.replies.specs.Items.{Item, word, telling, asItems}
 use Rattle.replies.specs.Runs.{hasReply, asksOrTells, tellingOf, itemsGiven}
 use Rattle.replies.specs.declared.Asked.the-variants.{Command}
 use Rattle.replies.proofs.Passed.{IsReply, askedFor, passageItems, lineItems, partItems, items-append}
-use Rattle.replies.proofs.Answering.{Asks, a-space, an-f, a-t, a-05, asks-by, formatOf, code-is, with-replies}
+use Rattle.replies.proofs.Answering.{asks-by, asks-reply, asks-for, with-replies}
 
 -- a command's telling stands in front of its reply
-code-not-ack : (f : Format) → eqb (codeByteOf f) 0x06 ≡ false
-code-not-ack Mm = refl
-code-not-ack Microsoft = refl
-code-not-ack Absolute = refl
-code-not-ack Relative = refl
-code-not-ack FiveByte = refl
-code-not-ack ThreeByte = refl
-code-not-ack Hexadecimal = refl
-
 abbrev unsent : BallBox → ℕ → List Item
 unsent b byte = partItems (unsentReply (commands.replyTo b (commandOf byte)))
 
-asks-told : (b : BallBox) (byte : ℕ) → good b ≡ true → Asks byte → tellingOf (Host byte) ≡ unsent b byte
-unfolding commandOf known namedBy replyTo
-asks-told b byte g (a-space e) = rw e
-asks-told b byte g (an-f e) =
-    let (h, same) = formatOf (b .settings .format) (letter-known (b .settings) (parts b g .settings)) in
-    rw e (rw (same, code-is h, code-not-ack h))
-asks-told b byte g (a-t e) = rw e
-asks-told b byte g (a-05 e) = rw e
+unsent-items : (bytes : List ℕ) → IsReply bytes → partItems (unsentReply bytes) ≡ telling (askedFor bytes) ∷ []
+unsent-items [] r = absurd (r .whole)
+unsent-items (b ∷ bytes) r = refl
 
 host-told : (b : BallBox) (byte : ℕ) → good b ≡ true → asksOrTells byte ≡ true → tellingOf (Host byte) ≡ unsent b byte
 host-told b byte g t = go (isNone (replyTo byte)) refl
@@ -73,7 +59,9 @@ host-told b byte g t = go (isNone (replyTo byte)) refl
       where
         asks-only : isNone (replyTo byte) ≡ true → asksForReports byte ≡ true
         asks-only n = or-else (asksForReports byte) (hasReply byte) (λ a. a) (λ h. absurd (holds (rw n at h))) t
-    go false n = asks-told b byte g (asks-by byte (rw n))
+    go false n =
+        let asks = asks-by byte (rw n) in
+        rw (n, unsent-items (commands.replyTo b (commandOf byte)) (asks-reply b byte g asks), asks-for b byte g asks)
 
 -- items of words, one list behind the other
 as-items : (u v w : List ℕ) → u ++ v ≡ w → asItems u ++ asItems v ≡ asItems w

@@ -52,6 +52,10 @@ abbrev pub nextOf : Done → ToldReader
 nextOf (heard h) = h .next
 nextOf (told t) = t .next
 
+abbrev pub afterDone : ToldReader → List Done → ToldReader
+afterDone s [] = s
+afterDone s (d ∷ done) = afterDone (nextOf d) done
+
 abbrev pub ItemPromise : ToldReader → Item → Done → Type 0
 ItemPromise s (word w) (heard h) = StepPromise s w h
 ItemPromise s (word w) (told t) = ⊥

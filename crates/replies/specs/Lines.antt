@@ -3,7 +3,7 @@ use Prim.Native.Nat.{ℕ, _+_, _*_, _%_, _≤_}
 use mathlib.Core.Path.{_≡_}
 use mathlib.Core.Bool.{cond}
 use mathlib.Core.List.{List, [], _∷_, _++_}
-use lib.ListN.{length, take, drop, getD}
+use lib.ListN.{length, take, drop, getD, replicate}
 use lib.Dec.{eqb}
 use lib.IntN.{ℤ}
 use Rattle.frames.specs.Passages.{Passage, silent, finished, broken, UnderWay, first, passageWords}
@@ -14,12 +14,14 @@ use Rattle.wire.specs.declared.Format.{Format}
 use Rattle.reader.specs.State.{fiveOf}
 use Rattle.reader.specs.Counts.{handedOut}
 use Rattle.reader.specs.declared.Answer.the-variants as answer
-use Rattle.replies.specs.Replying.{came, none, letterOfCode}
+use Rattle.replies.specs.Replying.{came, none, nothing, letterOfCode}
+use Rattle.replies.specs.Rules.{toldReader}
 use Rattle.replies.specs.Promises.{FreshPromise}
-use Rattle.replies.specs.Items.{Item, Done, ItemsPromise, ownAnswersOf, repliesOf, Call, itemsOf, Called, CallsPromise, sliceAfter, TookAll}
+use Rattle.replies.specs.Items.{Item, Done, afterDone, ItemsPromise, ownAnswersOf, repliesOf, Call, itemsOf, Called, CallsPromise, sliceAfter, TookAll}
 use Rattle.replies.specs.declared.Came.{Came}
 use Rattle.replies.specs.declared.Reply.{Reply}
 use Rattle.replies.specs.declared.Reply.the-variants as replies
+use Rattle.replies.specs.declared.ToldReader.{ToldReader}
 use Rattle.replies.specs.declared.NewToldReader.{NewToldReader}
 
 -- a reply by its bytes: ACK, the byte of a format, the letters of format and mode, or "buttons, 0, 0"
@@ -88,3 +90,9 @@ pub data InReport (pre old : List ℕ) : List (Passage Message) → UnderWay Mes
   in-going : (passages : List (Passage Message)) (n : ℕ) (l : Latched)
       → length (passageWords messageBytes passages) ≤ length pre
       → InReport pre old passages (first n (report l)) passages
+
+-- A told reader's answers to a whole reply: it is told at the last byte, all others are nothing, and the report reader is as it was.
+pub record ReadsReply (s : ToldReader) (bytes : List ℕ) (value : Reply) (done : List Done) : Type 0 where
+  pub told : repliesOf done ≡ value ∷ []
+  pub silent : ownAnswersOf done ≡ replicate (length bytes) answer.Nothing
+  pub after : afterDone s done ≡ toldReader (s .reader) nothing

@@ -2,8 +2,10 @@
 use Prim.Native.Nat.{ℕ}
 use mathlib.Core.Bool.{Bool, not, cond, _||_}
 use mathlib.Core.List.{List, [], _∷_, _++_}
-use Rattle.ballbox.specs.Commands.{asksForReports}
+use lib.Dec.{eqb}
+use Rattle.ballbox.specs.Commands.{asksForReports, space, letterf, lettert}
 use Rattle.ballbox.specs.Promises.{sentWords}
+use Rattle.ballbox.specs.declared.BallBox.{BallBox}
 use Rattle.ballbox.specs.declared.Event.{Event}
 use Rattle.ballbox.specs.declared.Event.the-variants.{Motion, Buttons, Host, Latch, Send, Period}
 use Rattle.ballbox.specs.declared.Stepped.{Stepped}
@@ -12,6 +14,8 @@ use Rattle.replies.specs.Replying.{isNone}
 use Rattle.replies.specs.Rules.{replyTo}
 use Rattle.replies.specs.Items.{Item, telling, asItems}
 use Rattle.replies.specs.declared.Asked.the-variants.{Command}
+use Rattle.replies.specs.declared.Reply.{Reply}
+use Rattle.replies.specs.declared.Reply.the-variants as reply
 
 -- "runs with `f` and `t`": no host byte but J K L R M Q N O D P, and those that have a reply: `f`, `t`, and a space and 05H too
 abbrev pub hasReply : ℕ → Bool
@@ -22,6 +26,14 @@ asksOrTells byte = asksForReports byte || hasReply byte
 
 abbrev pub onlyAsksOrTells : List Event → Bool
 onlyAsksOrTells events = allHosts asksOrTells events
+
+-- what the reply to a command tells: ACK, or the format, the format and the mode, or the buttons that the box has
+abbrev pub answerOf : BallBox → ℕ → Reply
+answerOf b byte =
+    cond (eqb byte space) reply.Ack
+    (cond (eqb byte letterf) (reply.Format (b .settings .format))
+    (cond (eqb byte lettert) (reply.Letters (b .settings .format) (b .settings .mode))
+    (reply.Buttons (b .settings .buttons))))
 
 -- "the reader is told of each"
 abbrev pub tellingOf : Event → List Item
