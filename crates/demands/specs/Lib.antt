@@ -15,3 +15,4 @@ pub mod Account
 pub mod Said
 pub mod Figures
 pub mod Strength
+pub mod Replies
