@@ -16,3 +16,4 @@ pub mod Said
 pub mod Figures
 pub mod Strength
 pub mod Replies
+pub mod WorkedReplies

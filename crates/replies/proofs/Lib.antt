@@ -16,3 +16,6 @@ pub mod Damaged
 pub mod Answering
 pub mod Runs
 pub mod There
+pub mod Computing
+pub mod Examples
+pub mod Wrong
