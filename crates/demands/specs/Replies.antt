@@ -34,10 +34,10 @@ use Rattle.replies.specs.Rules.{kindOf, refusing}
 use Rattle.replies.specs.Line.{Long, whole, stopped, unused, asOne, withRefusal}
 use Rattle.replies.specs.Counts.{wholeBytes, brokenBytes}
 use Rattle.replies.specs.Promises.{FreshPromise, GoodPromise, TellPromise, StepPromise, ReadPromise, noReply, tellingOf, beforeBad}
-use Rattle.replies.specs.Items.{Item, telling, asItems, wordsIn, Done, ItemsPromise}
-use Rattle.replies.specs.Clear.{Clear}
-use Rattle.replies.specs.Lines.{repliesSent, HandsOutAt, HandsOut, TellsReplies, InReport, ReadsReply}
-use Rattle.replies.specs.Runs.{hasReply, answerOf, onlyAsksOrTells, itemsGiven}
+use Rattle.tellings.specs.Items.{Item, telling, asItems, wordsIn, Done, ItemsPromise}
+use Rattle.tellings.specs.Clear.{Clear}
+use Rattle.tellings.specs.Lines.{repliesSent, HandsOutAt, HandsOut, TellsReplies, InReport, ReadsReply}
+use Rattle.tellings.specs.Runs.{hasReply, answerOf, onlyAsksOrTells, itemsGiven}
 use Rattle.replies.specs.declared.Asked.{Asked}
 use Rattle.replies.specs.declared.Asked.the-variants.{Command, Waking}
 use Rattle.replies.specs.declared.Reply.the-variants as reply
@@ -51,11 +51,11 @@ use Rattle.replies.proofs.Refusals as refusals
 use Rattle.replies.proofs.Goodness as goodness
 use Rattle.replies.proofs.Counting as counting
 use Rattle.replies.proofs.Joining as joining
-use Rattle.replies.proofs.There as there
-use Rattle.replies.proofs.Passed.{IsReply, lineItems, partItems}
-use Rattle.replies.proofs.Damaged as damaged
-use Rattle.replies.proofs.Answering.{with-replies}
-use Rattle.replies.proofs.Runs.{run-items}
+use Rattle.tellings.proofs.There as there
+use Rattle.tellings.proofs.Passed.{IsReply, lineItems, partItems}
+use Rattle.tellings.proofs.Damaged as damaged
+use Rattle.tellings.proofs.Answering.{with-replies}
+use Rattle.tellings.proofs.Runs.{run-items}
 use Rattle.demands.specs.Demand1.{One, OneWith}
 use Rattle.demands.specs.Demand3 as narrow
 use Rattle.demands.specs.Demand3.{Front, sent, stillGoing}

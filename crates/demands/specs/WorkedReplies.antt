@@ -18,12 +18,12 @@ use Rattle.ballbox.specs.declared.Event.{Event}
 use Rattle.ballbox.specs.declared.Event.the-variants.{Motion, Buttons, Host}
 use Rattle.history.specs.Runs.{answersTo}
 use Rattle.history.proofs.Permitted.{answer-permitted, answers-permitted}
-use Rattle.replies.specs.Items.{Item, telling, asItems}
-use Rattle.replies.specs.Lines.{HandsOut, HandsOutAt, TellsReplies, in-finished}
-use Rattle.replies.specs.Runs.{onlyAsksOrTells, itemsGiven}
+use Rattle.tellings.specs.Items.{Item, telling, asItems}
+use Rattle.tellings.specs.Lines.{HandsOut, HandsOutAt, TellsReplies, in-finished}
+use Rattle.tellings.specs.Runs.{onlyAsksOrTells, itemsGiven}
 use Rattle.replies.specs.declared.Asked.the-variants.{Command}
 use Rattle.replies.specs.declared.Reply.the-variants as told
-use Rattle.replies.proofs.Computing as replies
+use Rattle.tellings.proofs.Computing as replies
 use Rattle.demands.specs.Computing.{computing}
 use Rattle.demands.specs.Demand3.{sent, stillGoing, from-then-on}
 use Rattle.demands.specs.Worked.{slots, setTo, moved, press, fast}

@@ -1,4 +1,4 @@
--- All that a worked line with tellings computes with: what says `unfolding computing` sees through the rules of replies, and of the report reader.
+-- All that a worked call computes with: what says `unfolding computing` sees through the rules of replies, and of the report reader.
 use Rattle.reader.proofs.Computing as reader
 use Rattle.replies.specs.Replying.{letterOfCode, letterFits, fits, more, broken, placed}
 use Rattle.replies.specs.Replying as replying
@@ -6,9 +6,7 @@ use Rattle.replies.specs.Good.{good}
 use Rattle.replies.specs.Rules.{replyTo, keep, pass, wordOf}
 use Rattle.replies.specs.Line.{lineOf}
 use Rattle.replies.specs.Promises.{tellOf, stepOf, readOf}
-use Rattle.replies.specs.Items.{legalItems}
-use Rattle.replies.proofs.Apart.{doneOf}
 
 unfoldable pub computing : Unit {0}
-unfolding reader.computing letterOfCode letterFits fits more broken placed replying.good good replyTo keep pass wordOf lineOf tellOf stepOf readOf legalItems doneOf
+unfolding reader.computing letterOfCode letterFits fits more broken placed replying.good good replyTo keep pass wordOf lineOf tellOf stepOf readOf
 computing = tt

@@ -1,4 +1,5 @@
--- The laws of a reader that is told of replies.
+-- The laws of a reader that is told of replies: one answer (Permitted), good readers stay good (Goodness), what a refusal leaves (Refusals), every byte is somewhere
+-- (Counting), Joining, wrong answers (Wrong) and what they compute with (Computing); and what their proofs and those of the functions share.
 pub mod Fronts
 pub mod Counted
 pub mod Lines
@@ -8,14 +9,5 @@ pub mod Goodness
 pub mod Refusals
 pub mod Counting
 pub mod Joining
-pub mod Apart
-pub mod Calls
-pub mod Passed
-pub mod Meeting
-pub mod Damaged
-pub mod Answering
-pub mod Runs
-pub mod There
 pub mod Computing
-pub mod Examples
 pub mod Wrong

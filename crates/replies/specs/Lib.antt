@@ -1,5 +1,5 @@
 -- A reader that is told of replies: the reply that is awaited (Replying), what a telling and a word do (Rules), a good one (Good), what is counted (Counts), a long
--- read (Line, and the reply at its front in Fronts), what is promised (Promises), and lines with tellings (Items), where no reply is awaited (Clear), what is handed out of them (Lines), and runs of the box (Runs).
+-- read (Line, and the reply at its front in Fronts), and what is promised (Promises).
 pub mod Replying
 pub mod Good
 pub mod Rules
@@ -7,7 +7,3 @@ pub mod Counts
 pub mod Line
 pub mod Fronts
 pub mod Promises
-pub mod Items
-pub mod Clear
-pub mod Lines
-pub mod Runs

@@ -22,25 +22,25 @@ use Rattle.reader.specs.declared.Answer.{Answer}
 use Rattle.reader.specs.declared.Answer.the-variants as answer
 use Rattle.reader.proofs.Counted as report
 use Rattle.reader.proofs.Handed.{numbers-length, numbers-append}
 use Rattle.replies.specs.Replying.{isNone}
 use Rattle.replies.specs.Good.{good}
 use Rattle.replies.specs.Rules.{kindOf, wordOf}
 use Rattle.replies.specs.Line.{Long, whole, Both, hears, toldIn, replyAmong, repliesAmong, ownAnswers, counted, lineOf}
 use Rattle.replies.specs.Promises.{ReadPromise, TellPromise, tellOf, stepOf, readOf}
-use Rattle.replies.specs.Items.{Item, word, telling, asItems, legalItems, Done, afterDone, ownAnswersOf, repliesOf, Call, long, tell, itemsOf, Called, was-read, was-told, CallsPromise, AllTaken, sliceAfter, reportsCalled, repliesCalled, TookAll}
-use Rattle.replies.specs.Items as items
+use Rattle.tellings.specs.Items.{Item, word, telling, asItems, legalItems, Done, afterDone, ownAnswersOf, repliesOf, Call, long, tell, itemsOf, Called, was-read, was-told, CallsPromise, AllTaken, sliceAfter, reportsCalled, repliesCalled, TookAll}
+use Rattle.tellings.specs.Items as items
 use Rattle.replies.specs.declared.Reply.{Reply}
 use Rattle.replies.specs.declared.ToldReader.{ToldReader}
 use Rattle.replies.specs.declared.Telling.{Telling}
 use Rattle.replies.specs.declared.Heard.{Heard}
 use Rattle.replies.specs.declared.HeardLine.{HeardLine}
 use Rattle.replies.proofs.Counted.{both, own-written}
 use Rattle.replies.proofs.Word.{word-fine}
 use Rattle.replies.proofs.Permitted.{read-is}
 use Rattle.replies.proofs.Goodness.{step-word, read-line, tell-stays-good}
 use Rattle.replies.proofs.Refusals.{word-taken}
 use Rattle.replies.proofs.Counting.{once}
-use Rattle.replies.proofs.Apart.{doneOf, tells}
+use Rattle.tellings.proofs.Apart.{doneOf, tells}
 
 -- the answers to words
 abbrev bothsOf : List Done → List Both

@@ -22,23 +22,23 @@ use Rattle.reader.specs.Runs.{stepsOf}
 use Rattle.reader.specs.declared.Reader.{Reader}
 use Rattle.reader.specs.declared.Answer.{Answer}
 use Rattle.reader.specs.declared.Answer.the-variants as answer
 use Rattle.replies.specs.Good as told
 use Rattle.replies.specs.Replying.{none, awaiting, nothing, isNone, codeByteOf, letterOfCode, fits, finishes, more}
 use Rattle.replies.specs.Rules.{toldReader, replyTo, kindOf, continues}
 use Rattle.replies.specs.Line.{toldIn}
-use Rattle.replies.specs.Items.{telling, asItems, legalItems, Done, afterDone, ItemsPromise, ownAnswersOf, repliesOf}
-use Rattle.replies.specs.Lines.{ReadsReply}
-use Rattle.replies.specs.Runs.{hasReply, answerOf}
+use Rattle.tellings.specs.Items.{telling, asItems, legalItems, Done, afterDone, ItemsPromise, ownAnswersOf, repliesOf}
+use Rattle.tellings.specs.Lines.{ReadsReply}
+use Rattle.tellings.specs.Runs.{hasReply, answerOf}
 use Rattle.replies.specs.declared.Asked.{Asked}
 use Rattle.replies.specs.declared.Asked.the-variants.{Command, Waking}
 use Rattle.replies.specs.declared.Awaited.{Awaited}
 use Rattle.replies.specs.declared.Reply.{Reply}
 use Rattle.replies.specs.declared.Reply.the-variants as reply
 use Rattle.replies.specs.declared.ToldReader.{ToldReader}
-use Rattle.replies.proofs.Apart.{done-are, given, ownOver, repliesOver, decomposed, reader-behind}
-use Rattle.replies.proofs.Passed.{WholeFrom, valueFrom, over-whole}
-use Rattle.replies.proofs.Damaged.{legal-words, legal-reply}
-use Rattle.replies.proofs.Answering.{asks-by, asks-reply, asks-for, asks-told}
+use Rattle.tellings.proofs.Apart.{done-are, given, ownOver, repliesOver, decomposed, reader-behind}
+use Rattle.tellings.proofs.Passed.{WholeFrom, valueFrom, over-whole}
+use Rattle.tellings.proofs.Damaged.{legal-words, legal-reply}
+use Rattle.tellings.proofs.Answering.{asks-by, asks-reply, asks-for, asks-told}
 
 -- the bytes of a reply are answered by nothing
 own-reply : (bytes : List ℕ) (a : Awaited) (r : Reader) → WholeFrom a bytes → ownOver a r (asItems bytes) ≡ replicate (length bytes) answer.Nothing

@@ -14,15 +14,15 @@ use Rattle.wire.specs.declared.Format.{Format}
 use Rattle.reader.specs.State.{fiveOf}
 use Rattle.reader.specs.Counts.{handedOut}
 use Rattle.reader.specs.declared.Answer.the-variants as answer
 use Rattle.replies.specs.Replying.{came, none, nothing, letterOfCode}
 use Rattle.replies.specs.Rules.{toldReader}
 use Rattle.replies.specs.Promises.{FreshPromise}
-use Rattle.replies.specs.Items.{Item, Done, afterDone, ItemsPromise, ownAnswersOf, repliesOf, Call, itemsOf, Called, CallsPromise, sliceAfter, TookAll}
+use Rattle.tellings.specs.Items.{Item, Done, afterDone, ItemsPromise, ownAnswersOf, repliesOf, Call, itemsOf, Called, CallsPromise, sliceAfter, TookAll}
 use Rattle.replies.specs.declared.Came.{Came}
 use Rattle.replies.specs.declared.Reply.{Reply}
 use Rattle.replies.specs.declared.Reply.the-variants as replies
 use Rattle.replies.specs.declared.ToldReader.{ToldReader}
 use Rattle.replies.specs.declared.NewToldReader.{NewToldReader}
 
 -- a reply by its bytes: ACK, the byte of a format, the letters of format and mode, or "buttons, 0, 0"
 abbrev pub replyTold : List ℕ → Reply

@@ -3,10 +3,10 @@ use Prim.Native.Nat.{ℕ}
 use mathlib.Core.Path.{_≡_}
 use mathlib.Core.Bool.{cond}
 use mathlib.Core.List.{List, [], _∷_}
 use Rattle.replies.specs.Replying.{none, awaiting, nothing, finishes, more}
 use Rattle.replies.specs.Rules.{kindOf, continues}
-use Rattle.replies.specs.Items.{Item, word, telling}
+use Rattle.tellings.specs.Items.{Item, word, telling}
 use Rattle.replies.specs.declared.Awaited.{Awaited}
 
 -- the reply that is awaited behind an item: a telling begins one; its last byte, or a word that is none of its bytes, ends it
 abbrev pub awaitedThen : Awaited → Item → Awaited

@@ -35,13 +35,13 @@ use Rattle.history.proofs.Carries.{Carries}
 use Rattle.history.proofs.Sending.{bytes-left}
 use Rattle.history.proofs.Bridge.{step-sends, told-is}
 use Rattle.history.proofs.Asking.{HeldWith, SetWith, refused-told, hosted-step, hosted-sound, asking-command, asking-reply}
 use Rattle.replies.specs.Replying.{isNone, codeByteOf}
 use Rattle.replies.specs.Rules.{replyTo}
-use Rattle.replies.specs.Items.{Item, word, telling, asItems}
-use Rattle.replies.specs.Runs.{hasReply, asksOrTells, tellingOf, itemsGiven}
+use Rattle.tellings.specs.Items.{Item, word, telling, asItems}
+use Rattle.tellings.specs.Runs.{hasReply, asksOrTells, tellingOf, itemsGiven}
 use Rattle.replies.specs.declared.Asked.the-variants.{Command}
-use Rattle.replies.proofs.Passed.{IsReply, askedFor, passageItems, lineItems, partItems, items-append}
-use Rattle.replies.proofs.Answering.{asks-by, asks-reply, asks-for, with-replies}
+use Rattle.tellings.proofs.Passed.{IsReply, askedFor, passageItems, lineItems, partItems, items-append}
+use Rattle.tellings.proofs.Answering.{asks-by, asks-reply, asks-for, with-replies}
 
 -- a command's telling stands in front of its reply
 abbrev unsent : BallBox → ℕ → List Item

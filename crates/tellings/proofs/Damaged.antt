@@ -35,22 +35,22 @@ use Rattle.reader.proofs.Damaged as damaged
 use Rattle.reader.proofs.Lines.{line-sent}
 use Rattle.reader.proofs.AsSent.{sent-legal}
 use Rattle.reader.proofs.Handed.{permitted, found-at, numbers-at, given-sent}
 use Rattle.replies.specs.Replying as replying
 use Rattle.replies.specs.Replying.{isNone, finishes, more, fitting}
 use Rattle.replies.specs.Good.{good}
 use Rattle.replies.specs.Rules.{toldReader, kindOf, continues}
 use Rattle.replies.specs.Promises.{FreshPromise}
-use Rattle.replies.specs.Items.{Item, word, telling, asItems, wordsIn, isLegal, legalItems, Done, ItemsPromise, ownAnswersOf, repliesOf, Call, itemsOf, Called, CallsPromise, sliceAfter, TookAll}
-use Rattle.replies.specs.Clear.{awaitedBehind, Clear}
-use Rattle.replies.specs.Lines.{repliesSent, HandsOutAt, HandsOut, TellsReplies, InReport, in-finished, in-broken, in-going}
+use Rattle.tellings.specs.Items.{Item, word, telling, asItems, wordsIn, isLegal, legalItems, Done, ItemsPromise, ownAnswersOf, repliesOf, Call, itemsOf, Called, CallsPromise, sliceAfter, TookAll}
+use Rattle.tellings.specs.Clear.{awaitedBehind, Clear}
+use Rattle.tellings.specs.Lines.{repliesSent, HandsOutAt, HandsOut, TellsReplies, InReport, in-finished, in-broken, in-going}
 use Rattle.replies.specs.declared.Awaited.{Awaited}
 use Rattle.replies.specs.declared.Reply.{Reply}
 use Rattle.replies.specs.declared.NewToldReader.{NewToldReader}
 use Rattle.replies.proofs.Goodness.{fresh-is-good}
-use Rattle.replies.proofs.Apart.{doneOf, done-are, given, repliesOver, ownOver, decomposed, handed-given, behind-append, given-append, replies-append, words-behind, words-given, words-replies, same-place}
-use Rattle.replies.proofs.Calls.{took-all, legal-left}
-use Rattle.replies.proofs.Passed.{WholeFrom, IsReply, awaitedFor, askedFor, passageItems, lineItems, partItems, HeldOrReply, withoutReplies, withoutReply, over-line, end-given, sound-without, end-without, without-append, unbroken-without, finished-without, items-append, words-same, words-append, line-words}
-use Rattle.replies.proofs.Meeting.{meet, meet-bytes, only-words}
+use Rattle.tellings.proofs.Apart.{doneOf, done-are, given, repliesOver, ownOver, decomposed, handed-given, behind-append, given-append, replies-append, words-behind, words-given, words-replies, same-place}
+use Rattle.tellings.proofs.Calls.{took-all, legal-left}
+use Rattle.tellings.proofs.Passed.{WholeFrom, IsReply, awaitedFor, askedFor, passageItems, lineItems, partItems, HeldOrReply, withoutReplies, withoutReply, over-line, end-given, sound-without, end-without, without-append, unbroken-without, finished-without, items-append, words-same, words-append, line-words}
+use Rattle.tellings.proofs.Meeting.{meet, meet-bytes, only-words}
 
 -- from what the halves do to what the public reader does
 module _ (f : Format) (items : List Item) (legal : legalItems items ≡ true) where

@@ -27,13 +27,13 @@ use Rattle.ballbox.proofs.Parts.{letter-known, mode-known, few, parts}
 use Rattle.history.specs.History.{unsentReply}
 use Rattle.history.proofs.Carries.{Alike}
 use Rattle.history.proofs.Asking.{HeldWith, Hosts, asking-command, asking-alike, asking-reply}
 use Rattle.replies.specs.Replying.{none, awaiting, isNone, codeByteOf, letterOfCode, isMode, letterFits, fits, more}
 use Rattle.replies.specs.Rules.{replyTo, continues}
-use Rattle.replies.specs.Lines.{replyTold}
-use Rattle.replies.specs.Runs.{hasReply, asksOrTells, answerOf}
+use Rattle.tellings.specs.Lines.{replyTold}
+use Rattle.tellings.specs.Runs.{hasReply, asksOrTells, answerOf}
 use Rattle.replies.specs.declared.Asked.the-variants.{Command}
 use Rattle.replies.specs.declared.Reply.the-variants as reply
-use Rattle.replies.proofs.Passed.{IsReply, askedFor}
+use Rattle.tellings.proofs.Passed.{IsReply, askedFor}
 
 -- each reply, by its bytes
 is-ack : IsReply (0x06 ∷ [])

@@ -6,8 +6,8 @@ use mathlib.Core.List.{List, [], _∷_, _++_, tail-eq-of-cons-eq, head-eq-of-con
 use native.Mathlib.Omega.{arith}
 use lib.ListN.{length, take}
 use Rattle.numbers.proofs.Tested.{holds}
-use Rattle.replies.specs.Items.{Item, word, telling, asItems, wordsIn}
+use Rattle.tellings.specs.Items.{Item, word, telling, asItems, wordsIn}
 use Rattle.replies.specs.declared.Asked.{Asked}
 
 -- how many words an item has
 abbrev wordsOfItem : Item → ℕ

@@ -10,12 +10,12 @@ use Rattle.ballbox.specs.declared.Event.{Event}
 use Rattle.ballbox.specs.declared.Event.the-variants.{Motion, Buttons, Host, Latch, Send, Period}
 use Rattle.ballbox.specs.declared.Stepped.{Stepped}
 use Rattle.history.specs.Asked.{allHosts}
 use Rattle.replies.specs.Replying.{isNone}
 use Rattle.replies.specs.Rules.{replyTo}
-use Rattle.replies.specs.Items.{Item, telling, asItems}
+use Rattle.tellings.specs.Items.{Item, telling, asItems}
 use Rattle.replies.specs.declared.Asked.the-variants.{Command}
 use Rattle.replies.specs.declared.Reply.{Reply}
 use Rattle.replies.specs.declared.Reply.the-variants as reply
 
 -- "runs with `f` and `t`": no host byte but J K L R M Q N O D P, and those that have a reply: `f`, `t`, and a space and 05H too
 abbrev pub hasReply : ℕ → Bool

@@ -20,20 +20,20 @@ use Rattle.wire.proofs.Front.{size-between}
 use Rattle.wire.proofs.Codec.{bytes-length}
 use Rattle.ballbox.specs.Commands.{space, letterf, lettert, byte05}
 use Rattle.history.proofs.Asking.{HeldWith}
 use Rattle.replies.specs.Replying as replying
 use Rattle.replies.specs.Replying.{none, awaiting, isNone, finishes, more, told}
 use Rattle.replies.specs.Rules.{kindOf, continues}
 use Rattle.replies.specs.Line.{toldIn}
-use Rattle.replies.specs.Items.{Item, word, telling, asItems, wordsIn}
-use Rattle.replies.specs.Clear.{awaitedThen, awaitedBehind}
-use Rattle.replies.specs.Lines.{replyTold, cameOf, repliesIn, repliesSent}
+use Rattle.tellings.specs.Items.{Item, word, telling, asItems, wordsIn}
+use Rattle.tellings.specs.Clear.{awaitedThen, awaitedBehind}
+use Rattle.tellings.specs.Lines.{replyTold, cameOf, repliesIn, repliesSent}
 use Rattle.replies.specs.declared.Kind.{Kind}
 use Rattle.replies.specs.declared.Asked.{Asked}
 use Rattle.replies.specs.declared.Asked.the-variants.{Command}
 use Rattle.replies.specs.declared.Awaited.{Awaited}
 use Rattle.replies.specs.declared.Reply.{Reply}
 use Rattle.replies.specs.declared.Reply.the-variants as replies
-use Rattle.replies.proofs.Apart.{given, repliesOver, behind-append, given-append, replies-append, words-behind, words-given, words-replies}
+use Rattle.tellings.proofs.Apart.{given, repliesOver, behind-append, given-append, replies-append, words-behind, words-given, words-replies}
 
 -- items behind which this is awaited: what the report reader is given of them, and the replies told
 pub record Over (a : Awaited) (is : List Item) (ws : List ℕ) (b : Awaited) (rs : List Reply) : Type 0 where

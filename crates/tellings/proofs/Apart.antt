@@ -24,25 +24,25 @@ use Rattle.reader.specs.declared.Answer.the-variants as answer
 use Rattle.reader.proofs.Goodness as goodness
 use Rattle.reader.proofs.Refusals as refusals
 use Rattle.reader.proofs.Keeps.{word-good}
 use Rattle.replies.specs.Replying.{none, awaiting, nothing, isNone, finishes, more, told, broken}
 use Rattle.replies.specs.Good.{good}
 use Rattle.replies.specs.Rules.{toldReader, kindOf, heard, refusing, continues, wordOf}
 use Rattle.replies.specs.Line.{toldIn}
 use Rattle.replies.specs.Promises.{tellOf, stepOf, tellingOf}
-use Rattle.replies.specs.Items.{Item, word, telling, asItems, wordsIn, isLegal, legalItems, Done, nextOf, afterDone, ItemsPromise, ownAnswersOf, repliesOf}
-use Rattle.replies.specs.Items as items
-use Rattle.replies.specs.Clear.{awaitedThen, awaitedBehind}
+use Rattle.tellings.specs.Items.{Item, word, telling, asItems, wordsIn, isLegal, legalItems, Done, nextOf, afterDone, ItemsPromise, ownAnswersOf, repliesOf}
+use Rattle.tellings.specs.Items as items
+use Rattle.tellings.specs.Clear.{awaitedThen, awaitedBehind}
 use Rattle.replies.specs.declared.Asked.{Asked}
 use Rattle.replies.specs.declared.Awaited.{Awaited}
 use Rattle.replies.specs.declared.Reply.{Reply}
 use Rattle.replies.specs.declared.Reply.the-variants as reply
 use Rattle.replies.specs.declared.ToldReader.{ToldReader}
 use Rattle.replies.specs.declared.Telling.{Telling}
 use Rattle.replies.specs.declared.Heard.{Heard}
 use Rattle.replies.proofs.Lines.{word-kept, keep-last, keep-more, word-passes, none-continues}
 use Rattle.replies.proofs.Word.{by-word, good-reader, good-awaited, word-fine, told-fine}
 use Rattle.replies.proofs.Permitted.{step-is}
 use Rattle.replies.proofs.Goodness.{step-word}
 
 -- what the definitions do with items
 unfoldable pub doneOf : ToldReader → List Item → List Done

@@ -12,21 +12,21 @@ use Rattle.reader.specs.State.{reader, ready}
 use Rattle.reader.specs.declared.Answer.{Answer}
 use Rattle.reader.specs.declared.Answer.the-variants as answer
 use Rattle.ballbox.specs.Commands.{letterf, lettert, byte05}
 use Rattle.replies.specs.Replying.{came, none, awaiting, nothing}
 use Rattle.replies.specs.Rules.{toldReader}
 use Rattle.replies.specs.Line.{Long, whole}
 use Rattle.replies.specs.Promises.{TellPromise, ReadPromise, tellingOf, readOf}
-use Rattle.replies.specs.Items.{Item, word, telling, Done, ItemsPromise, ownAnswersOf, repliesOf}
+use Rattle.tellings.specs.Items.{Item, word, telling, Done, ItemsPromise, ownAnswersOf, repliesOf}
 use Rattle.replies.specs.declared.Kind.the-variants as kind
 use Rattle.replies.specs.declared.Asked.the-variants.{Command, Waking}
 use Rattle.replies.specs.declared.Reply.{Reply}
 use Rattle.replies.specs.declared.Reply.the-variants as reply
 use Rattle.replies.specs.declared.ToldReader.{ToldReader}
 use Rattle.replies.specs.declared.Telling.{Telling}
 use Rattle.replies.specs.declared.HeardLine.{HeardLine}
-use Rattle.replies.proofs.Computing.{computing}
+use Rattle.tellings.proofs.Computing.{computing}
 use Rattle.replies.proofs.Permitted.{read-is}
-use Rattle.replies.proofs.Apart.{doneOf, done-are}
+use Rattle.tellings.proofs.Apart.{doneOf, done-are}
 
 -- the reader s, given the items, tells these replies, and its report reader answers the words so
 pub record Answers (s : ToldReader) (items : List Item) (replies : List Reply) (own : List Answer) : Type 0 where
