@@ -12,9 +12,12 @@ use Rattle.ballbox.specs.Promises as ballbox
 use Rattle.ballbox.specs.declared.Event.{Event}
 use Rattle.listing.specs.Feeding as feeding
 use Rattle.listing.specs.Promises as listing
+use Rattle.replies.specs.Promises as replies
+use Rattle.replies.specs.declared.Asked.{Asked}
 use Rattle.istrolf.specs.Readers as readers
 use Rattle.istrolf.specs.Boxes as boxes
 use Rattle.istrolf.specs.Listers as listers
+use Rattle.istrolf.specs.Told as told
 use Rattle.istrolf.specs.declared.HeldReader.{HeldReader}
 use Rattle.istrolf.specs.declared.FreshReader.{FreshReader}
 use Rattle.istrolf.specs.declared.ReadWord.{ReadWord}
@@ -24,6 +27,11 @@ use Rattle.istrolf.specs.declared.HeldBox.{HeldBox}
 use Rattle.istrolf.specs.declared.SteppedBox.{SteppedBox}
 use Rattle.istrolf.specs.declared.HeldLister.{HeldLister}
 use Rattle.istrolf.specs.declared.ListedBytes.{ListedBytes}
+use Rattle.istrolf.specs.declared.HeldTold.{HeldTold}
+use Rattle.istrolf.specs.declared.FreshTold.{FreshTold}
+use Rattle.istrolf.specs.declared.ToldCommand.{ToldCommand}
+use Rattle.istrolf.specs.declared.HeardWord.{HeardWord}
+use Rattle.istrolf.specs.declared.HeardWords.{HeardWords}
 
 -- `istrolf_reader_fresh(letter)`
 abbrev pub FreshReaderPromise : ℕ → FreshReader → Type 0
@@ -79,3 +87,28 @@ finishOf h out =
 
 abbrev pub FinishPromise : HeldLister → List ℕ → ListedBytes → List ℕ → Type 0
 FinishPromise h before answer after = listers.whole answer after ≡ finishOf h before
+
+-- `istrolf_told_fresh(letter)`
+abbrev pub FreshToldPromise : ℕ → FreshTold → Type 0
+FreshToldPromise letter answer = answer ≡ told.packedFresh (replies.freshOf letter)
+
+-- `istrolf_told_command(told, byte)` and `istrolf_told_waking(told)`, each with what was asked
+unfoldable pub tellOf : HeldTold → Asked → ToldCommand
+tellOf h asked = cond (told.stands h) (told.packedTelling (replies.tellOf (told.unpacked h) asked)) (told.refusedTelling h)
+
+abbrev pub TellPromise : HeldTold → Asked → ToldCommand → Type 0
+TellPromise h asked answer = answer ≡ tellOf h asked
+
+-- `istrolf_told_step(told, word)`
+unfoldable pub toldStepOf : HeldTold → ℕ → HeardWord
+toldStepOf h w = cond (told.stands h) (told.packedHeard (replies.stepOf (told.unpacked h) w)) (told.refusedHeard h)
+
+abbrev pub ToldStepPromise : HeldTold → ℕ → HeardWord → Type 0
+ToldStepPromise h w answer = answer ≡ toldStepOf h w
+
+-- `istrolf_told_read(told, words, out)`
+unfoldable pub toldReadOf : HeldTold → List ℕ → List ℤ → told.Whole
+toldReadOf h words out = cond (told.stands h) (told.packedLong (replies.readOf (told.unpacked h) words out)) (told.whole (told.refusedLine h) out)
+
+abbrev pub ToldReadPromise : HeldTold → List ℕ → List ℤ → HeardWords → List ℤ → Type 0
+ToldReadPromise h words before answer after = told.whole answer after ≡ toldReadOf h words before

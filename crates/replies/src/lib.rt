@@ -35,6 +35,7 @@ pub enum Kind {
 }
 
 // The bytes of a reply that have come: how many, at most two, and 0 in the places behind them.
+#[repr(C)]
 pub struct Came {
     pub count: u8,
     pub first: u8,
