@@ -1,41 +1,41 @@
+-- 6 for what stands for no reader, and then the step below.
 use borrow.Author.Needs.{needs}
+use mathlib.Core.Path.{ap, sym, _∙_}
+use borrow.Author.Tests.{not-true, not-false}
+use Rattle.replies.specs.declared.ToldReader.{ToldReader}
+use Rattle.replies.proofs.Permitted.{step-is}
+use Rattle.replies.specs.Promises.{stepOf}
+use Rattle.istrolf.specs.Told.{packedHeard}
+use Rattle.istrolf.specs.Promises.{toldStepOf}
 use Rattle.istrolf.proofs.told.istrolf_told_step.Statement.{statement}
 use Rattle.istrolf.proofs.told.istrolf_told_step.Tie as tie
-use Rattle.istrolf.proofs.told.istrolf_told_step.Reads as reads
-use Rattle.istrolf.proofs.told.istrolf_told_step.Lts as lts
-use Rattle.istrolf.proofs.told.packed_heard.Reads as packed-heard-reads
-use Rattle.istrolf.proofs.told.refused_heard.Reads as refused-heard-reads
-use Rattle.istrolf.proofs.told.stands.Reads as stands-reads
-use Rattle.istrolf.proofs.told.unpacked.Reads as unpacked-reads
-use Rattle.replies.proofs.ToldReader.step.Reads as step-reads
 
--- src/told.rt:265:9
 stands-requires : tie.Need-stands-requires
 stands-requires c κs = search needs
 
--- src/told.rt:266:9
 refused-heard-requires : tie.Need-refused-heard-requires
 refused-heard-requires c κs = search needs
 
--- src/told.rt:266:9
 returns : tie.Need-returns
-returns c = ?
+unfolding toldStepOf
+returns c = simp (sym (c .before .before .stands .ensures) ∙ not-true _ (c .before .if1 .taken)) (c .refused-heard .ensures)
 
--- src/told.rt:268:18
 unpacked-requires : tie.Need-unpacked-requires
 unpacked-requires c κs = search needs
 
--- src/told.rt:268:18
 step-requires : tie.Need-step-requires
 step-requires c κs = search needs
 
--- src/told.rt:268:5
 packed-heard-requires : tie.Need-packed-heard-requires
 packed-heard-requires c κs = search needs
 
--- src/told.rt:261:1
 returns-2 : tie.Need-returns-2
-returns-2 c = ?
+unfolding toldStepOf
+returns-2 c = let s = c .before in
+    let u = s .before in
+    let w = u .before .before .before .args .word in
+    let i = step-is (u .unpacked .result) w (s .step .result) (s .step .ensures) ∙ ap (λ (r : ToldReader). stepOf r w) (u .unpacked .ensures) in
+    simp (sym (u .before .before .stands .ensures) ∙ not-false _ (u .before .if1 .left)) (c .packed-heard .ensures ∙ ap packedHeard i)
 
 pub istrolf-told-step-spec : {M : Type 1} → statement M
 istrolf-told-step-spec =
