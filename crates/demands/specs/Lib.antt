@@ -16,3 +16,5 @@ pub mod Said
 pub mod Figures
 pub mod Strength
 pub mod ProperBox
+pub mod Replies
+pub mod WorkedReplies

@@ -6,10 +6,12 @@ use lib.IntN.{ℤ}
 use Rattle.wire.specs.Encoder as wire
 use Rattle.wire.specs.declared.Report.{Report}
 use Rattle.ballbox.specs.declared.Event.{Event}
+use Rattle.replies.specs.declared.Asked.{Asked}
 use Rattle.istrolf.specs.Readers as readers
 use Rattle.istrolf.specs.Listers as listers
 use Rattle.istrolf.specs.Bridges as bridges
-use Rattle.istrolf.specs.Promises.{FreshReaderPromise, ReaderStepPromise, ReadPromise, EncodePromise, FreshBoxPromise, BoxStepPromise, FreshListerPromise, FeedPromise, FinishPromise, FreshYardPromise, YardStepPromise, YardCheckPromise, FreshBridgePromise, ConvertPromise, PickPromise, SalvagePromise}
+use Rattle.istrolf.specs.Told as told
+use Rattle.istrolf.specs.Promises.{FreshReaderPromise, ReaderStepPromise, ReadPromise, EncodePromise, FreshBoxPromise, BoxStepPromise, FreshListerPromise, FeedPromise, FinishPromise, FreshYardPromise, YardStepPromise, YardCheckPromise, FreshBridgePromise, ConvertPromise, PickPromise, SalvagePromise, FreshToldPromise, TellPromise, ToldStepPromise, ToldReadPromise}
 use Rattle.istrolf.specs.declared.HeldReader.{HeldReader}
 use Rattle.istrolf.specs.declared.FreshReader.{FreshReader}
 use Rattle.istrolf.specs.declared.ReadWord.{ReadWord}
@@ -30,6 +32,11 @@ use Rattle.istrolf.specs.declared.SalvagedBytes.{SalvagedBytes}
 use Rattle.istrolf.specs.Salvages as salvages
 use Rattle.salvage.specs.declared.Picked.{Picked}
 use Rattle.salvage.proofs.Picks as below
+use Rattle.istrolf.specs.declared.HeldTold.{HeldTold}
+use Rattle.istrolf.specs.declared.FreshTold.{FreshTold}
+use Rattle.istrolf.specs.declared.ToldCommand.{ToldCommand}
+use Rattle.istrolf.specs.declared.HeardWord.{HeardWord}
+use Rattle.istrolf.specs.declared.HeardWords.{HeardWords}
 
 listed-same : {a b : ListedBytes} {x y : List ℕ} → listers.whole a x ≡ listers.whole b y → (a ≡ b) × (x ≡ y)
 listed-same e = (ap (λ (l : listers.Whole). l .listed) e, ap (λ (l : listers.Whole). l .out) e)
@@ -91,3 +98,17 @@ pub one-salvage : (input out : List ℕ) (a b : SalvagedBytes) (x y : List ℕ)
     → SalvagePromise input out a x → SalvagePromise input out b y → (a ≡ b) × (x ≡ y)
 one-salvage input out a b x y e f =
     (ap (λ (w : salvages.Whole). w .told) (e ∙ sym f), ap (λ (w : salvages.Whole). w .out) (e ∙ sym f))
+
+pub one-fresh-told : (letter : ℕ) (a b : FreshTold) → FreshToldPromise letter a → FreshToldPromise letter b → a ≡ b
+one-fresh-told letter a b e f = e ∙ sym f
+
+pub one-tell : (h : HeldTold) (asked : Asked) (a b : ToldCommand) → TellPromise h asked a → TellPromise h asked b → a ≡ b
+one-tell h asked a b e f = e ∙ sym f
+
+pub one-told-step : (h : HeldTold) (w : ℕ) (a b : HeardWord) → ToldStepPromise h w a → ToldStepPromise h w b → a ≡ b
+one-told-step h w a b e f = e ∙ sym f
+
+pub one-told-read : (h : HeldTold) (words : List ℕ) (out : List ℤ) (a b : HeardWords) (x y : List ℤ)
+    → ToldReadPromise h words out a x → ToldReadPromise h words out b y → (a ≡ b) × (x ≡ y)
+one-told-read h words out a b x y e f =
+    (ap (λ (l : told.Whole). l .line) (e ∙ sym f), ap (λ (l : told.Whole). l .out) (e ∙ sym f))

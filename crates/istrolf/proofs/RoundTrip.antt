@@ -1,12 +1,20 @@
 -- What C holds is what the library holds: packed and unpacked again it is the same, and what stands for a state is one that was packed.
-use mathlib.Core.Path.{_≡_}
+use Prim.Native.Nat.{ℕ, zero, suc}
+use mathlib.Core.Path.{_≡_, refl}
 use mathlib.Core.Bool.{true, _&&_}
+use native.Mathlib.Omega.{arith}
+use lib.Dec.{leb}
+use borrow.Author.Tests.{leb-true}
+use Rattle.numbers.proofs.Choices.{both}
 use Rattle.numbers.proofs.Tested.{left, right}
 use Rattle.reader.specs.declared.Reader.{Reader}
 use Rattle.ballbox.specs.declared.BallBox.{BallBox}
 use Rattle.listing.specs.declared.Lister.{Lister}
 use Rattle.yard.specs.declared.Yard.{Yard}
 use Rattle.bridge.specs.declared.Bridge.{Bridge}
+use Rattle.replies.specs.declared.Kind.{Kind}
+use Rattle.replies.specs.declared.Kind.the-variants as kind
+use Rattle.replies.specs.declared.ToldReader.{ToldReader}
 use Rattle.istrolf.specs.Marks.{isMark}
 use Rattle.istrolf.specs.Readers as readers
 use Rattle.istrolf.specs.Boxes as boxes
@@ -14,10 +22,12 @@ use Rattle.istrolf.specs.Listers as listers
 use Rattle.istrolf.specs.Yards as yards
 use Rattle.istrolf.specs.declared.HeldYard.{HeldYard}
 use Rattle.istrolf.specs.Bridges as bridges
+use Rattle.istrolf.specs.Told as told
 use Rattle.istrolf.specs.declared.HeldReader.{HeldReader}
 use Rattle.istrolf.specs.declared.HeldBox.{HeldBox}
 use Rattle.istrolf.specs.declared.HeldLister.{HeldLister}
 use Rattle.istrolf.specs.declared.HeldBridge.{HeldBridge}
+use Rattle.istrolf.specs.declared.HeldTold.{HeldTold}
 use Rattle.istrolf.proofs.Marks.{mark-back, mark-stands, mark-of}
 
 -- a reader
@@ -112,3 +122,40 @@ bridge-back h s =
 
 pub bridge-stands : (b : Bridge) → bridges.stands (bridges.packed b) ≡ true
 bridge-stands b = rw (mark-stands (b .reader .awaiting), mark-stands (b .past .base .set), mark-stands (b .past .middle))
+
+-- a reader that is told of replies
+kind-back : (k : Kind) → told.kindOf (told.kindNumber k) ≡ k
+unfolding told.kindOf
+kind-back kind.Nothing = refl
+kind-back kind.Ack = refl
+kind-back kind.Code = refl
+kind-back kind.Letters = refl
+kind-back kind.Buttons = refl
+
+kind-stands : (k : Kind) → leb (told.kindNumber k) 4 ≡ true
+kind-stands kind.Nothing = refl
+kind-stands kind.Ack = refl
+kind-stands kind.Code = refl
+kind-stands kind.Letters = refl
+kind-stands kind.Buttons = refl
+
+number-back : (n : ℕ) → leb n 4 ≡ true → told.kindNumber (told.kindOf n) ≡ n
+unfolding told.kindOf
+number-back zero h = refl
+number-back (suc zero) h = refl
+number-back (suc (suc zero)) h = refl
+number-back (suc (suc (suc zero))) h = refl
+number-back (suc (suc (suc (suc zero)))) h = refl
+number-back (suc (suc (suc (suc (suc n))))) h = absurd (omega (arith, leb-true (suc (suc (suc (suc (suc n))))) 4 h))
+
+pub told-there : (s : ToldReader) → told.unpacked (told.packed s) ≡ s
+told-there s = λ i. record { reader = reader-there (s .reader) i; awaited = record { kind = kind-back (s .awaited .kind) i; came = s .awaited .came } }
+
+pub told-back : (h : HeldTold) → told.stands h ≡ true → told.packed (told.unpacked h) ≡ h
+told-back h s =
+    let reader = reader-back (h .reader) (left (readers.stands (h .reader)) (leb (h .awaited) 4) s) in
+    let number = number-back (h .awaited) (right (readers.stands (h .reader)) (leb (h .awaited) 4) s) in
+    λ i. record { reader = reader i; awaited = number i; came = h .came }
+
+pub told-stands : (s : ToldReader) → told.stands (told.packed s) ≡ true
+told-stands s = both (readers.stands (readers.packed (s .reader))) (leb (told.kindNumber (s .awaited .kind)) 4) (reader-stands (s .reader)) (kind-stands (s .awaited .kind))

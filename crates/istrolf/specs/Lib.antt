@@ -5,6 +5,7 @@ pub mod Listers
 pub mod Yards
 pub mod Bridges
 pub mod Salvages
+pub mod Told
 pub mod Promises
 pub mod Runs
 pub mod Demand3

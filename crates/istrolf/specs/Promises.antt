@@ -17,11 +17,14 @@ use Rattle.bridge.specs.Promises as bridge
 use Rattle.salvage.specs.Promises as salvage
 use Rattle.salvage.specs.declared.Picked.{Picked}
 use Rattle.salvaged.specs.Promises as salvaged
+use Rattle.replies.specs.Promises as replies
+use Rattle.replies.specs.declared.Asked.{Asked}
 use Rattle.istrolf.specs.Readers as readers
 use Rattle.istrolf.specs.Boxes as boxes
 use Rattle.istrolf.specs.Listers as listers
 use Rattle.istrolf.specs.Bridges as bridges
 use Rattle.istrolf.specs.Salvages as salvages
+use Rattle.istrolf.specs.Told as told
 use Rattle.istrolf.specs.declared.HeldReader.{HeldReader}
 use Rattle.istrolf.specs.declared.FreshReader.{FreshReader}
 use Rattle.istrolf.specs.declared.ReadWord.{ReadWord}
@@ -40,6 +43,11 @@ use Rattle.istrolf.specs.declared.HeldBridge.{HeldBridge}
 use Rattle.istrolf.specs.declared.FreshBridge.{FreshBridge}
 use Rattle.istrolf.specs.declared.ConvertedWords.{ConvertedWords}
 use Rattle.istrolf.specs.declared.SalvagedBytes.{SalvagedBytes}
+use Rattle.istrolf.specs.declared.HeldTold.{HeldTold}
+use Rattle.istrolf.specs.declared.FreshTold.{FreshTold}
+use Rattle.istrolf.specs.declared.ToldCommand.{ToldCommand}
+use Rattle.istrolf.specs.declared.HeardWord.{HeardWord}
+use Rattle.istrolf.specs.declared.HeardWords.{HeardWords}
 
 -- `istrolf_reader_fresh(letter)`
 abbrev pub FreshReaderPromise : ℕ → FreshReader → Type 0
@@ -133,3 +141,28 @@ salvageOf input out = salvages.packedWhole (salvaged.listOf input out)
 
 abbrev pub SalvagePromise : List ℕ → List ℕ → SalvagedBytes → List ℕ → Type 0
 SalvagePromise input before answer after = salvages.whole answer after ≡ salvageOf input before
+
+-- `istrolf_told_fresh(letter)`
+abbrev pub FreshToldPromise : ℕ → FreshTold → Type 0
+FreshToldPromise letter answer = answer ≡ told.packedFresh (replies.freshOf letter)
+
+-- `istrolf_told_command(told, byte)` and `istrolf_told_waking(told)`, each with what was asked
+unfoldable pub tellOf : HeldTold → Asked → ToldCommand
+tellOf h asked = cond (told.stands h) (told.packedTelling (replies.tellOf (told.unpacked h) asked)) (told.refusedTelling h)
+
+abbrev pub TellPromise : HeldTold → Asked → ToldCommand → Type 0
+TellPromise h asked answer = answer ≡ tellOf h asked
+
+-- `istrolf_told_step(told, word)`
+unfoldable pub toldStepOf : HeldTold → ℕ → HeardWord
+toldStepOf h w = cond (told.stands h) (told.packedHeard (replies.stepOf (told.unpacked h) w)) (told.refusedHeard h)
+
+abbrev pub ToldStepPromise : HeldTold → ℕ → HeardWord → Type 0
+ToldStepPromise h w answer = answer ≡ toldStepOf h w
+
+-- `istrolf_told_read(told, words, out)`
+unfoldable pub toldReadOf : HeldTold → List ℕ → List ℤ → told.Whole
+toldReadOf h words out = cond (told.stands h) (told.packedLong (replies.readOf (told.unpacked h) words out)) (told.whole (told.refusedLine h) out)
+
+abbrev pub ToldReadPromise : HeldTold → List ℕ → List ℤ → HeardWords → List ℤ → Type 0
+ToldReadPromise h words before answer after = told.whole answer after ≡ toldReadOf h words before

@@ -3,6 +3,7 @@ use ballbox::Going;
 use ballbox::Settings;
 use ballbox::Sums;
 use ballbox::Track;
+use replies::Came;
 use wire::Report;
 
 mod boxes;
@@ -12,6 +13,7 @@ mod listers;
 mod readers;
 mod yards;
 mod salvages;
+mod told;
 
 // What is given back for what stands for no state.
 pub(crate) const BAD_STATE: u8 = 6;
@@ -175,4 +177,66 @@ pub struct ConvertedWords {
 pub struct SalvagedBytes {
     pub whole: u8,
     pub written: usize,
+}
+
+// A reader that is told of replies, as C holds it: the reply that is awaited is a number, 0 where none is.
+#[repr(C)]
+pub struct HeldTold {
+    pub reader: HeldReader,
+    pub awaited: u8,
+    pub came: Came,
+}
+
+// What became of a reply, by its number: 0 nothing yet, 1 ACK, 2 a format, 3 a format and a mode, 4 buttons, 5 broken behind the bytes that had come; zeros elsewhere.
+#[repr(C)]
+pub struct HeldReply {
+    pub kind: u8,
+    pub format: u8,
+    pub mode: u8,
+    pub buttons: u8,
+    pub came: Came,
+}
+
+// A new reader that is told of replies, or why there is none of this letter.
+#[repr(C)]
+pub struct FreshTold {
+    pub refusal: u8,
+    pub told: HeldTold,
+}
+
+// What a telling gives back: also how many bytes of an unfinished reply it discards.
+#[repr(C)]
+pub struct ToldCommand {
+    pub refusal: u8,
+    pub discarded: u8,
+    pub next: HeldTold,
+}
+
+// What a word is answered by: what became of the reply, and the report reader's own answer as in ReadWord.
+#[repr(C)]
+pub struct HeardWord {
+    pub refusal: u8,
+    pub reports: u8,
+    pub dropped: u8,
+    pub reply: HeldReply,
+    pub next: HeldTold,
+    pub report: Report,
+}
+
+// What a long read gives back, and what became of the reply.
+#[repr(C)]
+pub struct HeardWords {
+    pub refusal: u8,
+    pub reply: HeldReply,
+    pub next: HeldTold,
+    pub taken: usize,
+    pub reports: usize,
+    pub dropped: usize,
+}
+
+// The reports, 0 or 1, and the bytes dropped of an answer, and the report, zeros where there is none.
+pub(crate) struct Own {
+    pub reports: u8,
+    pub dropped: u8,
+    pub report: Report,
 }
