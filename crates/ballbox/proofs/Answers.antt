@@ -15,7 +15,7 @@ one-fresh b c p q = p ∙ sym q
 pub one-good : (b : BallBox) (s t : Bool) → GoodPromise b s → GoodPromise b t → s ≡ t
 one-good b s t p q = p ∙ sym q
 
-same-sent : (s t : Sent) → sentWords s ≡ sentWords t → s ≡ t
+pub same-sent : (s t : Sent) → sentWords s ≡ sentWords t → s ≡ t
 same-sent Nothing Nothing e = refl
 same-sent Nothing (Word w) e = cc
 same-sent (Word v) Nothing e = cc

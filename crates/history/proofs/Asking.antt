@@ -30,7 +30,7 @@ use Rattle.ballbox.specs.declared.Command.the-variants.{SetFormat, SetStream, S
 use Rattle.ballbox.specs.declared.Event.{Event}
 use Rattle.ballbox.specs.declared.Event.the-variants.{Motion, Buttons, Host, Latch, Send, Period}
 use Rattle.ballbox.proofs.Goodness.{stepped-good}
-use Rattle.ballbox.proofs.Refusals.{ruled}
+use Rattle.ballbox.proofs.Refusals.{ruled, refused-next}
 use Rattle.ballbox.proofs.Obeying.{dropped-settings, dropped-awake}
 use Rattle.history.specs.History.{formatOf, begun, pairedAt, paired, isFive, whenAwake, toldBy, nextBox, passagesOf, goingAfter}
 use Rattle.history.specs.Asked.{allHosts, asks, onlyAsks}
@@ -182,10 +182,6 @@ awake-told f b (Host byte) g a h = (sound-broken f g (h .sound), rw (asking-repl
 awake-told f b Latch g a h = (tt, sound-latched f b g h)
 awake-told f b Send g a h = sound-sent f (paired b g) (sound-ready f b g h)
 awake-told f b Period g a h = (tt, h .sound)
-
-pub refused-next : (b : BallBox) (e : Event) → good b ≡ true → aboveSeven e ≡ true → stepOf b e .next ≡ b
-unfolding stepOf
-refused-next b e k p = rw (k, p)
 
 pub refused-told : (b : BallBox) (e : Event) (g : UnderWay Message) → aboveSeven e ≡ true → toldBy b e g ≡ told [] g
 unfolding toldBy
