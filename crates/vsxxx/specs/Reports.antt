@@ -45,11 +45,17 @@ puckReport bs = cond (isTest (at 0 bs)) (self-test (testOf bs)) (movement (repor
 abbrev pub puckFrame : Frame PuckReport
 puckFrame = record { fits = fitsPuck; size = sizeFrom; marked = true; decode = puckReport }
 
--- "its long read writes six numbers each, first 0 for movement, 1 for a self-test, 2 if its error is 20H or over, fatal"
+-- "its long read writes six numbers each, first 0 for movement, 1 for a self-test, 2 if its error is 20H or over, fatal"; the second pair of a report of S
+-- is zero
 abbrev pub sixOf : PuckReport → List ℤ
-sixOf (movement r) = pos 0 ∷ pos (r .buttons) ∷ r .x1 ∷ r .y1 ∷ pos 0 ∷ pos 0 ∷ []
+sixOf (movement r) = pos 0 ∷ pos (r .buttons) ∷ r .x1 ∷ r .y1 ∷ r .x2 ∷ r .y2 ∷ []
 sixOf (self-test t) =
     pos (cond (fatal t) 2 1) ∷ pos (t .revision) ∷ pos (t .maker) ∷ pos (t .device) ∷ pos (t .error) ∷ pos (t .buttons) ∷ []
+
+-- the bytes of a report
+abbrev pub sizeOfReport : PuckReport → ℕ
+sizeOfReport (movement r) = 3
+sizeOfReport (self-test t) = 4
 
 -- what a device puts on the line: what a box does, and self-tests
 pub data PuckMessage : Type 0 where
