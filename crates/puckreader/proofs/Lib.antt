@@ -9,3 +9,4 @@ pub mod Goodness
 pub mod Refusals
 pub mod Joining
 pub mod Framed
+pub mod Handed

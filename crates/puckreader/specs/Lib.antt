@@ -6,3 +6,4 @@ pub mod Good
 pub mod Line
 pub mod Promises
 pub mod Runs
+pub mod HandedOut
