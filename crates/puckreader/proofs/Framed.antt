@@ -46,7 +46,7 @@ kept-held (a ∷ b ∷ c ∷ []) l = refl
 kept-held (a ∷ b ∷ c ∷ d ∷ k) l = absurd (omega arith)
 
 -- a word, to a good reader
-word-frame : (r : PuckReader) (w : ℕ) → Held r → w ≤ silence
+pub word-frame : (r : PuckReader) (w : ℕ) → Held r → w ≤ silence
     → (wordOf r w .answer ≡ told (step puckFrame (has (keptIn r)) w .1)) × (has (keptIn (wordOf r w .next)) ≡ step puckFrame (has (keptIn r)) w .0)
 unfolding wordOf
 word-frame r w h l =

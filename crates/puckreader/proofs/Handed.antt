@@ -87,7 +87,7 @@ numbers-at l p m rest =
     rw (numbers-append l (p ∷ m), append-assoc (numbers l), drop-at (numbers l) (sixOf p ++ numbers m ++ rest) (6 * length l) (numbers-length l), append-assoc) (first-six p (numbers m ++ rest))
 
 -- legal words
-legal-passing : (u : List ℕ) → lineWords u ≡ passing (λ w. leb w silence) u
+pub legal-passing : (u : List ℕ) → lineWords u ≡ passing (λ w. leb w silence) u
 unfolding lineWords passing
 legal-passing [] = refl
 legal-passing (w ∷ u) = rw (legal-passing u)
@@ -153,7 +153,7 @@ module _ (words : List ℕ) (legal : lineWords words ≡ true) where
           (List·getD-map told (frame.answers puckFrame (has []) words) i frame.nothing ∙ (ap told h ∙ handed p))
 
 -- the words of a sound line, or what is left of them, are legal
-fit-legal : (k : List ℕ) (b : ℕ) → puckFrame .fits k b ≡ true → leb b silence ≡ true
+pub fit-legal : (k : List ℕ) (b : ℕ) → puckFrame .fits k b ≡ true → leb b silence ≡ true
 fit-legal k b h = le-leb b silence (omega (arith, puck-marked .laws .byte k b h))
 
 framed-line : (l : List (Passage PuckMessage)) → SoundLine l → Sound puckBytes (Framed puckFrame puckBytes) l
@@ -162,7 +162,7 @@ framed-line = sound-by puckBytes HeldByPuck (Framed puckFrame puckBytes) held-fr
 framed-going : (g : UnderWay PuckMessage) → SoundGoing g → SoundPart puckBytes (Framed puckFrame puckBytes) g
 framed-going = part-by puckBytes HeldByPuck (Framed puckFrame puckBytes) held-framed
 
-abbrev legally : ℕ → Bool
+abbrev pub legally : ℕ → Bool
 legally w = leb w silence
 
 -- The passages of the line are `before`, the finished report m, and `after`; i is the place of the word that ends m.

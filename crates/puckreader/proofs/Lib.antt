@@ -10,3 +10,4 @@ pub mod Refusals
 pub mod Joining
 pub mod Framed
 pub mod Handed
+pub mod There
