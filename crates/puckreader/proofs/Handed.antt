@@ -49,7 +49,7 @@ same-reports (frame.report (movement r) ∷ l) = ap (λ (x : List PuckReport). m
 same-reports (frame.report (self-test t) ∷ l) = ap (λ (x : List PuckReport). self-test t ∷ x) (same-reports l)
 same-reports (frame.dropped k ∷ l) = same-reports l
 
-reports-total : (l : List PuckAnswer) → total reportsIn l ≡ length (handedOut l)
+pub reports-total : (l : List PuckAnswer) → total reportsIn l ≡ length (handedOut l)
 unfolding total
 reports-total [] = refl
 reports-total (a ∷ l) = omega (arith, length-append (reportOf a) (handedOut l), reports-total l)
@@ -58,7 +58,7 @@ numbers-append : (l k : List PuckReport) → numbers (l ++ k) ≡ numbers l ++ n
 numbers-append [] k = refl
 numbers-append (p ∷ l) k = rw (numbers-append l k, append-assoc)
 
-numbers-written : (l : List PuckAnswer) → written reads l ≡ numbers (handedOut l)
+pub numbers-written : (l : List PuckAnswer) → written reads l ≡ numbers (handedOut l)
 numbers-written [] = refl
 numbers-written (a ∷ l) = rw (numbers-written l, numbers-append (reportOf a) (handedOut l))
 

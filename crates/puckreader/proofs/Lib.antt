@@ -11,3 +11,5 @@ pub mod Joining
 pub mod Framed
 pub mod Handed
 pub mod There
+pub mod Counts
+pub mod Wrong
