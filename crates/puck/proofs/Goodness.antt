@@ -124,7 +124,7 @@ rests-idle b r =
     latching-idle b (rw (r .length) (le-ltb (b .going .sent) 0 (omega arith)))
     (rw (r .undue, r .none, r .mode))
 
-abbrev Quiet : Event → Type 0
+abbrev pub Quiet : Event → Type 0
 Quiet (Motion dx dy) = Unit {0}
 Quiet (Buttons n) = Unit {0}
 Quiet (Host byte) = ⊥
