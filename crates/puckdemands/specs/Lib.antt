@@ -1,3 +1,4 @@
--- The device's runs (Runs) and their history (History).
-pub mod Runs
-pub mod History
+-- The user's demands of the VSXXX puck and its reader (Demand1, Demand2, Demand3).
+pub mod Demand1
+pub mod Demand2
+pub mod Demand3

@@ -15,7 +15,7 @@ use Rattle.vsxxx.specs.Reports.{PuckMessage, of-box, of-test, puckBytes}
 use Rattle.puck.specs.Device.{testing, testOf}
 use Rattle.puck.specs.Rules.{letterT, asBox}
 use Rattle.puck.specs.declared.Puck.{Puck}
-use Rattle.puckdemands.specs.Runs.{nextPuck}
+use Rattle.puckhistory.specs.Runs.{nextPuck}
 
 -- of what is under way, what the box has going: nothing while a self-test is
 abbrev pub inBox : UnderWay PuckMessage → UnderWay Message

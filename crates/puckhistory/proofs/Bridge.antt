@@ -42,8 +42,8 @@ use Rattle.puck.specs.declared.PuckStepped.{PuckStepped}
 use Rattle.puck.proofs.Parts as parts-of
 use Rattle.puck.proofs.Parts.{Rests, Going, Good, parts, is-going}
 use Rattle.puck.proofs.Goodness.{Quiet, of-four, stepped-puck, made-is-good}
-use Rattle.puckdemands.specs.Runs.{RunPromise, wordsGiven, nextPuck}
-use Rattle.puckdemands.specs.History.{inBox, boxTells, testTells, tellsIn, tellsOut, toldBy, passagesOf, goingAfter, atPowerUp}
+use Rattle.puckhistory.specs.Runs.{RunPromise, wordsGiven, nextPuck}
+use Rattle.puckhistory.specs.History.{inBox, boxTells, testTells, tellsIn, tellsOut, toldBy, passagesOf, goingAfter, atPowerUp}
 
 -- the box is handed only bytes that ask for reports, and one that it ignores
 hands : (e : Event) → Asks (asBox e)
@@ -199,3 +199,46 @@ step-sent p e g k (by-box b z h) =
 step-sent p e g k (by-test n z some h) =
     let f = lt-ltb 0 (p .test .left) some in
     rw (k, f) (in-sends p e n (parts p k) (is-going p (parts p k) f) z h)
+
+-- a device that holds what is going, and stays good
+abbrev Stays : Puck → UnderWay PuckMessage → Type 0
+Stays p g = (good p ≡ true) × Holds p g
+
+step : (p : Puck) (e : Event) (g : UnderWay PuckMessage) → Stays p g
+    → (partWords puckBytes g ++ stepOf p e .words ≡ passageWords puckBytes (toldBy p e g .passages) ++ partWords puckBytes (toldBy p e g .going)) × Stays (nextPuck p e) (toldBy p e g .going)
+step p e g h = let s = step-sent p e g (h .0) (h .1) in (s .words, (stepped-puck p e (h .0), s .holds))
+
+-- any answers that the promise permits give the words of the rules
+permitted : (p : Puck) (events : List Event) (answers : List PuckStepped) → RunPromise p events answers → wordsGiven answers ≡ givenOver nextPuck (λ p e. stepOf p e .words) p events
+unfolding RunPromise givenOver
+permitted p [] [] h = refl
+permitted p [] (a ∷ answers) h = absurd h
+permitted p (e ∷ events) [] h = absurd h
+permitted p (e ∷ events) (a ∷ answers) h =
+    let n : a .next ≡ nextPuck p e = ap (λ (x : Step). x .next) (h .0) in
+    ap₂ _++_ (ap (λ (x : Step). x .words) (h .0)) (permitted (a .next) events answers (h .1) ∙ rw n)
+
+pub run-passages : (p : Puck) (g : UnderWay PuckMessage) (events : List Event) (answers : List PuckStepped) → good p ≡ true → Holds p g → RunPromise p events answers
+    → partWords puckBytes g ++ wordsGiven answers ≡ passageWords puckBytes (passagesOf p g events) ++ partWords puckBytes (goingAfter p g events)
+run-passages p g events answers k h r =
+    ap (λ (ws : List ℕ). partWords puckBytes g ++ ws) (permitted p events answers r) ∙ bridge puckBytes nextPuck (λ p e. stepOf p e .words) toldBy Stays step p g events (k, h)
+
+-- what is under way is sound
+holds-sound : (p : Puck) (g : UnderWay PuckMessage) → good p ≡ true → Holds p g → SoundPart puckBytes HeldByPuck g
+holds-sound p g k (by-box b z h) = part-sound-as of-box puckBytes HeldByPuck b (h .sound)
+holds-sound p g k (by-test n z some h) =
+    (test-held p (parts p k) (is-going p (parts p k) (lt-ltb 0 (p .test .left) some)), omega (arith, test-length p))
+
+-- and so are the passages
+pub run-sound : (p : Puck) (g : UnderWay PuckMessage) (events : List Event) → good p ≡ true → Holds p g
+    → Sound puckBytes HeldByPuck (passagesOf p g events) × SoundPart puckBytes HeldByPuck (goingAfter p g events)
+unfolding passagesOver goingOver
+run-sound p g [] k h = (tt, holds-sound p g k h)
+run-sound p g (e ∷ events) k h =
+    let s = step-sent p e g k h in
+    let r = run-sound (nextPuck p e) (toldBy p e g .going) events (stepped-puck p e k) (s .holds) in
+    (sound-append puckBytes HeldByPuck (toldBy p e g .passages) (passagesOf (nextPuck p e) (toldBy p e g .going) events) (s .sound) (r .0), r .1)
+
+-- a device as it is made
+pub made-holds : (buttons revision maker : ℕ) (p : Puck) → MadePromise buttons revision maker p → Holds p (atPowerUp (buttons % 8) (revision % 16) (maker % 8))
+made-holds b r m p e = rw e (powered-holds (b % 8) (r % 16) (m % 8) (made-is-good b r m (made b r m) refl))
