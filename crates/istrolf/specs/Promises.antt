@@ -12,9 +12,15 @@ use Rattle.ballbox.specs.Promises as ballbox
 use Rattle.ballbox.specs.declared.Event.{Event}
 use Rattle.listing.specs.Feeding as feeding
 use Rattle.listing.specs.Promises as listing
+use Rattle.puck.specs.Device as device
+use Rattle.puck.specs.Promises as puck
+use Rattle.puckreader.specs.State as puckreaders
+use Rattle.puckreader.specs.Promises as puckreader
+use Rattle.puckreader.specs.declared.PuckReader.{PuckReader}
 use Rattle.istrolf.specs.Readers as readers
 use Rattle.istrolf.specs.Boxes as boxes
 use Rattle.istrolf.specs.Listers as listers
+use Rattle.istrolf.specs.Pucks as pucks
 use Rattle.istrolf.specs.declared.HeldReader.{HeldReader}
 use Rattle.istrolf.specs.declared.FreshReader.{FreshReader}
 use Rattle.istrolf.specs.declared.ReadWord.{ReadWord}
@@ -24,6 +30,10 @@ use Rattle.istrolf.specs.declared.HeldBox.{HeldBox}
 use Rattle.istrolf.specs.declared.SteppedBox.{SteppedBox}
 use Rattle.istrolf.specs.declared.HeldLister.{HeldLister}
 use Rattle.istrolf.specs.declared.ListedBytes.{ListedBytes}
+use Rattle.istrolf.specs.declared.HeldPuck.{HeldPuck}
+use Rattle.istrolf.specs.declared.SteppedPuck.{SteppedPuck}
+use Rattle.istrolf.specs.declared.ReadPuckWord.{ReadPuckWord}
+use Rattle.istrolf.specs.declared.ReadPuckWords.{ReadPuckWords}
 
 -- `istrolf_reader_fresh(letter)`
 abbrev pub FreshReaderPromise : ℕ → FreshReader → Type 0
@@ -79,3 +89,26 @@ finishOf h out =
 
 abbrev pub FinishPromise : HeldLister → List ℕ → ListedBytes → List ℕ → Type 0
 FinishPromise h before answer after = listers.whole answer after ≡ finishOf h before
+
+-- `istrolf_puck_made(buttons, revision, maker)`
+abbrev pub MadePuckPromise : ℕ → ℕ → ℕ → HeldPuck → Type 0
+MadePuckPromise buttons revision maker answer = answer ≡ pucks.packed (device.made buttons revision maker)
+
+-- `istrolf_puck_motion`, `_buttons`, `_host`, `_latch`, `_send` and `_period`, each with its event
+unfoldable pub puckStepOf : HeldPuck → Event → SteppedPuck
+puckStepOf h e = cond (boxes.stands (h .ball)) (pucks.packedStep (puck.stepOf (pucks.unpacked h) e)) (pucks.refusedStep h)
+
+abbrev pub PuckStepPromise : HeldPuck → Event → SteppedPuck → Type 0
+PuckStepPromise h e answer = answer ≡ puckStepOf h e
+
+-- `istrolf_puck_reader_fresh()`
+abbrev pub FreshPuckReaderPromise : PuckReader → Type 0
+FreshPuckReaderPromise answer = answer ≡ puckreaders.fresh
+
+-- `istrolf_puck_reader_step(reader, word)`
+abbrev pub PuckReaderStepPromise : PuckReader → ℕ → ReadPuckWord → Type 0
+PuckReaderStepPromise r w answer = answer ≡ pucks.packedRead (puckreader.stepOf r w)
+
+-- `istrolf_puck_reader_read(reader, words, out)`
+abbrev pub PuckReadPromise : PuckReader → List ℕ → List ℤ → ReadPuckWords → List ℤ → Type 0
+PuckReadPromise r words before answer after = pucks.whole answer after ≡ puckreader.readOf r words before

@@ -30,3 +30,8 @@ nextPuck p e = stepOf p e .next
 unfoldable pub puckAfter : Puck → List Event → Puck
 puckAfter p [] = p
 puckAfter p (e ∷ events) = puckAfter (nextPuck p e) events
+
+-- the words of a run, by the rules
+unfoldable pub puckWords : Puck → List Event → List ℕ
+puckWords p [] = []
+puckWords p (e ∷ events) = stepOf p e .words ++ puckWords (nextPuck p e) events
