@@ -67,7 +67,7 @@ pub record Sends (a : Step) (g : UnderWay PuckMessage) (t : Told PuckMessage) : 
   pub holds : Holds (a .next) (t .going)
 
 -- the box's step, out of a self-test
-in-box : (g : UnderWay Message) → inBox (underWayAs of-box g) ≡ g
+pub in-box : (g : UnderWay Message) → inBox (underWayAs of-box g) ≡ g
 in-box nothing = refl
 in-box (first n m) = refl
 

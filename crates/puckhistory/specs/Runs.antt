@@ -1,8 +1,13 @@
 -- A run of the device: a list of events, and the answers of the public step to them.
 use Prim.Native.Nat.{ℕ}
+use mathlib.Core.Bool.{Bool, not}
 use mathlib.Core.List.{List, [], _∷_, _++_}
+use lib.Dec.{eqb}
 use Rattle.ballbox.specs.Promises.{sentWords}
 use Rattle.ballbox.specs.declared.Event.{Event}
+use Rattle.ballbox.specs.declared.Stepped.{Stepped}
+use Rattle.history.specs.Asked.{allHosts}
+use Rattle.puck.specs.Rules.{letterT}
 use Rattle.puck.specs.Promises.{StepPromise, stepOf}
 use Rattle.puck.specs.declared.Puck.{Puck}
 use Rattle.puck.specs.declared.PuckStepped.{PuckStepped}
@@ -35,3 +40,10 @@ puckAfter p (e ∷ events) = puckAfter (nextPuck p e) events
 unfoldable pub puckWords : Puck → List Event → List ℕ
 puckWords p [] = []
 puckWords p (e ∷ events) = stepOf p e .words ++ puckWords (nextPuck p e) events
+
+-- an answer of the device, as its box gave it; and events of which none is T
+abbrev pub asBoxAnswer : PuckStepped → Stepped
+asBoxAnswer a = record { refusal = a .refusal; next = a .next .ball; sent = a .sent }
+
+abbrev pub withoutT : List Event → Bool
+withoutT events = allHosts (λ byte. not (eqb byte letterT)) events

@@ -17,6 +17,7 @@ use Rattle.frames.specs.Frame as frame
 use Rattle.frames.proofs.Passages.{passages-append, sound-left, sound-right, sound-by, part-by, others-sound, same-finished}
 use Rattle.frames.proofs.Words.{passing, passing-append, passing-left, passing-right, line-passes, lost-passes}
 use Rattle.frames.proofs.Replaced as replaced
+use Rattle.frames.proofs.Marks.{resync}
 use Rattle.fold.specs.Fold.{written}
 use Rattle.fold.specs.Counting.{Long, total, answersOver}
 use Rattle.fold.proofs.Counting.{took-all}
@@ -197,3 +198,11 @@ exactly {passages} {others} {going} {words} s g d =
     (finishedReports others)
     (replaced.exactly puckFrame puck-marked puckBytes (framed-line passages s) (framed-going going g) d
     ∙ same-finished puckBytes HeldByPuck (decoded puckFrame puckBytes) shownByPuck held-shown others (others-sound puckBytes HeldByPuck s d))
+
+-- a line as it was sent: exactly its finished reports are handed out
+pub followed : (l : List (Passage PuckMessage)) (g : UnderWay PuckMessage) → SoundLine l → SoundGoing g → HandsOut (passageWords puckBytes l ++ partWords puckBytes g) (finishedReports l)
+followed l g s h =
+    hands-out (passageWords puckBytes l ++ partWords puckBytes g)
+    (legal-passing (passageWords puckBytes l ++ partWords puckBytes g) ∙ line-passes legally puckFrame puckBytes refl refl fit-legal l g (framed-line l s) (framed-going g h))
+    (finishedReports l)
+    (resync puckFrame puck-marked puckBytes (fresh puckFrame) l g (framed-line l s) (framed-going g h) ∙ same-finished puckBytes HeldByPuck (decoded puckFrame puckBytes) shownByPuck held-shown l s)
