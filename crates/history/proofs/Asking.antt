@@ -30,7 +30,7 @@ use Rattle.ballbox.specs.declared.Command.the-variants.{SetFormat, SetStream, S
 use Rattle.ballbox.specs.declared.Event.{Event}
 use Rattle.ballbox.specs.declared.Event.the-variants.{Motion, Buttons, Host, Latch, Send, Period}
 use Rattle.ballbox.proofs.Goodness.{stepped-good}
-use Rattle.ballbox.proofs.Refusals.{ruled}
+use Rattle.ballbox.proofs.Refusals.{ruled, refused-next}
 use Rattle.ballbox.proofs.Obeying.{dropped-settings, dropped-awake}
 use Rattle.history.specs.History.{formatOf, latchedNow, begun, pairedAt, paired, isFive, unsentReply, whenAwake, toldBy, nextBox, passagesOf, goingAfter}
 use Rattle.history.specs.Asked.{hostsPass, allHosts, asks, onlyAsks}
@@ -200,8 +200,8 @@ sending-alike b = go (bytesLeft b) refl
 pub dropped-alike : (b : BallBox) → Alike b (dropped b)
 dropped-alike b = record { format = ap (λ (s : Settings). s .format) (dropped-settings b); dormant = dropped-awake b }
 
--- the commands by which a box is asked for reports
-abbrev pub Asking : Command → Type 0
+-- the commands by which a box is asked for reports, and a byte that it ignores: none of them has a reply, changes the format or puts it to sleep
+abbrev pub pub Asking : Command → Type 0
 Asking (SetFormat f) = ⊥
 Asking (SetStream m) = Unit {0}
 Asking SetPrompt = Unit {0}
@@ -211,7 +211,7 @@ Asking AskCode = ⊥
 Asking AskLetters = ⊥
 Asking AskButtons = ⊥
 Asking Sleep = ⊥
-Asking Ignored = ⊥
+Asking Ignored = Unit {0}
 
 byte-asks : (n : ℕ) → Asking (commandOf n) → (byte : ℕ) → eqb byte n ≡ true → Asking (commandOf byte)
 byte-asks n h byte e = rw (eqb-true byte n e) h
@@ -238,7 +238,7 @@ asking-alike b AskCode h = absurd h
 asking-alike b AskLetters h = absurd h
 asking-alike b AskButtons h = absurd h
 asking-alike b Sleep h = absurd h
-asking-alike b Ignored h = absurd h
+asking-alike b Ignored h = record { format = refl; dormant = refl }
 
 pub asking-reply : (b : BallBox) (c : Command) → Asking c → replyTo b c ≡ []
 asking-reply b (SetFormat f) h = absurd h
@@ -250,8 +250,9 @@ asking-reply b AskCode h = absurd h
 asking-reply b AskLetters h = absurd h
 asking-reply b AskButtons h = absurd h
 asking-reply b Sleep h = absurd h
-asking-reply b Ignored h = absurd h
+asking-reply b Ignored h = refl
 
+<<<<<<< A
 <<<<<<< A
 -- an event by which a box is asked for reports leaves its format and keeps it awake
 awake-alike : (b : BallBox) (e : Event) → asks e ≡ true → Alike b (awake b e .next)
@@ -266,37 +267,81 @@ awake-alike b Period a = record { format = refl; dormant = refl }
 ||||||| O
 -- an event by which a box is asked for reports leaves its format and keeps it awake
 awake-alike : (b : BallBox) (e : Event) → asks e ≡ true → Alike b (awake b e .next)
+-- an event by which a box is asked for reports leaves its format and keeps it awake
+awake-alike : (b : BallBox) (e : Event) → asks e ≡ true → Alike b (awake b e .next)
+=======
+-- an event that is no byte of the host's, or one of those
+abbrev pub Asks : Event → Type 0
+Asks (Motion dx dy) = Unit {0}
+Asks (Buttons n) = Unit {0}
+Asks (Host byte) = Asking (commandOf byte)
+Asks Latch = Unit {0}
+Asks Send = Unit {0}
+Asks Period = Unit {0}
+
+asks-so : (e : Event) → asks e ≡ true → Asks e
+asks-so (Motion dx dy) a = tt
+asks-so (Buttons n) a = tt
+asks-so (Host byte) a = asking-command byte a
+asks-so Latch a = tt
+asks-so Send a = tt
+asks-so Period a = tt
+
+-- it leaves the format and keeps the box awake
+awake-alike : (b : BallBox) (e : Event) → Asks e → Alike b (awake b e .next)
+>>>>>>> B
 unfolding awake onPeriod onHost
 awake-alike b (Motion dx dy) a = record { format = refl; dormant = refl }
 awake-alike b (Buttons n) a = buttons-line n b .1
-awake-alike b (Host byte) a = alike-then (dropped-alike b) (asking-alike (dropped b) (commandOf byte) (asking-command byte a))
+awake-alike b (Host byte) a = alike-then (dropped-alike b) (asking-alike (dropped b) (commandOf byte) a)
 awake-alike b Latch a = latching-alike b
 awake-alike b Send a = sending-alike b
 awake-alike b Period a = record { format = refl; dormant = refl }
 
 -- and ends sound passages only
-awake-told : (f : Format) (b : BallBox) (e : Event) (g : UnderWay Message) → asks e ≡ true → SetTo f b g → SoundIn f (whenAwake b e g .passages) × SoundEnd f (whenAwake b e g .going)
+awake-told : (f : Format) (b : BallBox) (e : Event) (g : UnderWay Message) → Asks e → SetTo f b g → SoundIn f (whenAwake b e g .passages) × SoundEnd f (whenAwake b e g .going)
 awake-told f b (Motion dx dy) g a h = (tt, h .sound)
 awake-told f b (Buttons n) g a h = (tt, h .sound)
-awake-told f b (Host byte) g a h = (sound-broken f g (h .sound), rw (asking-reply b (commandOf byte) (asking-command byte a)) tt)
+awake-told f b (Host byte) g a h = (sound-broken f g (h .sound), rw (asking-reply b (commandOf byte) a) tt)
 awake-told f b Latch g a h = (tt, sound-latched f b g h)
 awake-told f b Send g a h = sound-sent f (paired b g) (sound-ready f b g h)
 awake-told f b Period g a h = (tt, h .sound)
 
-=======
->>>>>>> B
 pub refused-next : (b : BallBox) (e : Event) → good b ≡ true → aboveSeven e ≡ true → stepOf b e .next ≡ b
 unfolding stepOf
 refused-next b e k p = rw (k, p)
 
+||||||| 54fe09b
+pub refused-next : (b : BallBox) (e : Event) → good b ≡ true → aboveSeven e ≡ true → stepOf b e .next ≡ b
+unfolding stepOf
+refused-next b e k p = rw (k, p)
+
+=======
+>>>>>>> s9
 pub refused-told : (b : BallBox) (e : Event) (g : UnderWay Message) → aboveSeven e ≡ true → toldBy b e g ≡ told [] g
 unfolding toldBy
 refused-told b e g p = rw p
 
+<<<<<<< A
 -- a box whose host bytes pass a test, by which it stays awake and in its format; what they leave to be sent is sound
 pub record Hosts (P : List ℕ → Type 0) (test : ℕ → Bool) : Type 0 where
   pub stays : (b : BallBox) (byte : ℕ) → test byte ≡ true → Alike b (obeyed (commandOf byte) b)
   pub leaves : (f : Format) (b : BallBox) (byte : ℕ) → good b ≡ true → test byte ≡ true → SoundPart messageBytes (HeldWith P f) (unsentReply (replyTo b (commandOf byte)))
+||||||| O
+pub step-alike : (b : BallBox) (e : Event) → asks e ≡ true → good b ≡ true → b .dormant ≡ false → Alike b (stepOf b e .next)
+step-alike b e a k d = go (aboveSeven e) refl
+  where
+    go : (t : Bool) → aboveSeven e ≡ t → Alike b (stepOf b e .next)
+    go true p = rw (refused-next b e k p) (alike b)
+    go false p = rw (ruled b e false k p d) (awake-alike b e a)
+=======
+step-keeps : (b : BallBox) (e : Event) → Asks e → good b ≡ true → b .dormant ≡ false → Alike b (stepOf b e .next)
+step-keeps b e a k d = go (aboveSeven e) refl
+  where
+    go : (t : Bool) → aboveSeven e ≡ t → Alike b (stepOf b e .next)
+    go true p = rw (refused-next b e k p) (alike b)
+    go false p = rw (ruled b e false k p d) (awake-alike b e a)
+>>>>>>> B
 
 module _ {P : List ℕ → Type 0} {test : ℕ → Bool} (hosts : Hosts P test) where
   -- such an event leaves its format and keeps it awake
@@ -398,11 +443,13 @@ asked-step f b e g a h =
       carries = step-sends b e g (h .good) (h .carries) .carries;
       sound = step-told (held-lasting f) b e g a h (h .sound) .1;
     }
-||||||| O
+pub step-alike : (b : BallBox) (e : Event) → asks e ≡ true → good b ≡ true → b .dormant ≡ false → Alike b (stepOf b e .next)
+step-alike b e a = step-keeps b e (asks-so e a)
+
 -- one step of such a box
-asked-step : (f : Format) (b : BallBox) (e : Event) (g : UnderWay Message) → asks e ≡ true → SetTo f b g → SoundIn f (toldBy b e g .passages) × SetTo f (nextBox b e) (toldBy b e g .going)
+pub asked-step : (f : Format) (b : BallBox) (e : Event) (g : UnderWay Message) → Asks e → SetTo f b g → SoundIn f (toldBy b e g .passages) × SetTo f (nextBox b e) (toldBy b e g .going)
 asked-step f b e g a h =
-    let l = step-alike b e a (h .good) (h .awake) in
+    let l = step-keeps b e a (h .good) (h .awake) in
     let s = told-sound in (
       s .0,
       record {
@@ -447,7 +494,7 @@ pub asked-sound : (f : Format) (b : BallBox) (g : UnderWay Message) (events : Li
 unfolding allHosts passagesOver goingOver
 asked-sound f b g [] a h = (tt, h .sound)
 asked-sound f b g (e ∷ events) a h =
-    let s = asked-step f b e g (left (asks e) (onlyAsks events) a) h in
+    let s = asked-step f b e g (asks-so e (left (asks e) (onlyAsks events) a)) h in
     let r = asked-sound f (nextBox b e) (toldBy b e g .going) events (right (asks e) (onlyAsks events) a) (s .1) in
     (sound-append messageBytes (HeldBy f) (toldBy b e g .passages) (passagesOf (nextBox b e) (toldBy b e g .going) events) (s .0) (r .0), r .1)
 =======

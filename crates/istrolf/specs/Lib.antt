@@ -6,6 +6,7 @@ pub mod Yards
 pub mod Bridges
 pub mod Salvages
 pub mod Told
+pub mod Pucks
 pub mod Promises
 pub mod Runs
 pub mod Demand3

@@ -19,12 +19,18 @@ use Rattle.salvage.specs.declared.Picked.{Picked}
 use Rattle.salvaged.specs.Promises as salvaged
 use Rattle.replies.specs.Promises as replies
 use Rattle.replies.specs.declared.Asked.{Asked}
+use Rattle.puck.specs.Device as device
+use Rattle.puck.specs.Promises as puck
+use Rattle.puckreader.specs.State as puckreaders
+use Rattle.puckreader.specs.Promises as puckreader
+use Rattle.puckreader.specs.declared.PuckReader.{PuckReader}
 use Rattle.istrolf.specs.Readers as readers
 use Rattle.istrolf.specs.Boxes as boxes
 use Rattle.istrolf.specs.Listers as listers
 use Rattle.istrolf.specs.Bridges as bridges
 use Rattle.istrolf.specs.Salvages as salvages
 use Rattle.istrolf.specs.Told as told
+use Rattle.istrolf.specs.Pucks as pucks
 use Rattle.istrolf.specs.declared.HeldReader.{HeldReader}
 use Rattle.istrolf.specs.declared.FreshReader.{FreshReader}
 use Rattle.istrolf.specs.declared.ReadWord.{ReadWord}
@@ -48,6 +54,10 @@ use Rattle.istrolf.specs.declared.FreshTold.{FreshTold}
 use Rattle.istrolf.specs.declared.ToldCommand.{ToldCommand}
 use Rattle.istrolf.specs.declared.HeardWord.{HeardWord}
 use Rattle.istrolf.specs.declared.HeardWords.{HeardWords}
+use Rattle.istrolf.specs.declared.HeldPuck.{HeldPuck}
+use Rattle.istrolf.specs.declared.SteppedPuck.{SteppedPuck}
+use Rattle.istrolf.specs.declared.ReadPuckWord.{ReadPuckWord}
+use Rattle.istrolf.specs.declared.ReadPuckWords.{ReadPuckWords}
 
 -- `istrolf_reader_fresh(letter)`
 abbrev pub FreshReaderPromise : ℕ → FreshReader → Type 0
@@ -166,3 +176,26 @@ toldReadOf h words out = cond (told.stands h) (told.packedLong (replies.readOf (
 
 abbrev pub ToldReadPromise : HeldTold → List ℕ → List ℤ → HeardWords → List ℤ → Type 0
 ToldReadPromise h words before answer after = told.whole answer after ≡ toldReadOf h words before
+
+-- `istrolf_puck_made(buttons, revision, maker)`
+abbrev pub MadePuckPromise : ℕ → ℕ → ℕ → HeldPuck → Type 0
+MadePuckPromise buttons revision maker answer = answer ≡ pucks.packed (device.made buttons revision maker)
+
+-- `istrolf_puck_motion`, `_buttons`, `_host`, `_latch`, `_send` and `_period`, each with its event
+unfoldable pub puckStepOf : HeldPuck → Event → SteppedPuck
+puckStepOf h e = cond (boxes.stands (h .ball)) (pucks.packedStep (puck.stepOf (pucks.unpacked h) e)) (pucks.refusedStep h)
+
+abbrev pub PuckStepPromise : HeldPuck → Event → SteppedPuck → Type 0
+PuckStepPromise h e answer = answer ≡ puckStepOf h e
+
+-- `istrolf_puck_reader_fresh()`
+abbrev pub FreshPuckReaderPromise : PuckReader → Type 0
+FreshPuckReaderPromise answer = answer ≡ puckreaders.fresh
+
+-- `istrolf_puck_reader_step(reader, word)`
+abbrev pub PuckReaderStepPromise : PuckReader → ℕ → ReadPuckWord → Type 0
+PuckReaderStepPromise r w answer = answer ≡ pucks.packedRead (puckreader.stepOf r w)
+
+-- `istrolf_puck_reader_read(reader, words, out)`
+abbrev pub PuckReadPromise : PuckReader → List ℕ → List ℤ → ReadPuckWords → List ℤ → Type 0
+PuckReadPromise r words before answer after = pucks.whole answer after ≡ puckreader.readOf r words before

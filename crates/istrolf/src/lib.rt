@@ -4,12 +4,16 @@ use ballbox::Settings;
 use ballbox::Sums;
 use ballbox::Track;
 use replies::Came;
+use puck::Testing;
+use puckreader::PuckReader;
+use vsxxx::SelfTest;
 use wire::Report;
 
 mod boxes;
 mod bridges;
 mod encoder;
 mod listers;
+mod pucks;
 mod readers;
 mod yards;
 mod salvages;
@@ -239,4 +243,44 @@ pub(crate) struct Own {
     pub reports: u8,
     pub dropped: u8,
     pub report: Report,
+}
+
+// A VSXXX puck as C holds it.
+#[repr(C)]
+pub struct HeldPuck {
+    pub ball: HeldBox,
+    pub test: Testing,
+    pub revision: u8,
+    pub maker: u8,
+}
+
+// What an event gives back: the refusal, how many words are sent, 0 or 1, the word, 0 where there is none, and the device.
+#[repr(C)]
+pub struct SteppedPuck {
+    pub refusal: u8,
+    pub sent: u8,
+    pub word: u16,
+    pub next: HeldPuck,
+}
+
+// What a word is answered by: how many movements and how many self-tests, 0 or 1, how many bytes dropped, and the report, zeros where there is none.
+#[repr(C)]
+pub struct ReadPuckWord {
+    pub refusal: u8,
+    pub movements: u8,
+    pub tests: u8,
+    pub dropped: u8,
+    pub next: PuckReader,
+    pub movement: Report,
+    pub test: SelfTest,
+}
+
+// What a long read gives back.
+#[repr(C)]
+pub struct ReadPuckWords {
+    pub refusal: u8,
+    pub next: PuckReader,
+    pub taken: usize,
+    pub reports: usize,
+    pub dropped: usize,
 }
