@@ -8,7 +8,8 @@ use Rattle.wire.specs.declared.Report.{Report}
 use Rattle.ballbox.specs.declared.Event.{Event}
 use Rattle.istrolf.specs.Readers as readers
 use Rattle.istrolf.specs.Listers as listers
-use Rattle.istrolf.specs.Promises.{FreshReaderPromise, ReaderStepPromise, ReadPromise, EncodePromise, FreshBoxPromise, BoxStepPromise, FreshListerPromise, FeedPromise, FinishPromise}
+use Rattle.istrolf.specs.Readbacks as readbacks
+use Rattle.istrolf.specs.Promises.{FreshReaderPromise, ReaderStepPromise, ReadPromise, EncodePromise, FreshBoxPromise, BoxStepPromise, FreshListerPromise, FeedPromise, FinishPromise, FreshReadbackPromise, ReadbackReadPromise, ReadbackFinishPromise}
 use Rattle.istrolf.specs.declared.HeldReader.{HeldReader}
 use Rattle.istrolf.specs.declared.FreshReader.{FreshReader}
 use Rattle.istrolf.specs.declared.ReadWord.{ReadWord}
@@ -18,6 +19,8 @@ use Rattle.istrolf.specs.declared.HeldBox.{HeldBox}
 use Rattle.istrolf.specs.declared.SteppedBox.{SteppedBox}
 use Rattle.istrolf.specs.declared.HeldLister.{HeldLister}
 use Rattle.istrolf.specs.declared.ListedBytes.{ListedBytes}
+use Rattle.istrolf.specs.declared.HeldReadback.{HeldReadback}
+use Rattle.istrolf.specs.declared.ReadLines.{ReadLines}
 
 listed-same : {a b : ListedBytes} {x y : List ℕ} → listers.whole a x ≡ listers.whole b y → (a ≡ b) × (x ≡ y)
 listed-same e = (ap (λ (l : listers.Whole). l .listed) e, ap (λ (l : listers.Whole). l .out) e)
@@ -54,3 +57,13 @@ one-feed h input out a b x y e f = listed-same (e ∙ sym f)
 pub one-finish : (h : HeldLister) (out : List ℕ) (a b : ListedBytes) (x y : List ℕ)
     → FinishPromise h out a x → FinishPromise h out b y → (a ≡ b) × (x ≡ y)
 one-finish h out a b x y e f = listed-same (e ∙ sym f)
+
+pub one-fresh-readback : (a b : HeldReadback) → FreshReadbackPromise a → FreshReadbackPromise b → a ≡ b
+one-fresh-readback a b e f = e ∙ sym f
+
+pub one-readback-read : (h : HeldReadback) (input : List ℕ) (out : List ℤ) (a b : ReadLines) (x y : List ℤ)
+    → ReadbackReadPromise h input out a x → ReadbackReadPromise h input out b y → (a ≡ b) × (x ≡ y)
+one-readback-read h input out a b x y e f = (ap (λ (l : readbacks.Whole). l .back) (e ∙ sym f), ap (λ (l : readbacks.Whole). l .out) (e ∙ sym f))
+
+pub one-readback-finish : (h : HeldReadback) (left : ℕ) (a b : ReadLines) → ReadbackFinishPromise h left a → ReadbackFinishPromise h left b → a ≡ b
+one-readback-finish h left a b e f = e ∙ sym f

@@ -9,6 +9,9 @@ use Rattle.istrolf.specs.Marks.{isMark}
 use Rattle.istrolf.specs.Readers as readers
 use Rattle.istrolf.specs.Boxes as boxes
 use Rattle.istrolf.specs.Listers as listers
+use Rattle.istrolf.specs.Readbacks as readbacks
+use Rattle.readback.specs.declared.Readback.{Readback}
+use Rattle.istrolf.specs.declared.HeldReadback.{HeldReadback}
 use Rattle.istrolf.specs.declared.HeldReader.{HeldReader}
 use Rattle.istrolf.specs.declared.HeldBox.{HeldBox}
 use Rattle.istrolf.specs.declared.HeldLister.{HeldLister}
@@ -73,3 +76,13 @@ lister-back h s =
 
 pub lister-stands : (m : Lister) → listers.stands (listers.packed m) ≡ true
 lister-stands m = rw (mark-stands (m .scanner .ended), mark-stands (m .reader .awaiting))
+
+-- a reader of listings
+pub readback-there : (r : Readback) → readbacks.unpacked (readbacks.packed r) ≡ r
+readback-there r = λ i. record { width = r .width; last = r .last; lines = r .lines; ended = mark-back (r .ended) i }
+
+pub readback-back : (h : HeldReadback) → readbacks.stands h ≡ true → readbacks.packed (readbacks.unpacked h) ≡ h
+readback-back h s = λ i. record { width = h .width; ended = mark-of (h .ended) s i; last = h .last; lines = h .lines }
+
+pub readback-stands : (r : Readback) → readbacks.stands (readbacks.packed r) ≡ true
+readback-stands r = rw (mark-stands (r .ended))

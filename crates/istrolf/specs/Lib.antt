@@ -2,6 +2,7 @@ pub mod Marks
 pub mod Readers
 pub mod Boxes
 pub mod Listers
+pub mod Readbacks
 pub mod Promises
 pub mod Runs
 pub mod Demand3

@@ -12,9 +12,12 @@ use Rattle.ballbox.specs.Promises as ballbox
 use Rattle.ballbox.specs.declared.Event.{Event}
 use Rattle.listing.specs.Feeding as feeding
 use Rattle.listing.specs.Promises as listing
+use Rattle.readback.specs.Steps as steps
+use Rattle.readback.specs.Promises as readback
 use Rattle.istrolf.specs.Readers as readers
 use Rattle.istrolf.specs.Boxes as boxes
 use Rattle.istrolf.specs.Listers as listers
+use Rattle.istrolf.specs.Readbacks as readbacks
 use Rattle.istrolf.specs.declared.HeldReader.{HeldReader}
 use Rattle.istrolf.specs.declared.FreshReader.{FreshReader}
 use Rattle.istrolf.specs.declared.ReadWord.{ReadWord}
@@ -24,6 +27,8 @@ use Rattle.istrolf.specs.declared.HeldBox.{HeldBox}
 use Rattle.istrolf.specs.declared.SteppedBox.{SteppedBox}
 use Rattle.istrolf.specs.declared.HeldLister.{HeldLister}
 use Rattle.istrolf.specs.declared.ListedBytes.{ListedBytes}
+use Rattle.istrolf.specs.declared.HeldReadback.{HeldReadback}
+use Rattle.istrolf.specs.declared.ReadLines.{ReadLines}
 
 -- `istrolf_reader_fresh(letter)`
 abbrev pub FreshReaderPromise : ℕ → FreshReader → Type 0
@@ -79,3 +84,22 @@ finishOf h out =
 
 abbrev pub FinishPromise : HeldLister → List ℕ → ListedBytes → List ℕ → Type 0
 FinishPromise h before answer after = listers.whole answer after ≡ finishOf h before
+
+-- `istrolf_readback_fresh()`
+abbrev pub FreshReadbackPromise : HeldReadback → Type 0
+FreshReadbackPromise answer = answer ≡ readbacks.packed steps.fresh
+
+-- `istrolf_readback_read(reader, input, out)`
+unfoldable pub readbackReadOf : HeldReadback → List ℕ → List ℤ → readbacks.Whole
+readbackReadOf h input out =
+    cond (readbacks.stands h) (readbacks.packedWhole (readback.readOf (readbacks.unpacked h) input out)) (readbacks.whole (readbacks.refusedBack h) out)
+
+abbrev pub ReadbackReadPromise : HeldReadback → List ℕ → List ℤ → ReadLines → List ℤ → Type 0
+ReadbackReadPromise h input before answer after = readbacks.whole answer after ≡ readbackReadOf h input before
+
+-- `istrolf_readback_finish(reader, left)`
+unfoldable pub readbackFinishOf : HeldReadback → ℕ → ReadLines
+readbackFinishOf h left = cond (readbacks.stands h) (readbacks.packedBack (readback.finishOf (readbacks.unpacked h) left)) (readbacks.refusedBack h)
+
+abbrev pub ReadbackFinishPromise : HeldReadback → ℕ → ReadLines → Type 0
+ReadbackFinishPromise h left answer = answer ≡ readbackFinishOf h left

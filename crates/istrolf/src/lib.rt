@@ -8,6 +8,7 @@ use wire::Report;
 mod boxes;
 mod encoder;
 mod listers;
+mod readbacks;
 mod readers;
 
 // What is given back for what stands for no state.
@@ -103,4 +104,23 @@ pub struct ListedBytes {
     pub taken: usize,
     pub written: usize,
     pub next: HeldLister,
+}
+
+// A reader of listings as C holds it: whether its last line has come is 0 or 1.
+#[repr(C)]
+pub struct HeldReadback {
+    pub width: u8,
+    pub ended: u8,
+    pub last: u32,
+    pub lines: u32,
+}
+
+// What a call of it gives back.
+#[repr(C)]
+pub struct ReadLines {
+    pub refusal: u8,
+    pub line: u32,
+    pub taken: usize,
+    pub items: usize,
+    pub next: HeldReadback,
 }
