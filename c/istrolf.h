@@ -1,4 +1,5 @@
-/* Istrolf for C99 and C++: reader, encoder, box, lister and bridge for a serial trackball and the seven formats of the old mice. Link libistrolf.a.
+/* Istrolf for C99 and C++: reader, encoder, box, lister, bridge, yard check, reader of listings, reader of replies and salvage for a serial trackball and the seven
+ * formats of the old mice. Link libistrolf.a.
  *
  * Calls. Every function takes every argument, ends, and has one answer; each is proved. There is no set-up and no error but the refusals below.
  * Nothing is allocated and nothing is kept between calls, so calls from several threads need no lock.
@@ -8,7 +9,7 @@
  * to the functions. Whatever bytes stand in a state, a call is safe: what is no state is refused with ISTROLF_BAD_STATE and handed back as it was.
  *
  * Refusals. An answer's first member, refusal, is 0 or one of the numbers below. A refusal hands back the old state, writes nothing to what you
- * lent, and has counts of 0; only istrolf_reader_read and istrolf_bridge_convert do all before a bad word. Behind each function stand its refusals
+ * lent, and has counts of 0; only istrolf_reader_read and istrolf_bridge_convert do all before a bad word, and istrolf_readback_read all before a faulty line. Behind each function stand its refusals
  * in the order in which they are tested.
  *
  * Pointers. A pointer and the count of elements behind it stand for what you lend for the call alone: it is yours before and after, and nobody keeps
@@ -31,6 +32,7 @@ enum {
     ISTROLF_BAD_WORD = 4,     /* a line word above 257 */
     ISTROLF_SHORT_BUFFER = 5, /* a buffer shorter than the report */
     ISTROLF_BAD_STATE = 6,    /* a state that no function here gives */
+    ISTROLF_BAD_LISTING = 7,  /* a faulty line of a listing */
     ISTROLF_BAD_X1 = 8,       /* a movement that the format does not hold: the first of x1, y1, x2, y2 */
     ISTROLF_BAD_Y1 = 9,
     ISTROLF_BAD_X2 = 10,
@@ -264,6 +266,37 @@ istrolf_new_bridge istrolf_bridge_fresh(uint8_t letter);
  * before the bad word. With 0 and taken below count, out had no room for all V reports of the next report, and none of them is written: call again
  * with next, words + taken, count - taken and new room. */
 istrolf_converted istrolf_bridge_convert(istrolf_bridge bridge, const uint16_t *words, size_t count, uint8_t *out, size_t room);
+
+/* ---- The reader of listings: a listing in, its items out, in pieces of any size. */
+
+typedef struct {
+    uint8_t width;  /* of its line numbers; 0 before the first line */
+    uint8_t ended;  /* 1 once its last line, an H or an E, has come, and else 0 */
+    uint32_t last;  /* the last line number */
+    uint32_t lines; /* lines passed */
+} istrolf_readback;
+
+typedef struct {
+    uint8_t refusal;
+    uint32_t line; /* with BAD_LISTING the faulty line, counted from 1, or the one that is missing; and else 0 */
+    size_t taken;  /* bytes taken, of whole lines */
+    size_t items;  /* items written to the front of out, five numbers each */
+    istrolf_readback next;
+} istrolf_read_lines;
+
+/* An item's five numbers: its kind, its line and three values. R: buttons, with 8 where the middle is not known, x and y. D: bytes dropped. H: bytes kept, and no
+ * line. E: none. E over: none, and no line. */
+enum { ISTROLF_ITEM_R = 1, ISTROLF_ITEM_D = 2, ISTROLF_ITEM_H = 3, ISTROLF_ITEM_E = 4, ISTROLF_ITEM_OVER = 5 };
+
+/* A reader of listings before the first line. */
+istrolf_readback istrolf_readback_fresh(void);
+
+/* A piece of a listing. Refusals: BAD_STATE; BAD_LISTING, before a faulty line, with all as it stands before it. It takes whole lines: hand what was not taken over
+ * again, with what follows it; and where fewer than five places are left, with new room. */
+istrolf_read_lines istrolf_readback_read(istrolf_readback reader, const uint8_t *input, size_t count, int32_t *out, size_t room);
+
+/* The end of a listing, of which so many bytes are left that were not taken. Refusals: BAD_STATE; BAD_LISTING where bytes are left or no H or E has come. */
+istrolf_read_lines istrolf_readback_finish(istrolf_readback reader, size_t left);
 
 #ifdef __cplusplus
 }

@@ -11,7 +11,8 @@ use Rattle.istrolf.specs.Readers as readers
 use Rattle.istrolf.specs.Listers as listers
 use Rattle.istrolf.specs.Bridges as bridges
 use Rattle.istrolf.specs.Told as told
-use Rattle.istrolf.specs.Promises.{FreshReaderPromise, ReaderStepPromise, ReadPromise, EncodePromise, FreshBoxPromise, BoxStepPromise, FreshListerPromise, FeedPromise, FinishPromise, FreshYardPromise, YardStepPromise, YardCheckPromise, FreshBridgePromise, ConvertPromise, PickPromise, SalvagePromise, FreshToldPromise, TellPromise, ToldStepPromise, ToldReadPromise}
+use Rattle.istrolf.specs.Readbacks as readbacks
+use Rattle.istrolf.specs.Promises.{FreshReaderPromise, ReaderStepPromise, ReadPromise, EncodePromise, FreshBoxPromise, BoxStepPromise, FreshListerPromise, FeedPromise, FinishPromise, FreshYardPromise, YardStepPromise, YardCheckPromise, FreshBridgePromise, ConvertPromise, PickPromise, SalvagePromise, FreshToldPromise, TellPromise, ToldStepPromise, ToldReadPromise, FreshReadbackPromise, ReadbackReadPromise, ReadbackFinishPromise}
 use Rattle.istrolf.specs.declared.HeldReader.{HeldReader}
 use Rattle.istrolf.specs.declared.FreshReader.{FreshReader}
 use Rattle.istrolf.specs.declared.ReadWord.{ReadWord}
@@ -37,6 +38,8 @@ use Rattle.istrolf.specs.declared.FreshTold.{FreshTold}
 use Rattle.istrolf.specs.declared.ToldCommand.{ToldCommand}
 use Rattle.istrolf.specs.declared.HeardWord.{HeardWord}
 use Rattle.istrolf.specs.declared.HeardWords.{HeardWords}
+use Rattle.istrolf.specs.declared.HeldReadback.{HeldReadback}
+use Rattle.istrolf.specs.declared.ReadLines.{ReadLines}
 
 listed-same : {a b : ListedBytes} {x y : List ℕ} → listers.whole a x ≡ listers.whole b y → (a ≡ b) × (x ≡ y)
 listed-same e = (ap (λ (l : listers.Whole). l .listed) e, ap (λ (l : listers.Whole). l .out) e)
@@ -112,3 +115,13 @@ pub one-told-read : (h : HeldTold) (words : List ℕ) (out : List ℤ) (a b : He
     → ToldReadPromise h words out a x → ToldReadPromise h words out b y → (a ≡ b) × (x ≡ y)
 one-told-read h words out a b x y e f =
     (ap (λ (l : told.Whole). l .line) (e ∙ sym f), ap (λ (l : told.Whole). l .out) (e ∙ sym f))
+
+pub one-fresh-readback : (a b : HeldReadback) → FreshReadbackPromise a → FreshReadbackPromise b → a ≡ b
+one-fresh-readback a b e f = e ∙ sym f
+
+pub one-readback-read : (h : HeldReadback) (input : List ℕ) (out : List ℤ) (a b : ReadLines) (x y : List ℤ)
+    → ReadbackReadPromise h input out a x → ReadbackReadPromise h input out b y → (a ≡ b) × (x ≡ y)
+one-readback-read h input out a b x y e f = (ap (λ (l : readbacks.Whole). l .back) (e ∙ sym f), ap (λ (l : readbacks.Whole). l .out) (e ∙ sym f))
+
+pub one-readback-finish : (h : HeldReadback) (left : ℕ) (a b : ReadLines) → ReadbackFinishPromise h left a → ReadbackFinishPromise h left b → a ≡ b
+one-readback-finish h left a b e f = e ∙ sym f

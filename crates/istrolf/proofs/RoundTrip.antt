@@ -23,6 +23,9 @@ use Rattle.istrolf.specs.Yards as yards
 use Rattle.istrolf.specs.declared.HeldYard.{HeldYard}
 use Rattle.istrolf.specs.Bridges as bridges
 use Rattle.istrolf.specs.Told as told
+use Rattle.istrolf.specs.Readbacks as readbacks
+use Rattle.readback.specs.declared.Readback.{Readback}
+use Rattle.istrolf.specs.declared.HeldReadback.{HeldReadback}
 use Rattle.istrolf.specs.declared.HeldReader.{HeldReader}
 use Rattle.istrolf.specs.declared.HeldBox.{HeldBox}
 use Rattle.istrolf.specs.declared.HeldLister.{HeldLister}
@@ -159,3 +162,13 @@ told-back h s =
 
 pub told-stands : (s : ToldReader) → told.stands (told.packed s) ≡ true
 told-stands s = both (readers.stands (readers.packed (s .reader))) (leb (told.kindNumber (s .awaited .kind)) 4) (reader-stands (s .reader)) (kind-stands (s .awaited .kind))
+
+-- a reader of listings
+pub readback-there : (r : Readback) → readbacks.unpacked (readbacks.packed r) ≡ r
+readback-there r = λ i. record { width = r .width; last = r .last; lines = r .lines; ended = mark-back (r .ended) i }
+
+pub readback-back : (h : HeldReadback) → readbacks.stands h ≡ true → readbacks.packed (readbacks.unpacked h) ≡ h
+readback-back h s = λ i. record { width = h .width; ended = mark-of (h .ended) s i; last = h .last; lines = h .lines }
+
+pub readback-stands : (r : Readback) → readbacks.stands (readbacks.packed r) ≡ true
+readback-stands r = rw (mark-stands (r .ended))

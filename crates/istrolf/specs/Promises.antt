@@ -24,6 +24,8 @@ use Rattle.puck.specs.Promises as puck
 use Rattle.puckreader.specs.State as puckreaders
 use Rattle.puckreader.specs.Promises as puckreader
 use Rattle.puckreader.specs.declared.PuckReader.{PuckReader}
+use Rattle.readback.specs.Steps as steps
+use Rattle.readback.specs.Promises as readback
 use Rattle.istrolf.specs.Readers as readers
 use Rattle.istrolf.specs.Boxes as boxes
 use Rattle.istrolf.specs.Listers as listers
@@ -31,6 +33,7 @@ use Rattle.istrolf.specs.Bridges as bridges
 use Rattle.istrolf.specs.Salvages as salvages
 use Rattle.istrolf.specs.Told as told
 use Rattle.istrolf.specs.Pucks as pucks
+use Rattle.istrolf.specs.Readbacks as readbacks
 use Rattle.istrolf.specs.declared.HeldReader.{HeldReader}
 use Rattle.istrolf.specs.declared.FreshReader.{FreshReader}
 use Rattle.istrolf.specs.declared.ReadWord.{ReadWord}
@@ -58,6 +61,8 @@ use Rattle.istrolf.specs.declared.HeldPuck.{HeldPuck}
 use Rattle.istrolf.specs.declared.SteppedPuck.{SteppedPuck}
 use Rattle.istrolf.specs.declared.ReadPuckWord.{ReadPuckWord}
 use Rattle.istrolf.specs.declared.ReadPuckWords.{ReadPuckWords}
+use Rattle.istrolf.specs.declared.HeldReadback.{HeldReadback}
+use Rattle.istrolf.specs.declared.ReadLines.{ReadLines}
 
 -- `istrolf_reader_fresh(letter)`
 abbrev pub FreshReaderPromise : ℕ → FreshReader → Type 0
@@ -199,3 +204,22 @@ PuckReaderStepPromise r w answer = answer ≡ pucks.packedRead (puckreader.stepO
 -- `istrolf_puck_reader_read(reader, words, out)`
 abbrev pub PuckReadPromise : PuckReader → List ℕ → List ℤ → ReadPuckWords → List ℤ → Type 0
 PuckReadPromise r words before answer after = pucks.whole answer after ≡ puckreader.readOf r words before
+
+-- `istrolf_readback_fresh()`
+abbrev pub FreshReadbackPromise : HeldReadback → Type 0
+FreshReadbackPromise answer = answer ≡ readbacks.packed steps.fresh
+
+-- `istrolf_readback_read(reader, input, out)`
+unfoldable pub readbackReadOf : HeldReadback → List ℕ → List ℤ → readbacks.Whole
+readbackReadOf h input out =
+    cond (readbacks.stands h) (readbacks.packedWhole (readback.readOf (readbacks.unpacked h) input out)) (readbacks.whole (readbacks.refusedBack h) out)
+
+abbrev pub ReadbackReadPromise : HeldReadback → List ℕ → List ℤ → ReadLines → List ℤ → Type 0
+ReadbackReadPromise h input before answer after = readbacks.whole answer after ≡ readbackReadOf h input before
+
+-- `istrolf_readback_finish(reader, left)`
+unfoldable pub readbackFinishOf : HeldReadback → ℕ → ReadLines
+readbackFinishOf h left = cond (readbacks.stands h) (readbacks.packedBack (readback.finishOf (readbacks.unpacked h) left)) (readbacks.refusedBack h)
+
+abbrev pub ReadbackFinishPromise : HeldReadback → ℕ → ReadLines → Type 0
+ReadbackFinishPromise h left answer = answer ≡ readbackFinishOf h left

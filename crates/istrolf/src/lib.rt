@@ -14,6 +14,7 @@ mod bridges;
 mod encoder;
 mod listers;
 mod pucks;
+mod readbacks;
 mod readers;
 mod yards;
 mod salvages;
@@ -283,4 +284,23 @@ pub struct ReadPuckWords {
     pub taken: usize,
     pub reports: usize,
     pub dropped: usize,
+}
+
+// A reader of listings as C holds it: whether its last line has come is 0 or 1.
+#[repr(C)]
+pub struct HeldReadback {
+    pub width: u8,
+    pub ended: u8,
+    pub last: u32,
+    pub lines: u32,
+}
+
+// What a call of it gives back.
+#[repr(C)]
+pub struct ReadLines {
+    pub refusal: u8,
+    pub line: u32,
+    pub taken: usize,
+    pub items: usize,
+    pub next: HeldReadback,
 }
