@@ -7,6 +7,7 @@ mod listers;
 mod mixes;
 mod print;
 mod readers;
+mod told;
 
 fn main() {
     readers::fresh();
@@ -15,4 +16,5 @@ fn main() {
     encoder::encodes();
     boxes::steps();
     listers::recordings();
+    told::turns();
 }
