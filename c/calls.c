@@ -347,6 +347,75 @@ static void bridge_converts(void) {
     line("istrolf_bridge_convert", refused, all);
 }
 
+/* The reader that is told of replies. */
+
+static uint16_t heard(uint64_t call, uint64_t place) {
+    static const uint16_t replies[16] = {6, 16, 18, 20, 22, 24, 26, 28, 30, 85, 83, 79, 68, 80, 82, 257};
+    return drawn(call, place + 50, 2) == 0 ? replies[drawn(call, place, 16)] : word(call, place);
+}
+
+static istrolf_told any_told(uint64_t call) {
+    istrolf_told t = {any_reader(call), drawn_byte(call, 120, 6), {0, 0, 0}};
+    if (drawn(call, 121, 2) == 0) t.came.count = drawn_byte(call, 122, 4), t.came.first = letter(call, 123), t.came.second = drawn_byte(call, 124, 2);
+    return t;
+}
+
+static istrolf_told chosen_told(istrolf_told last, uint64_t call) {
+    uint64_t kind = drawn(call, 125, 16);
+    return kind == 0 ? istrolf_told_fresh(letter(call, 126)).told : kind == 1 ? any_told(call) : last;
+}
+
+static uint64_t mixed_came(uint64_t h, istrolf_came c) { return mixed(mixed(mixed(h, c.count), c.first), c.second); }
+
+static uint64_t mixed_told(uint64_t h, istrolf_told t) { return mixed_came(mixed(mixed_reader(h, t.reader), t.awaited), t.came); }
+
+static uint64_t mixed_reply(uint64_t h, istrolf_reply r) {
+    h = mixed(h, r.kind);
+    if (r.kind == ISTROLF_REPLY_FORMAT || r.kind == ISTROLF_REPLY_LETTERS) h = mixed(h, r.format);
+    if (r.kind == ISTROLF_REPLY_LETTERS) h = mixed(h, r.mode);
+    if (r.kind == ISTROLF_REPLY_BUTTONS) h = mixed(h, r.buttons);
+    return r.kind == ISTROLF_REPLY_BROKEN ? mixed_came(h, r.came) : h;
+}
+
+static uint64_t mixed_report(uint64_t h, istrolf_report p) {
+    return mixed_signed(mixed_signed(mixed_signed(mixed_signed(mixed(h, p.buttons), p.x1), p.y1), p.x2), p.y2);
+}
+
+static void told_turns(void) {
+    uint64_t all = 0, refused = 0;
+    istrolf_told last = istrolf_told_fresh('U').told;
+    for (uint64_t call = 0; call < 200000; call++) {
+        istrolf_told t = chosen_told(last, call);
+        uint64_t kind = drawn(call, 142, 8), one;
+        uint8_t number;
+        if (t.reader.awaiting > 1 || t.awaited > 4) { /* whatever is called */
+            istrolf_told_command_answer a = istrolf_told_waking(t);
+            number = a.refusal, last = a.next, one = mixed_told(mixed(0, a.refusal), a.next);
+        } else if (kind < 2) {
+            istrolf_told_command_answer a = kind == 0 ? istrolf_told_command(t, host(call, 143)) : istrolf_told_waking(t);
+            number = a.refusal, last = a.next, one = mixed_told(mixed(mixed(0, a.refusal), a.discarded), a.next);
+        } else if (kind < 5) {
+            istrolf_heard_word a = istrolf_told_step(t, heard(call, 144));
+            one = mixed_reply(mixed(0, a.refusal), a.reply);
+            one = a.reports > 0 ? mixed_report(mixed(one, 1), a.report) : a.dropped > 0 ? mixed(mixed(one, 2), a.dropped) : mixed(one, 0);
+            number = a.refusal, last = a.next, one = mixed_told(one, a.next);
+        } else {
+            uint16_t words[10];
+            int16_t out[12];
+            for (int i = 0; i < 10; i++) words[i] = heard(call, 130 + (uint64_t)i);
+            for (int i = 0; i < 12; i++) out[i] = 7;
+            istrolf_heard_words a = istrolf_told_read(t, words, drawn(call, 140, 11), out, drawn(call, 141, 13));
+            one = mixed_reply(mixed(mixed(mixed(mixed(0, a.refusal), a.taken), a.reports), a.dropped), a.reply);
+            one = mixed_told(one, a.next);
+            for (int i = 0; i < 12; i++) one = mixed_signed(one, out[i]);
+            number = a.refusal, last = a.next;
+        }
+        all = mixed(all, one);
+        refused += number > 0;
+    }
+    line("istrolf_told", refused, all);
+}
+
 int main(void) {
     readers_fresh();
     reader_steps();
@@ -359,5 +428,6 @@ int main(void) {
     yard_checks();
     bridges_fresh();
     bridge_converts();
+    told_turns();
     return 0;
 }

@@ -397,6 +397,106 @@ static void readback(void) {
     same("read_lines.refusal", istrolf_readback_finish(r, 0).refusal, ISTROLF_BAD_STATE);
 }
 
+static void same_came(istrolf_came c, uint8_t count, uint8_t first, uint8_t second) {
+    same("came.count", c.count, count);
+    same("came.first", c.first, first);
+    same("came.second", c.second, second);
+}
+
+static void same_reply(istrolf_reply r, uint8_t kind, uint8_t format, uint8_t mode, uint8_t buttons) {
+    same("reply.kind", r.kind, kind);
+    same("reply.format", r.format, format);
+    same("reply.mode", r.mode, mode);
+    same("reply.buttons", r.buttons, buttons);
+}
+
+static void told(void) {
+    const uint8_t none[5] = {0}, four[5] = {135, 11, 12, 13, 0};
+    istrolf_new_told n = istrolf_told_fresh('T');
+    same("new_told.refusal", n.refusal, 0);
+    same_reader(n.told.reader, 'T', none, 0, 1);
+    same("told.awaited", n.told.awaited, ISTROLF_AWAITS_NOTHING);
+    same_came(n.told.came, 0, 0, 0);
+    same("new_told.refusal", istrolf_told_fresh('X').refusal, ISTROLF_BAD_LETTER);
+
+    /* in: the first letter that has come and the kind make the reply; out: the same by its members, and the report reader as it was */
+    const istrolf_told t = {{'U', {135, 11, 12, 13, 0}, 4, 0}, ISTROLF_AWAITS_LETTERS, {1, 'B', 0}};
+    istrolf_heard_word w = istrolf_told_step(t, 'R');
+    same("heard_word.refusal", w.refusal, 0);
+    same("heard_word.reports", w.reports, 0);
+    same("heard_word.dropped", w.dropped, 0);
+    same_reply(w.reply, ISTROLF_REPLY_LETTERS, 'B', 'R', 0);
+    same_came(w.reply.came, 0, 0, 0);
+    same_reader(w.next.reader, 'U', four, 4, 0);
+    same("told.awaited", w.next.awaited, ISTROLF_AWAITS_NOTHING);
+    same_came(w.next.came, 0, 0, 0);
+
+    /* no mode: it breaks the reply, and ends the report */
+    w = istrolf_told_step(t, 240);
+    same_reply(w.reply, ISTROLF_REPLY_BROKEN, 0, 0, 0);
+    same_came(w.reply.came, 1, 'B', 0);
+    same("heard_word.reports", w.reports, 1);
+    same("report.buttons", w.report.buttons, 0);
+    same("report.x1", w.report.x1, 11);
+    same("report.y1", w.report.y1, 12);
+    same("report.x2", w.report.x2, 13);
+    same("report.y2", w.report.y2, -16);
+    same_reader(w.next.reader, 'U', none, 0, 0);
+    w = istrolf_told_step(t, ISTROLF_BREAK);
+    same("heard_word.dropped", w.dropped, 4);
+    w = istrolf_told_step(t, 258);
+    same("heard_word.refusal", w.refusal, ISTROLF_BAD_WORD);
+    same_reply(w.reply, ISTROLF_REPLY_NONE, 0, 0, 0);
+    same_reader(w.next.reader, 'U', four, 4, 0);
+    same("told.awaited", w.next.awaited, ISTROLF_AWAITS_LETTERS);
+    same_came(w.next.came, 1, 'B', 0);
+
+    /* three bytes, of which the low bits of the first tell */
+    istrolf_told b = {{'S', {0}, 0, 0}, ISTROLF_AWAITS_BUTTONS, {1, 253, 0}};
+    w = istrolf_told_step(b, 77);
+    same_came(w.next.came, 2, 253, 77);
+    same("told.awaited", w.next.awaited, ISTROLF_AWAITS_BUTTONS);
+    w = istrolf_told_step(w.next, 99);
+    same_reply(w.reply, ISTROLF_REPLY_BUTTONS, 0, 0, 5);
+    b.awaited = ISTROLF_AWAITS_CODE, b.came.count = 0, b.came.first = 0;
+    same_reply(istrolf_told_step(b, 26).reply, ISTROLF_REPLY_FORMAT, 'S', 0, 0);
+
+    istrolf_told_command_answer c = istrolf_told_command(t, 'f');
+    same("told_command.refusal", c.refusal, 0);
+    same("told_command.discarded", c.discarded, 1);
+    same("told.awaited", c.next.awaited, ISTROLF_AWAITS_CODE);
+    same_came(c.next.came, 0, 0, 0);
+    same_reader(c.next.reader, 'U', four, 4, 0);
+    c = istrolf_told_command(t, 'P');
+    same("told_command.refusal", c.refusal, ISTROLF_NO_REPLY);
+    same("told_command.discarded", c.discarded, 0);
+    same("told.awaited", c.next.awaited, ISTROLF_AWAITS_LETTERS);
+    same_came(c.next.came, 1, 'B', 0);
+    same("told.awaited", istrolf_told_waking(t).next.awaited, ISTROLF_AWAITS_ACK);
+    same_reply(istrolf_told_step(istrolf_told_waking(t).next, 6).reply, ISTROLF_REPLY_ACK, 0, 0, 0);
+
+    const uint16_t words[] = {240, 257, 130, 1, 2, 3, 4, 131, 5, 256, 7};
+    int16_t out[12] = {0};
+    for (int i = 0; i < 12; i++) out[i] = (int16_t)(700 + i);
+    istrolf_heard_words a = istrolf_told_read(t, words, 11, out, 12);
+    const int16_t numbers[12] = {0, 11, 12, 13, -16, 5, 1, 2, 3, 4, 710, 711};
+    same("heard_words.refusal", a.refusal, 0);
+    same("heard_words.taken", (long long)a.taken, 11);
+    same("heard_words.reports", (long long)a.reports, 2);
+    same("heard_words.dropped", (long long)a.dropped, 3);
+    same_reply(a.reply, ISTROLF_REPLY_BROKEN, 0, 0, 0);
+    same_came(a.reply.came, 1, 'B', 0);
+    same_reader(a.next.reader, 'U', none, 0, 1);
+    same("told.awaited", a.next.awaited, ISTROLF_AWAITS_NOTHING);
+    for (int i = 0; i < 12; i++) same("out", out[i], numbers[i]);
+    b.awaited = 5, b.came.second = 9;
+    a = istrolf_told_read(b, words, 11, out, 12);
+    same("heard_words.refusal", a.refusal, ISTROLF_BAD_STATE);
+    same("heard_words.taken", (long long)a.taken, 0);
+    same("told.awaited", a.next.awaited, 5);
+    same_came(a.next.came, 0, 0, 9);
+}
+
 int main(void) {
     reader();
     encoder();
@@ -405,6 +505,7 @@ int main(void) {
     yard();
     bridge();
     readback();
+    told();
     printf("%d compared, %d wrong\n", compared, wrong);
     return wrong > 0;
 }

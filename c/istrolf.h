@@ -9,8 +9,8 @@
  * to the functions. Whatever bytes stand in a state, a call is safe: what is no state is refused with ISTROLF_BAD_STATE and handed back as it was.
  *
  * Refusals. An answer's first member, refusal, is 0 or one of the numbers below. A refusal hands back the old state, writes nothing to what you
- * lent, and has counts of 0; only istrolf_reader_read and istrolf_bridge_convert do all before a bad word, and istrolf_readback_read all before a faulty line. Behind each function stand its refusals
- * in the order in which they are tested.
+ * lent, and has counts of 0; only istrolf_reader_read, istrolf_told_read and istrolf_bridge_convert do all before a bad word, and istrolf_readback_read all before a
+ * faulty line. Behind each function stand its refusals in the order in which they are tested.
  *
  * Pointers. A pointer and the count of elements behind it stand for what you lend for the call alone: it is yours before and after, and nobody keeps
  * the pointer. It must point at that many elements, aligned as C has them, also when the count is 0 (any address that is not null will do then). What
@@ -36,7 +36,8 @@ enum {
     ISTROLF_BAD_X1 = 8,       /* a movement that the format does not hold: the first of x1, y1, x2, y2 */
     ISTROLF_BAD_Y1 = 9,
     ISTROLF_BAD_X2 = 10,
-    ISTROLF_BAD_Y2 = 11
+    ISTROLF_BAD_Y2 = 11,
+    ISTROLF_NO_REPLY = 12     /* a command that has no reply */
 };
 
 /* A line word is a byte, 0 to 255, or one of these. */
@@ -297,6 +298,91 @@ istrolf_read_lines istrolf_readback_read(istrolf_readback reader, const uint8_t 
 
 /* The end of a listing, of which so many bytes are left that were not taken. Refusals: BAD_STATE; BAD_LISTING where bytes are left or no H or E has come. */
 istrolf_read_lines istrolf_readback_finish(istrolf_readback reader, size_t left);
+
+/* ---- The reader that is told of replies: it reads the reply to a command just sent, and hands over to the report reader. */
+
+/* The bytes of a reply that have come: how many, and 0 in the places behind them. */
+typedef struct {
+    uint8_t count; /* at most 2 */
+    uint8_t first, second;
+} istrolf_came;
+
+/* The reply that is awaited. */
+enum {
+    ISTROLF_AWAITS_NOTHING = 0,
+    ISTROLF_AWAITS_ACK = 1,     /* of a space, or of a byte that woke a dormant box: 06H */
+    ISTROLF_AWAITS_CODE = 2,    /* of 'f': one byte */
+    ISTROLF_AWAITS_LETTERS = 3, /* of 't': two letters */
+    ISTROLF_AWAITS_BUTTONS = 4  /* of 05H: three bytes */
+};
+
+typedef struct {
+    istrolf_reader reader; /* the report reader; it stays as it is while a reply is read */
+    uint8_t awaited;       /* one of the above */
+    istrolf_came came;     /* what has come of it */
+} istrolf_told;
+
+/* What became of a reply. */
+enum {
+    ISTROLF_REPLY_NONE = 0,    /* nothing yet */
+    ISTROLF_REPLY_ACK = 1,     /* it is whole: ACK */
+    ISTROLF_REPLY_FORMAT = 2,  /* it is whole: format */
+    ISTROLF_REPLY_LETTERS = 3, /* it is whole: format and mode */
+    ISTROLF_REPLY_BUTTONS = 4, /* it is whole: buttons */
+    ISTROLF_REPLY_BROKEN = 5   /* a word that is none of its bytes came first; came has those before it. The word went to the report reader */
+};
+
+typedef struct {
+    uint8_t kind;                  /* one of the above */
+    uint8_t format, mode, buttons; /* what it tells, and else 0 */
+    istrolf_came came;             /* of a broken one, and else zeros */
+} istrolf_reply;
+
+typedef struct {
+    uint8_t refusal;
+    istrolf_told told;
+} istrolf_new_told;
+
+typedef struct {
+    uint8_t refusal;
+    uint8_t discarded; /* how many bytes of an unfinished reply were discarded */
+    istrolf_told next;
+} istrolf_told_command_answer;
+
+typedef struct {
+    uint8_t refusal;
+    uint8_t reports; /* 1 if this word ended a report, and else 0 */
+    uint8_t dropped; /* how many bytes were dropped */
+    istrolf_reply reply;
+    istrolf_told next;
+    istrolf_report report; /* the report, or zeros */
+} istrolf_heard_word;
+
+typedef struct {
+    uint8_t refusal;
+    istrolf_reply reply; /* there is at most one in a call */
+    istrolf_told next;
+    size_t taken;   /* words taken */
+    size_t reports; /* reports written */
+    size_t dropped; /* bytes dropped; those of replies are not among them */
+} istrolf_heard_words;
+
+/* A fresh one of a format, which awaits no reply. Refusal: BAD_LETTER, and then it is a fresh one of U. */
+istrolf_new_told istrolf_told_fresh(uint8_t letter);
+
+/* This command was just sent: ' ', 'f', 't' or 5. Call it behind the break that the command itself may cause, and before the next word. It takes the place of an
+ * unfinished reply. Refusals: BAD_STATE, NO_REPLY. */
+istrolf_told_command_answer istrolf_told_command(istrolf_told told, uint8_t byte);
+
+/* The byte just sent, any, woke a dormant box. Refusal: BAD_STATE. */
+istrolf_told_command_answer istrolf_told_waking(istrolf_told told);
+
+/* One word. Refusals: BAD_STATE, BAD_WORD. */
+istrolf_heard_word istrolf_told_step(istrolf_told told, uint16_t word);
+
+/* Many words, as istrolf_reader_read has them, between two commands. It stops before a word that would end a report without room, the reply still awaited. Refusals:
+ * BAD_STATE; BAD_WORD, with all as it stands before the bad word. */
+istrolf_heard_words istrolf_told_read(istrolf_told told, const uint16_t *words, size_t count, int16_t *out, size_t room);
 
 #ifdef __cplusplus
 }

@@ -9,6 +9,7 @@ mod mixes;
 mod print;
 mod readers;
 mod yards;
+mod told;
 
 fn main() {
     readers::fresh();
@@ -20,4 +21,5 @@ fn main() {
     yards::calls();
     bridges::fresh();
     bridges::converts();
+    told::turns();
 }
