@@ -10,7 +10,7 @@ use readback::Readback;
 use text::Text;
 
 // The most blocks that are read, each of a byte or more: no listing is as long.
-const MOST: u32 = 1_000_000;
+const MOST: u32 = 30_000_000;
 
 // Where the table stands: the reader, the bytes of a line that is not whole yet, whether more is to be read, whether each read and write went well, and the
 // place of a faulty line.

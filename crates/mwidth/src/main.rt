@@ -6,9 +6,10 @@ use libc::STDERR_FILENO;
 use libc::STDIN_FILENO;
 use libc::STDOUT_FILENO;
 use readback::Readback;
+use readback::Rewritten;
 
-// The most reads, each of a byte or more: no listing has as many bytes.
-const READS: u32 = 30_000_000;
+// The most blocks that are read, each of a byte or more: no listing has as many bytes.
+const MOST: u32 = 30_000_000;
 
 // Where the rewriting stands: the reader, the bytes of a line that is not whole yet, whether more is to be read, whether each read and write went well, and
 // what was refused, with its line.
@@ -21,31 +22,16 @@ struct Went {
     line: u32,
 }
 
-// The lesser of two numbers.
-fn least(a: usize, b: usize) -> usize
-    ensures { λ r. ⌜ (r ≤ a) × (r ≤ b) ⌝ }
-{
-    if a < b { a } else { b }
-}
-
-// The bytes from a place on, moved to the front, and how many they are.
-fn kept(input: &mut [u8], from: usize, count: usize) -> usize
-    ensures { λ r. ⌜ r ≤ length (now (input .exit)) ⌝ }
-{
-    let mut i: usize = 0;
-    while (i < count) & (i < input.len()) {
-        if input.len() - i <= from {
-            return i;
-        }
-        input[i] = input[from + i];
-        i += 1;
-    }
-    i
+// What a read brought, and whether it went well.
+struct Got {
+    count: usize,
+    well: bool,
 }
 
 // The first bytes, to standard output; where that fails, why, to standard error.
-fn show(out: &[u8], written: usize) -> bool {
-    let count = least(written, out.len());
+fn show(out: &[u8], count: usize) -> bool
+    requires { ⌜ count ≤ length (now out) ⌝ }
+{
     let is_shown = io::write_all(STDOUT_FILENO, &out[..count]);
     if !is_shown {
         os::fail(b"mwidth: standard output");
@@ -53,49 +39,65 @@ fn show(out: &[u8], written: usize) -> bool {
     is_shown
 }
 
-// What standard input brings, to a part of the buffer; where it cannot be read, why, to standard error, and nothing more is to be read.
-fn more(went: Went, part: &mut [u8]) -> Went
-    ensures { λ r. ⌜ r .held ≤ length (now (part .exit)) ⌝ }
+// The same, of no more bytes than there are.
+fn shown(out: &[u8], written: usize) -> bool {
+    if written > out.len() {
+        return false;
+    }
+    show(out, written)
+}
+
+// What standard input brings; where it cannot be read, why, to standard error.
+fn more(part: &mut [u8]) -> Got
+    ensures { λ r. ⌜ r .count ≤ length (now (part .exit)) ⌝ }
 {
     let got = libc::read(STDIN_FILENO, part);
     let n = io::count(got, part);
     if got < 0 {
         os::fail(b"mwidth: standard input");
     }
-    Went {
-        next: went.next,
-        held: n,
-        on: n > 0,
+    Got {
+        count: n,
         well: got >= 0,
-        refusal: 0,
-        line: 0,
     }
 }
 
-// The lines that are there, rewritten; the bytes behind them are kept.
-fn lines(next: Readback, input: &mut [u8], there: usize, out: &mut [u8]) -> Went {
-    let count = least(there, input.len());
-    let told = next.rewrite(&input[..count], out);
-    let is_shown = show(out, told.written);
-    let from = least(told.taken, count);
-    let held = kept(input, from, count - from);
-    Went {
-        next: told.next,
-        held: held,
-        on: is_shown & (told.refusal == 0),
-        well: is_shown,
-        refusal: told.refusal,
-        line: told.line,
+// The bytes from a place up to another, moved to the front; how many they are.
+fn kept(input: &mut [u8], from: usize, to: usize) -> usize
+    ensures { λ r. ⌜ r ≤ length (now (input .exit)) ⌝ }
+{
+    if to <= from {
+        return 0;
     }
+    if input.len() < to {
+        return 0;
+    }
+    let count = to - from;
+    let mut i: usize = 0;
+    while i < count {
+        input[i] = input[from + i];
+        i = i + 1;
+    }
+    count
 }
 
-// A block of the listing, behind the bytes that are held.
-fn block(went: Went, input: &mut [u8], out: &mut [u8]) -> Went {
-    let held = least(went.held, input.len());
-    let got = more(went, &mut input[held..]);
-    if !got.on {
+// The first bytes of a block, rewritten.
+fn front(reader: Readback, input: &[u8], all: usize, out: &mut [u8]) -> Rewritten
+    requires { ⌜ all ≤ length (now input) ⌝ }
+{
+    reader.rewrite(&input[..all], out)
+}
+
+// A block of the listing: the bytes that were held and what a read brings.
+fn block(reader: Readback, held: usize, input: &mut [u8], out: &mut [u8]) -> Went
+    requires { ⌜ held ≤ length (now input) ⌝ }
+    ensures { λ r. ⌜ r .held ≤ length (now (input .exit)) ⌝ }
+{
+    let got = more(&mut input[held..]);
+    let all = held + got.count;
+    if got.count == 0 {
         return Went {
-            next: went.next,
+            next: reader,
             held: held,
             on: false,
             well: got.well,
@@ -103,10 +105,21 @@ fn block(went: Went, input: &mut [u8], out: &mut [u8]) -> Went {
             line: 0,
         };
     }
-    lines(went.next, input, held + got.held, out)
+    let told = front(reader, input, all, out);
+    let next = told.next;
+    let well = shown(out, told.written);
+    let left = kept(input, told.taken, all);
+    Went {
+        next: next,
+        held: left,
+        on: well & (told.refusal == 0),
+        well: well,
+        refusal: told.refusal,
+        line: told.line,
+    }
 }
 
-// The blocks, one after the other.
+// The blocks, one after the other, until the listing is over or a line is not rewritten.
 fn blocks(input: &mut [u8], out: &mut [u8]) -> Went {
     let mut went = Went {
         next: Readback::fresh(),
@@ -116,10 +129,13 @@ fn blocks(input: &mut [u8], out: &mut [u8]) -> Went {
         refusal: 0,
         line: 0,
     };
-    let mut reads: u32 = 0;
-    while went.on & (reads < READS) {
-        went = block(went, input, out);
-        reads += 1;
+    let mut i: u32 = 0;
+    while i < MOST {
+        if !(went.on & went.well) {
+            return went;
+        }
+        went = block(went.next, went.held, input, out);
+        i = i + 1;
     }
     went
 }
@@ -131,20 +147,20 @@ fn tell(line: u32, why: &[u8]) {
     io::write_all(STDERR_FILENO, why);
 }
 
-// What was refused, or the end where it is missing.
-fn end(went: Went) {
+// What was refused, or an end that is missing.
+fn last(went: Went) {
     if went.refusal == 15 {
         tell(went.line, b": its number does not fit the other width\n");
         return;
     }
-    if went.refusal == 7 {
-        tell(went.line, b": no line of a listing stands there\n");
+    if went.refusal != 0 {
+        tell(went.line, b" is faulty\n");
         return;
     }
-    let next = went.next;
-    let last = next.finish(went.held);
-    if last.refusal == 7 {
-        tell(last.line, b": the listing ends before its end\n");
+    let reader = went.next;
+    let end = reader.finish(went.held);
+    if end.refusal != 0 {
+        tell(end.line, b" is missing or not whole\n");
     }
 }
 
@@ -153,6 +169,6 @@ fn main() {
     let mut out = [0u8; 8192];
     let went = blocks(&mut input, &mut out);
     if went.well {
-        end(went);
+        last(went);
     }
 }

@@ -11,7 +11,7 @@ abbrev Inv-loop : tie.InvT-loop
 Inv-loop input₀ items₀ went₀ i₀ input items went i = (went .held ≤ length input) × (length input ≡ length input₀) × (length items ≡ length items₀)
 
 abbrev μ-loop : tie.MeasureT-loop
-μ-loop input₀ items₀ went₀ i₀ input items went i = 1000000 - i
+μ-loop input₀ items₀ went₀ i₀ input items went i = 30000000 - i
 
 fresh-requires : tie.Need-fresh-requires Inv-loop μ-loop
 fresh-requires c κs = tt
