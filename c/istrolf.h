@@ -299,6 +299,19 @@ istrolf_read_lines istrolf_readback_read(istrolf_readback reader, const uint8_t 
 /* The end of a listing, of which so many bytes are left that were not taken. Refusals: BAD_STATE; BAD_LISTING where bytes are left or no H or E has come. */
 istrolf_read_lines istrolf_readback_finish(istrolf_readback reader, size_t left);
 
+/* What a piece that is rewritten gives back. */
+typedef struct {
+    uint8_t refusal;
+    uint32_t line;  /* the line that was not rewritten, counted from 1, or 0 */
+    size_t taken;   /* bytes taken, of whole lines */
+    size_t written; /* bytes written to the front of out */
+    istrolf_readback next;
+} istrolf_rewritten;
+
+/* A piece of a listing, rewritten with line numbers of the other width, 4 or 6. Refusals: BAD_STATE; BAD_LISTING, before a faulty line; TOO_WIDE, before a line
+ * whose number does not fit; whichever of the two comes first, with all as it stands before it. */
+istrolf_rewritten istrolf_readback_rewrite(istrolf_readback reader, const uint8_t *input, size_t count, uint8_t *out, size_t room);
+
 /* ---- The reader that is told of replies: it reads the reply to a command just sent, and hands over to the report reader. */
 
 /* The bytes of a reply that have come: how many, and 0 in the places behind them. */

@@ -12,7 +12,7 @@ use Rattle.istrolf.specs.Listers as listers
 use Rattle.istrolf.specs.Bridges as bridges
 use Rattle.istrolf.specs.Told as told
 use Rattle.istrolf.specs.Readbacks as readbacks
-use Rattle.istrolf.specs.Promises.{FreshReaderPromise, ReaderStepPromise, ReadPromise, EncodePromise, FreshBoxPromise, BoxStepPromise, FreshListerPromise, FeedPromise, FinishPromise, FreshYardPromise, YardStepPromise, YardCheckPromise, FreshBridgePromise, ConvertPromise, PickPromise, SalvagePromise, FreshToldPromise, TellPromise, ToldStepPromise, ToldReadPromise, FreshReadbackPromise, ReadbackReadPromise, ReadbackFinishPromise}
+use Rattle.istrolf.specs.Promises.{FreshReaderPromise, ReaderStepPromise, ReadPromise, EncodePromise, FreshBoxPromise, BoxStepPromise, FreshListerPromise, FeedPromise, FinishPromise, FreshYardPromise, YardStepPromise, YardCheckPromise, FreshBridgePromise, ConvertPromise, PickPromise, SalvagePromise, FreshToldPromise, TellPromise, ToldStepPromise, ToldReadPromise, FreshReadbackPromise, ReadbackReadPromise, ReadbackFinishPromise, ReadbackRewritePromise}
 use Rattle.istrolf.specs.declared.HeldReader.{HeldReader}
 use Rattle.istrolf.specs.declared.FreshReader.{FreshReader}
 use Rattle.istrolf.specs.declared.ReadWord.{ReadWord}
@@ -39,6 +39,7 @@ use Rattle.istrolf.specs.declared.ToldCommand.{ToldCommand}
 use Rattle.istrolf.specs.declared.HeardWord.{HeardWord}
 use Rattle.istrolf.specs.declared.HeardWords.{HeardWords}
 use Rattle.istrolf.specs.declared.HeldReadback.{HeldReadback}
+use Rattle.istrolf.specs.declared.RewrittenLines.{RewrittenLines}
 use Rattle.istrolf.specs.declared.ReadLines.{ReadLines}
 
 listed-same : {a b : ListedBytes} {x y : List ℕ} → listers.whole a x ≡ listers.whole b y → (a ≡ b) × (x ≡ y)
@@ -125,3 +126,7 @@ one-readback-read h input out a b x y e f = (ap (λ (l : readbacks.Whole). l .ba
 
 pub one-readback-finish : (h : HeldReadback) (left : ℕ) (a b : ReadLines) → ReadbackFinishPromise h left a → ReadbackFinishPromise h left b → a ≡ b
 one-readback-finish h left a b e f = e ∙ sym f
+
+pub one-readback-rewrite : (h : HeldReadback) (input out : List ℕ) (a b : RewrittenLines) (x y : List ℕ)
+    → ReadbackRewritePromise h input out a x → ReadbackRewritePromise h input out b y → (a ≡ b) × (x ≡ y)
+one-readback-rewrite h input out a b x y e f = (ap (λ (l : readbacks.Rewriting). l .told) (e ∙ sym f), ap (λ (l : readbacks.Rewriting). l .out) (e ∙ sym f))

@@ -62,6 +62,7 @@ use Rattle.istrolf.specs.declared.SteppedPuck.{SteppedPuck}
 use Rattle.istrolf.specs.declared.ReadPuckWord.{ReadPuckWord}
 use Rattle.istrolf.specs.declared.ReadPuckWords.{ReadPuckWords}
 use Rattle.istrolf.specs.declared.HeldReadback.{HeldReadback}
+use Rattle.istrolf.specs.declared.RewrittenLines.{RewrittenLines}
 use Rattle.istrolf.specs.declared.ReadLines.{ReadLines}
 
 -- `istrolf_reader_fresh(letter)`
@@ -223,3 +224,11 @@ readbackFinishOf h left = cond (readbacks.stands h) (readbacks.packedBack (readb
 
 abbrev pub ReadbackFinishPromise : HeldReadback → ℕ → ReadLines → Type 0
 ReadbackFinishPromise h left answer = answer ≡ readbackFinishOf h left
+
+-- `istrolf_readback_rewrite(reader, input, out)`
+unfoldable pub readbackRewriteOf : HeldReadback → List ℕ → List ℕ → readbacks.Rewriting
+readbackRewriteOf h input out =
+    cond (readbacks.stands h) (readbacks.packedRewriting (readback.rewriteOf (readbacks.unpacked h) input out)) (readbacks.rewriting (readbacks.refusedRewritten h) out)
+
+abbrev pub ReadbackRewritePromise : HeldReadback → List ℕ → List ℕ → RewrittenLines → List ℕ → Type 0
+ReadbackRewritePromise h input before answer after = readbacks.rewriting answer after ≡ readbackRewriteOf h input before

@@ -304,3 +304,13 @@ pub struct ReadLines {
     pub items: usize,
     pub next: HeldReadback,
 }
+
+// What a piece that is rewritten at the other width gives back.
+#[repr(C)]
+pub struct RewrittenLines {
+    pub refusal: u8,
+    pub line: u32,
+    pub taken: usize,
+    pub written: usize,
+    pub next: HeldReadback,
+}

@@ -1,12 +1,14 @@
 // The reader of listings for C: a listing in, its items out, in pieces of any size.
 ghost use mathlib.Core.Path.{_≡_};
-ghost use Rattle.istrolf.specs.Readbacks.{packed, unpacked, stands, packedBack, refusedBack};
-ghost use Rattle.istrolf.specs.Promises.{FreshReadbackPromise, ReadbackReadPromise, ReadbackFinishPromise};
+ghost use Rattle.istrolf.specs.Readbacks.{packed, unpacked, stands, packedBack, refusedBack, packedRewritten, refusedRewritten};
+ghost use Rattle.istrolf.specs.Promises.{FreshReadbackPromise, ReadbackReadPromise, ReadbackFinishPromise, ReadbackRewritePromise};
 use crate::BAD_STATE;
 use crate::HeldReadback;
 use crate::ReadLines;
+use crate::RewrittenLines;
 use readback::Back;
 use readback::Readback;
+use readback::Rewritten;
 
 fn packed(reader: Readback) -> HeldReadback
     ensures { λ r. ⌜ r ≡ packed reader ⌝ }
@@ -94,4 +96,44 @@ pub extern "C" fn istrolf_readback_finish(held: HeldReadback, left: usize) -> Re
         return refused_back(held);
     }
     packed_back(unpacked(held).finish(left))
+}
+
+fn packed_rewritten(told: Rewritten) -> RewrittenLines
+    ensures { λ r. ⌜ r ≡ packedRewritten told ⌝ }
+{
+    let next = packed(told.next);
+    RewrittenLines {
+        refusal: told.refusal,
+        line: told.line,
+        taken: told.taken,
+        written: told.written,
+        next: next,
+    }
+}
+
+fn refused_rewritten(held: HeldReadback) -> RewrittenLines
+    ensures { λ r. ⌜ r ≡ refusedRewritten held ⌝ }
+{
+    RewrittenLines {
+        refusal: BAD_STATE,
+        line: 0,
+        taken: 0,
+        written: 0,
+        next: held,
+    }
+}
+
+// A piece of a listing, rewritten at the other width to a lent slice.
+#[no_mangle]
+pub extern "C" fn istrolf_readback_rewrite(
+    held: HeldReadback,
+    input: &[u8],
+    out: &mut [u8],
+) -> RewrittenLines
+    ensures { λ r. ⌜ ReadbackRewritePromise held (now (input .entry)) (now (out .entry)) r (now (out .exit)) ⌝ }
+{
+    if !stands(held) {
+        return refused_rewritten(held);
+    }
+    packed_rewritten(unpacked(held).rewrite(input, out))
 }
