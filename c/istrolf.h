@@ -1,4 +1,4 @@
-/* Istrolf for C99 and C++: reader, encoder, box and lister for a serial trackball and the seven formats of the old mice. Link libistrolf.a.
+/* Istrolf for C99 and C++: reader, encoder, box, lister and salvage for a serial trackball and the seven formats of the old mice. Link libistrolf.a.
  *
  * Calls. Every function takes every argument, ends, and has one answer; each is proved. There is no set-up and no error but the refusals below.
  * Nothing is allocated and nothing is kept between calls, so calls from several threads need no lock.
@@ -34,7 +34,9 @@ enum {
     ISTROLF_BAD_X1 = 8,       /* a movement that the format does not hold: the first of x1, y1, x2, y2 */
     ISTROLF_BAD_Y1 = 9,
     ISTROLF_BAD_X2 = 10,
-    ISTROLF_BAD_Y2 = 11
+    ISTROLF_BAD_Y2 = 11,
+    ISTROLF_MARKED = 13,  /* a format whose first byte is marked: S, V, A or B */
+    ISTROLF_LONG_LOG = 14 /* more than 4,096 words */
 };
 
 /* A line word is a byte, 0 to 255, or one of these. */
@@ -192,6 +194,33 @@ istrolf_listed istrolf_lister_feed(istrolf_lister lister, const uint8_t *input, 
 
 /* The end of the recording. Refusal: BAD_STATE. If it has not ended then, there was no room for its text: call again with new room. */
 istrolf_listed istrolf_lister_finish(istrolf_lister lister, uint8_t *out, size_t room);
+
+/* ---- Salvage: a log in U, T or W whose line dropped bytes and had no silence. It picks separate runs of neighbouring bytes, each a valid report, so that
+ * the fewest bytes are left out; among equals those whose list of starting places is smallest, compared place by place. */
+
+typedef struct {
+    uint8_t refusal;
+    size_t taken; /* words taken */
+    size_t runs;  /* places written to the front of places */
+    size_t left;  /* bytes of the words taken that are in no run */
+} istrolf_picked;
+
+typedef struct {
+    uint8_t whole;  /* 1 if every line had room, and else 0 */
+    size_t written; /* bytes written to the front of out */
+} istrolf_salvaged;
+
+/* The most words of a log, and room in which every listing is whole. */
+enum { ISTROLF_SALVAGE_WORDS = 4096, ISTROLF_SALVAGE_ROOM = 163920 };
+
+/* The starting places of the runs, the first word being at 0. A third as many places as words have room for all. Refusals: BAD_LETTER, MARKED, LONG_LOG,
+ * BAD_WORD. With 0 and taken below count there was no place for the next run: call again with words + taken, count - taken and new room; the places
+ * are then counted from there. */
+istrolf_picked istrolf_salvage_pick(uint8_t letter, const uint16_t *words, size_t count, uint16_t *places, size_t room);
+
+/* The salvage of a recording, as text: a line S; R for each report and D for each longest run of bytes left out, at the line of its last byte; H 0. A marked
+ * format, a log too long or a bad line is an E that stands alone behind S. Only whole lines are written. */
+istrolf_salvaged istrolf_salvage_list(const uint8_t *input, size_t count, uint8_t *out, size_t room);
 
 #ifdef __cplusplus
 }

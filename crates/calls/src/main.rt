@@ -7,6 +7,7 @@ mod listers;
 mod mixes;
 mod print;
 mod readers;
+mod salvages;
 
 fn main() {
     readers::fresh();
@@ -15,4 +16,6 @@ fn main() {
     encoder::encodes();
     boxes::steps();
     listers::recordings();
+    salvages::picks();
+    salvages::recordings();
 }
