@@ -416,6 +416,37 @@ static void told_turns(void) {
     line("istrolf_told", refused, all);
 }
 
+/* Salvage. */
+
+static void picks(void) {
+    uint64_t all = 0, refused = 0;
+    for (uint64_t call = 0; call < 100000; call++) {
+        uint16_t words[10], places[4] = {7, 7, 7, 7};
+        for (uint64_t i = 0; i < 10; i++) words[i] = word(call, 130 + i);
+        istrolf_picked p = istrolf_salvage_pick(letter(call, 142), words, drawn(call, 140, 11), places, drawn(call, 141, 5));
+        uint64_t h = mixed(mixed(mixed(mixed(0, p.refusal), p.taken), p.runs), p.left);
+        for (int i = 0; i < 4; i++) h = mixed(h, places[i]);
+        all = mixed(all, h);
+        refused += p.refusal > 0;
+    }
+    line("istrolf_salvage_pick", refused, all);
+}
+
+static const char logs[] = "F\tT\nB\t9\nB\t1\nB\t2\nB\t3\nX\nB\t4\nB\t250\nB\t6\nQ\nB\t7\nB\t0\nZ\nF\tU\nB\t130\nB\t5\nB\t133\nB\t1\nB\t2\nB\t3\nB\t4\nB\t5\nX\nB\t135\nB\t9";
+
+static void salvages(void) {
+    uint64_t all = 0;
+    for (uint64_t call = 0; call < 100000; call++) {
+        uint8_t out[60];
+        size_t at = drawn(call, 152, 2) == 0 ? 0 : 48, count = drawn(call, 150, 70);
+        if (count > 99 - at) count = 99 - at;
+        memset(out, 46, 60);
+        istrolf_salvaged s = istrolf_salvage_list((const uint8_t *)logs + at, count, out, drawn(call, 151, 61));
+        all = mixed(all, mixed_bytes(mixed(mixed(0, s.whole), s.written), out, 60));
+    }
+    line("istrolf_salvage_list", 0, all);
+}
+
 int main(void) {
     readers_fresh();
     reader_steps();
@@ -429,5 +460,7 @@ int main(void) {
     bridges_fresh();
     bridge_converts();
     told_turns();
+    picks();
+    salvages();
     return 0;
 }

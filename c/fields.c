@@ -497,6 +497,33 @@ static void told(void) {
     same_came(a.next.came, 0, 0, 9);
 }
 
+static void salvage(void) {
+    const uint16_t words[] = {9, 1, 2, 3, 4, 5, 6, 7, 256, 0, 0};
+    uint16_t places[3] = {71, 72, 73};
+    istrolf_picked p = istrolf_salvage_pick('T', words, 11, places, 3);
+    same("picked.refusal", p.refusal, 0);
+    same("picked.taken", (long long)p.taken, 11);
+    same("picked.runs", (long long)p.runs, 2);
+    same("picked.left", (long long)p.left, 4);
+    same("places", places[0], 1);
+    same("places", places[1], 4);
+    same("places", places[2], 73);
+    same("picked.taken", (long long)istrolf_salvage_pick('T', words, 11, places, 1).taken, 4);
+    same("picked.refusal", istrolf_salvage_pick('X', words, 11, places, 3).refusal, ISTROLF_BAD_LETTER);
+    same("picked.refusal", istrolf_salvage_pick('S', words, 11, places, 3).refusal, ISTROLF_MARKED);
+
+    const char input[] = "F\tT\nB\t9\nB\t1\nB\t2\nB\t3";
+    const char text[] = "S\t4\nD\t0002\t1\nR\t0005\t--R\t2\t3\nH\t0\n";
+    uint8_t out[64];
+    istrolf_salvaged a = istrolf_salvage_list((const uint8_t *)input, sizeof input - 1, out, sizeof out);
+    same("salvaged.whole", a.whole, 1);
+    same("salvaged.written", (long long)a.written, (long long)(sizeof text - 1));
+    for (size_t i = 0; i < sizeof text - 1; i++) same("out", out[i], (uint8_t)text[i]);
+    a = istrolf_salvage_list((const uint8_t *)input, sizeof input - 1, out, 5);
+    same("salvaged.whole", a.whole, 0);
+    same("salvaged.written", (long long)a.written, 4);
+}
+
 int main(void) {
     reader();
     encoder();
@@ -506,6 +533,7 @@ int main(void) {
     bridge();
     readback();
     told();
+    salvage();
     printf("%d compared, %d wrong\n", compared, wrong);
     return wrong > 0;
 }

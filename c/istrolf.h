@@ -1,4 +1,4 @@
-/* Istrolf for C99 and C++: reader, encoder, box, lister, bridge, yard check, reader of listings, reader of replies and salvage for a serial trackball and the seven
+/* Istrolf for C99 and C++: reader, encoder, box, lister, bridge, yard check, reader of listings, reader of replies, lister and salvage for a serial trackball and the seven
  * formats of the old mice. Link libistrolf.a.
  *
  * Calls. Every function takes every argument, ends, and has one answer; each is proved. There is no set-up and no error but the refusals below.
@@ -37,7 +37,9 @@ enum {
     ISTROLF_BAD_Y1 = 9,
     ISTROLF_BAD_X2 = 10,
     ISTROLF_BAD_Y2 = 11,
-    ISTROLF_NO_REPLY = 12     /* a command that has no reply */
+    ISTROLF_NO_REPLY = 12     /* a command that has no reply */,
+    ISTROLF_MARKED = 13,  /* a format whose first byte is marked: S, V, A or B */
+    ISTROLF_LONG_LOG = 14 /* more than 4,096 words */
 };
 
 /* A line word is a byte, 0 to 255, or one of these. */
@@ -396,6 +398,33 @@ istrolf_heard_word istrolf_told_step(istrolf_told told, uint16_t word);
 /* Many words, as istrolf_reader_read has them, between two commands. It stops before a word that would end a report without room, the reply still awaited. Refusals:
  * BAD_STATE; BAD_WORD, with all as it stands before the bad word. */
 istrolf_heard_words istrolf_told_read(istrolf_told told, const uint16_t *words, size_t count, int16_t *out, size_t room);
+
+/* ---- Salvage: a log in U, T or W whose line dropped bytes and had no silence. It picks separate runs of neighbouring bytes, each a valid report, so that
+ * the fewest bytes are left out; among equals those whose list of starting places is smallest, compared place by place. */
+
+typedef struct {
+    uint8_t refusal;
+    size_t taken; /* words taken */
+    size_t runs;  /* places written to the front of places */
+    size_t left;  /* bytes of the words taken that are in no run */
+} istrolf_picked;
+
+typedef struct {
+    uint8_t whole;  /* 1 if every line had room, and else 0 */
+    size_t written; /* bytes written to the front of out */
+} istrolf_salvaged;
+
+/* The most words of a log, and room in which every listing is whole. */
+enum { ISTROLF_SALVAGE_WORDS = 4096, ISTROLF_SALVAGE_ROOM = 163920 };
+
+/* The starting places of the runs, the first word being at 0. A third as many places as words have room for all. Refusals: BAD_LETTER, MARKED, LONG_LOG,
+ * BAD_WORD. With 0 and taken below count there was no place for the next run: call again with words + taken, count - taken and new room; the places
+ * are then counted from there. */
+istrolf_picked istrolf_salvage_pick(uint8_t letter, const uint16_t *words, size_t count, uint16_t *places, size_t room);
+
+/* The salvage of a recording, as text: a line S; R for each report and D for each longest run of bytes left out, at the line of its last byte; H 0. A marked
+ * format, a log too long or a bad line is an E that stands alone behind S. Only whole lines are written. */
+istrolf_salvaged istrolf_salvage_list(const uint8_t *input, size_t count, uint8_t *out, size_t room);
 
 #ifdef __cplusplus
 }

@@ -10,6 +10,7 @@ mod print;
 mod readers;
 mod yards;
 mod told;
+mod salvages;
 
 fn main() {
     readers::fresh();
@@ -22,4 +23,6 @@ fn main() {
     bridges::fresh();
     bridges::converts();
     told::turns();
+    salvages::picks();
+    salvages::recordings();
 }
