@@ -37,9 +37,10 @@ enum {
     ISTROLF_BAD_Y1 = 9,
     ISTROLF_BAD_X2 = 10,
     ISTROLF_BAD_Y2 = 11,
-    ISTROLF_NO_REPLY = 12     /* a command that has no reply */,
-    ISTROLF_MARKED = 13,  /* a format whose first byte is marked: S, V, A or B */
-    ISTROLF_LONG_LOG = 14 /* more than 4,096 words */
+    ISTROLF_NO_REPLY = 12,      /* a command that has no reply */
+    ISTROLF_MARKED_FORMAT = 13, /* a salvage of a marked format */
+    ISTROLF_LONG_LOG = 14,      /* a salvage of more than 4,096 words */
+    ISTROLF_TOO_WIDE = 15       /* a line number that does not fit the other width */
 };
 
 /* A line word is a byte, 0 to 255, or one of these. */
