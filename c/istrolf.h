@@ -38,7 +38,7 @@ enum {
     ISTROLF_BAD_X2 = 10,
     ISTROLF_BAD_Y2 = 11,
     ISTROLF_NO_REPLY = 12,      /* a command that has no reply */
-    ISTROLF_MARKED_FORMAT = 13, /* a salvage of a marked format */
+    ISTROLF_MARKED = 13,        /* a salvage of a marked format */
     ISTROLF_LONG_LOG = 14,      /* a salvage of more than 4,096 words */
     ISTROLF_TOO_WIDE = 15       /* a line number that does not fit the other width */
 };
