@@ -1,18 +1,17 @@
 -- Answers read by name. "The host half still guesses at replies. Add a reader for them. It is told the command just sent [..] and reads exactly that reply, then hands
 -- over to the report reader."
-use Prim.Native.Nat.{ℕ, _+_, _*_, _<_, _≤_}
+use Prim.Native.Nat.{ℕ, _+_, _*_, _<_}
 use mathlib.Core.Path.{_≡_, refl, _∙_, sym}
-use mathlib.Core.Bool.{Bool, true, false}
+use mathlib.Core.Bool.{true, false}
 use mathlib.Core.List.{List, [], _∷_, _++_}
-use mathlib.Core.Logic.{_⊎_}
-use lib.ListN.{length, take, getD}
+use lib.ListN.{length, take}
 use lib.IntN.{ℤ}
-use Rattle.frames.specs.Passages.{Passage, silent, finished, UnderWay, nothing, Unbroken, Sub}
+use Rattle.frames.specs.Passages.{Passage, silent, finished, nothing, Unbroken, Sub}
 use Rattle.frames.specs.Words.{silence, lineWords}
 use Rattle.wire.specs.Line.{letterOf, markedOf, sizeBy}
 use Rattle.wire.specs.Numbers.{success, badState, badWord, RefusesRightly}
 use Rattle.wire.specs.Holds.{carried}
-use Rattle.wire.specs.Messages.{Latched, Message, report, messageBytes, finishedReports}
+use Rattle.wire.specs.Messages.{Latched, Message, report, finishedReports}
 use Rattle.wire.specs.declared.Format.{Format}
 use Rattle.reader.specs.Counts.{byteIn, bytesIn, reportsIn, droppedIn}
 use Rattle.reader.specs.DamagedLines.{Within, EndsAt}

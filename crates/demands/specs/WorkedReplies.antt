@@ -1,6 +1,5 @@
 -- Worked runs with replies: the widened demand 3 at small runs of the box, with the items, the passages and the replies computed. Lines on which a reply is broken, told
 -- again or loses a byte stand in crates/replies/proofs/Examples.antt.
-use Prim.Native.Nat.{ℕ}
 use mathlib.Core.Path.{_≡_, refl}
 use mathlib.Core.Bool.{true, false}
 use mathlib.Core.List.{List, [], _∷_, _++_}

@@ -1,9 +1,7 @@
 -- Answers, one behind the other: their replies, reports, numbers and dropped bytes, and what a long read gives back for them.
-use Prim.Native.Nat.{ℕ, suc, _+_, _*_}
+use Prim.Native.Nat.{_*_}
 use mathlib.Core.Path.{_≡_, refl, _∙_, ap}
-use mathlib.Core.List.{List, [], _∷_, _++_, map, map-append, append-assoc}
-use native.Mathlib.Nat.{zero-add}
-use native.Mathlib.Omega.{arith}
+use mathlib.Core.List.{List, [], _∷_, _++_, map-append, append-assoc}
 use lib.ListN.{length, drop, length-append}
 use lib.Seq.{drop-drop}
 use lib.IntN.{ℤ}
@@ -14,7 +12,7 @@ use Rattle.reader.specs.Counts.{writtenIn, handedOut, droppedAmong}
 use Rattle.reader.specs.declared.Answer.{Answer}
 use Rattle.reader.specs.declared.Answer.the-variants as answer
 use Rattle.reader.proofs.Counted as report
-use Rattle.replies.specs.Line.{Long, Both, hears, orElse, replyAmong, ownAnswers, counted, joined}
+use Rattle.replies.specs.Line.{Both, hears, orElse, replyAmong, ownAnswers, counted, joined}
 use Rattle.replies.specs.declared.Reply.{Reply}
 use Rattle.replies.specs.declared.Reply.the-variants as reply
 use Rattle.replies.specs.declared.ToldReader.{ToldReader}

@@ -21,7 +21,7 @@ use Rattle.replies.specs.Good.{good}
 use Rattle.replies.specs.Rules.{kindOf, continues, wordOf}
 use Rattle.replies.specs.Line.{Long, Both, hears, orElse, replyAmong, toldIn, repliesAmong, ownAnswers, lineOf}
 use Rattle.replies.specs.Counts.{wholeBytes, brokenBytes}
-use Rattle.replies.specs.Promises.{TellPromise, StepPromise, ReadPromise, tellOf, stepOf}
+use Rattle.replies.specs.Promises.{TellPromise, StepPromise, ReadPromise, tellOf}
 use Rattle.replies.specs.declared.Kind.{Kind}
 use Rattle.replies.specs.declared.Kind.the-variants as kind
 use Rattle.replies.specs.declared.Asked.{Asked}

@@ -1,8 +1,8 @@
 -- A long read is the reply at its front, and then the report reader's own long read.
-use Prim.Native.Nat.{ℕ, suc, _+_, _-_, _*_, _≤_}
+use Prim.Native.Nat.{ℕ, suc, _+_, _-_, _≤_}
 use mathlib.Core.Path.{_≡_, refl, sym, _∙_, ap}
 use mathlib.Core.Bool.{Bool, true, false, cond, _&&_}
-use mathlib.Core.List.{List, [], _∷_, _++_, map}
+use mathlib.Core.List.{List, [], _∷_, map}
 use native.Mathlib.Nat.{zero-add, add-assoc}
 use native.Mathlib.Numerals.{one-add}
 use native.Mathlib.Omega.{arith}
@@ -18,20 +18,19 @@ use Rattle.wire.specs.Numbers.{success}
 use Rattle.reader.specs.Good.{good}
 use Rattle.reader.specs.Rules as readers
 use Rattle.reader.specs.Line as report
-use Rattle.reader.specs.Counts.{reportsIn, droppedIn, writtenIn, handedOut, droppedAmong}
+use Rattle.reader.specs.Counts.{writtenIn, droppedAmong}
 use Rattle.reader.specs.declared.Reader.{Reader}
 use Rattle.reader.specs.declared.Read.{Read}
 use Rattle.reader.specs.declared.Answer.{Answer}
 use Rattle.reader.specs.declared.Answer.the-variants as answer
 use Rattle.reader.proofs.Keeps.{word-good}
 use Rattle.reader.proofs.Goodness.{step-word}
-use Rattle.replies.specs.Replying.{nothing, fits, fitting, finishes, more, told, broken}
-use Rattle.replies.specs.Rules.{toldReader, heard, refusing, keep, passed, pass, continues, wordOf}
+use Rattle.replies.specs.Replying.{nothing, fits, finishes, more, told, broken}
+use Rattle.replies.specs.Rules.{toldReader, heard, keep, passed, pass, continues, wordOf}
 use Rattle.replies.specs.Line.{Long, whole, Both, hears, orElse, replyAmong, ownAnswers, counted, lineOf, joined}
 use Rattle.replies.specs.Fronts.{front, ahead, frontOf, closed}
 use Rattle.replies.specs.declared.Awaited.{Awaited}
 use Rattle.replies.specs.declared.Front.{Front}
-use Rattle.replies.specs.declared.Heard.{Heard}
 use Rattle.replies.specs.declared.Reply.{Reply}
 use Rattle.replies.specs.declared.Reply.the-variants as reply
 use Rattle.replies.specs.declared.ToldReader.{ToldReader}

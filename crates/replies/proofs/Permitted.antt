@@ -6,7 +6,6 @@ use mathlib.Core.List.{List}
 use lib.ListN.{getD}
 use lib.Dec.{eqb}
 use lib.IntN.{ℤ}
-use Rattle.reader.specs.declared.Answer.{Answer}
 use Rattle.reader.proofs.Permitted.{by-numbers}
 use Rattle.replies.specs.Replying.{came}
 use Rattle.replies.specs.Line.{Long, whole}

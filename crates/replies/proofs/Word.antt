@@ -1,10 +1,10 @@
 -- What one word does to a good reader, case by case, and what a good reply that is awaited has.
 use Prim.Native.Nat.{ℕ, _+_, _*_, _<_}
-use mathlib.Core.Path.{_≡_, refl, sym, _∙_, ap}
-use mathlib.Core.Bool.{Bool, true, false, cond, _&&_}
+use mathlib.Core.Path.{_≡_, refl}
+use mathlib.Core.Bool.{Bool, true, false, _&&_}
 use mathlib.Core.Logic.{_⊎_, inl, inr, ⊎-elim}
 use native.Mathlib.Omega.{arith}
-use lib.Dec.{eqb, ltb, leb}
+use lib.Dec.{eqb, ltb}
 use borrow.Author.Tests.{eq-eqb, ne-eqb, eqb-true, eqb-false, ltb-true}
 use Rattle.numbers.proofs.Choices.{or-else, both}
 use Rattle.numbers.proofs.Tested.{holds, left, right}
@@ -19,16 +19,15 @@ use Rattle.reader.proofs.Word.{word-format}
 use Rattle.reader.proofs.Word as kept
 use Rattle.reader.proofs.Keeps.{word-good}
 use Rattle.wire.specs.Line.{sizeBy}
-use Rattle.replies.specs.Replying.{came, none, awaiting, nothing, isNone, sizeOf, fits, fitting, finishes, more, told, broken, belowSize, placed}
+use Rattle.replies.specs.Replying.{came, none, awaiting, nothing, sizeOf, fits, fitting, finishes, more, told, broken, belowSize, placed}
 use Rattle.replies.specs.Replying as replying
 use Rattle.replies.specs.Good.{good}
-use Rattle.replies.specs.Rules.{toldReader, heard, refusing, keep, passed, continues, wordOf}
+use Rattle.replies.specs.Rules.{toldReader, heard, refusing, continues, wordOf}
 use Rattle.replies.specs.Counts.{wholeBytes, brokenBytes}
 use Rattle.replies.specs.declared.Kind.{Kind}
 use Rattle.replies.specs.declared.Kind.the-variants as kind
 use Rattle.replies.specs.declared.Came.{Came}
 use Rattle.replies.specs.declared.Awaited.{Awaited}
-use Rattle.replies.specs.declared.Reply.{Reply}
 use Rattle.replies.specs.declared.Reply.the-variants as reply
 use Rattle.replies.specs.declared.ToldReader.{ToldReader}
 use Rattle.replies.specs.declared.Heard.{Heard}

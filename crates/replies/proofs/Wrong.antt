@@ -1,14 +1,13 @@
 -- Wrong answers, two for each promise, that it does not permit.
 use mathlib.Core.Path.{ap, sym}
 use mathlib.Core.Bool.{true, false}
-use mathlib.Core.List.{List, [], _∷_}
+use mathlib.Core.List.{[], _∷_}
 use native.Mathlib.Omega.{arith}
-use lib.ListN.{getD, replicate}
-use lib.IntN.{ℤ, pos, natAbs}
+use lib.ListN.{getD}
 use Rattle.numbers.proofs.Tested.{holds}
 use Rattle.reader.specs.State.{reader, fresh, ready}
 use Rattle.reader.specs.declared.Answer.the-variants as answer
-use Rattle.ballbox.specs.Commands.{letterf, lettert, letterP}
+use Rattle.ballbox.specs.Commands.{letterf, letterP}
 use Rattle.replies.specs.Replying.{came, none, awaiting, nothing}
 use Rattle.replies.specs.Rules.{toldReader, heard}
 use Rattle.replies.specs.Promises.{Step, Left, FreshPromise, GoodPromise, TellPromise, StepPromise, ReadPromise, newTold, tellingOf}

@@ -1,16 +1,15 @@
 -- The replies of a good box, read by a reader that was told: "Only the seven `f` bytes and the `t` pairs of a known format and mode are accepted".
-use Prim.Native.Nat.{ℕ, _≤_, _<_}
+use Prim.Native.Nat.{ℕ, _≤_}
 use mathlib.Core.Path.{_≡_, refl, sym, _∙_, ap}
-use mathlib.Core.Bool.{Bool, true, false, not, cond, _||_}
+use mathlib.Core.Bool.{Bool, true, false}
 use mathlib.Core.List.{List, [], _∷_}
 use native.Mathlib.Nat.{mod-eq-of-lt}
 use native.Mathlib.Omega.{arith}
-use lib.ListN.{length}
-use lib.Dec.{eqb, leb}
+use lib.Dec.{eqb}
 use borrow.Author.Tests.{eqb-true, leb-true, le-leb}
 use Rattle.numbers.proofs.Choices.{or-else, both}
 use Rattle.numbers.proofs.Tested.{holds}
-use Rattle.frames.specs.Passages.{nothing, first, SoundPart}
+use Rattle.frames.specs.Passages.{SoundPart}
 use Rattle.frames.specs.Words.{isByte}
 use Rattle.wire.specs.Line.{letterOf, namedBy, known}
 use Rattle.wire.specs.Messages.{messageBytes}
@@ -18,7 +17,7 @@ use Rattle.wire.specs.declared.Format.{Format}
 use Rattle.wire.specs.declared.Format.the-variants.{Mm, Microsoft, Absolute, Relative, FiveByte, ThreeByte, Hexadecimal}
 use Rattle.wire.proofs.Letters.{letter-named}
 use Rattle.ballbox.specs.Box.{modeO, modeD}
-use Rattle.ballbox.specs.Commands.{space, letterf, lettert, byte05, commandOf, codeByte, isStream, asksForReports, obeyed}
+use Rattle.ballbox.specs.Commands.{space, letterf, lettert, byte05, commandOf, codeByte, asksForReports, obeyed}
 use Rattle.ballbox.specs.Commands as box
 use Rattle.ballbox.specs.Good.{good}
 use Rattle.ballbox.specs.declared.BallBox.{BallBox}
@@ -27,8 +26,8 @@ use Rattle.ballbox.proofs.Parts.{letter-known, mode-known, few, parts}
 use Rattle.history.specs.History.{unsentReply}
 use Rattle.history.proofs.Carries.{Alike}
 use Rattle.history.proofs.Asking.{HeldWith, Hosts, asking-command, asking-alike, asking-reply}
-use Rattle.replies.specs.Replying.{none, awaiting, isNone, codeByteOf, letterOfCode, isMode, letterFits, fits, more}
-use Rattle.replies.specs.Rules.{replyTo, continues}
+use Rattle.replies.specs.Replying.{codeByteOf, letterOfCode, isMode, letterFits, fits, more}
+use Rattle.replies.specs.Rules.{replyTo}
 use Rattle.tellings.specs.Lines.{replyTold}
 use Rattle.tellings.specs.Runs.{hasReply, asksOrTells, answerOf}
 use Rattle.replies.specs.declared.Asked.the-variants.{Command}

@@ -1,9 +1,8 @@
 -- The two halves apart: which reply is awaited goes by the items alone, and the report reader is given the words that are no reply's.
 use Prim.Native.Nat.{ℕ, suc, _+_, _≤_, _<_}
-use mathlib.Core.Path.{_≡_, refl, sym, _∙_, ap, ap₂}
-use mathlib.Core.Bool.{Bool, true, false, not, cond, _&&_}
+use mathlib.Core.Path.{_≡_, refl, sym, _∙_, ap}
+use mathlib.Core.Bool.{Bool, true, false, not, cond}
 use mathlib.Core.List.{List, [], _∷_, _++_, append-assoc}
-use native.Mathlib.Omega.{arith}
 use lib.ListN.{length, getD, List·getD-append}
 use lib.Seq.{getD-append-add}
 use lib.Dec.{leb}
@@ -12,7 +11,6 @@ use Rattle.numbers.proofs.Tested.{left, right}
 use Rattle.frames.specs.Words.{silence}
 use Rattle.wire.specs.Numbers.{success}
 use Rattle.wire.specs.declared.Report.{Report}
-use Rattle.reader.specs.Good as readers
 use Rattle.reader.specs.Rules as report
 use Rattle.reader.specs.Counts.{handedOut}
 use Rattle.reader.specs.Promises as reader
@@ -23,13 +21,12 @@ use Rattle.reader.specs.declared.Answer.{Answer}
 use Rattle.reader.specs.declared.Answer.the-variants as answer
 use Rattle.reader.proofs.Goodness as goodness
 use Rattle.reader.proofs.Refusals as refusals
-use Rattle.reader.proofs.Keeps.{word-good}
-use Rattle.replies.specs.Replying.{none, awaiting, nothing, isNone, finishes, more, told, broken}
+use Rattle.replies.specs.Replying.{none, awaiting, nothing, isNone, finishes, told, broken}
 use Rattle.replies.specs.Good.{good}
-use Rattle.replies.specs.Rules.{toldReader, kindOf, heard, refusing, continues, wordOf}
+use Rattle.replies.specs.Rules.{toldReader, kindOf, heard, continues, wordOf}
 use Rattle.replies.specs.Line.{toldIn}
 use Rattle.replies.specs.Promises.{tellOf, stepOf, tellingOf}
-use Rattle.tellings.specs.Items.{Item, word, telling, asItems, wordsIn, isLegal, legalItems, Done, nextOf, afterDone, ItemsPromise, ownAnswersOf, repliesOf}
+use Rattle.tellings.specs.Items.{Item, word, telling, asItems, wordsIn, legalItems, Done, afterDone, ItemsPromise, ownAnswersOf, repliesOf}
 use Rattle.tellings.specs.Items as items
 use Rattle.tellings.specs.Clear.{awaitedThen, awaitedBehind}
 use Rattle.replies.specs.declared.Asked.{Asked}
@@ -37,10 +34,9 @@ use Rattle.replies.specs.declared.Awaited.{Awaited}
 use Rattle.replies.specs.declared.Reply.{Reply}
 use Rattle.replies.specs.declared.Reply.the-variants as reply
 use Rattle.replies.specs.declared.ToldReader.{ToldReader}
-use Rattle.replies.specs.declared.Telling.{Telling}
 use Rattle.replies.specs.declared.Heard.{Heard}
 use Rattle.replies.proofs.Lines.{word-kept, keep-last, keep-more, word-passes, none-continues}
-use Rattle.replies.proofs.Word.{by-word, good-reader, good-awaited, word-fine, told-fine}
+use Rattle.replies.proofs.Word.{good-reader, word-fine, told-fine}
 use Rattle.replies.proofs.Permitted.{step-is}
 use Rattle.replies.proofs.Goodness.{step-word}
 

@@ -16,8 +16,7 @@ use Rattle.numbers.proofs.Tested.{left, right}
 use Rattle.frames.specs.Words.{silence}
 use Rattle.wire.specs.Numbers.{success}
 use Rattle.wire.specs.declared.Report.{Report}
-use Rattle.reader.specs.Line.{reads}
-use Rattle.reader.specs.Counts.{reportsIn, writtenIn, handedOut, numbers, droppedAmong}
+use Rattle.reader.specs.Counts.{reportsIn, writtenIn, handedOut, numbers}
 use Rattle.reader.specs.declared.Answer.{Answer}
 use Rattle.reader.specs.declared.Answer.the-variants as answer
 use Rattle.reader.proofs.Counted as report
@@ -25,14 +24,13 @@ use Rattle.reader.proofs.Handed.{numbers-length, numbers-append}
 use Rattle.replies.specs.Replying.{isNone}
 use Rattle.replies.specs.Good.{good}
 use Rattle.replies.specs.Rules.{kindOf, wordOf}
-use Rattle.replies.specs.Line.{Long, whole, Both, hears, toldIn, replyAmong, repliesAmong, ownAnswers, counted, lineOf}
-use Rattle.replies.specs.Promises.{ReadPromise, TellPromise, tellOf, stepOf, readOf}
-use Rattle.tellings.specs.Items.{Item, word, telling, asItems, legalItems, Done, afterDone, ownAnswersOf, repliesOf, Call, long, tell, itemsOf, Called, was-read, was-told, CallsPromise, AllTaken, sliceAfter, reportsCalled, repliesCalled, TookAll}
+use Rattle.replies.specs.Line.{Long, whole, Both, hears, toldIn, repliesAmong, ownAnswers, counted, lineOf}
+use Rattle.replies.specs.Promises.{ReadPromise, tellOf, stepOf}
+use Rattle.tellings.specs.Items.{Item, word, telling, asItems, legalItems, Done, afterDone, ownAnswersOf, repliesOf, Call, long, tell, itemsOf, Called, was-read, was-told, CallsPromise, AllTaken, TookAll}
 use Rattle.tellings.specs.Items as items
 use Rattle.replies.specs.declared.Reply.{Reply}
 use Rattle.replies.specs.declared.ToldReader.{ToldReader}
 use Rattle.replies.specs.declared.Telling.{Telling}
-use Rattle.replies.specs.declared.Heard.{Heard}
 use Rattle.replies.specs.declared.HeardLine.{HeardLine}
 use Rattle.replies.proofs.Counted.{both, own-written}
 use Rattle.replies.proofs.Word.{word-fine}

@@ -1,7 +1,7 @@
 -- Demand 3 with replies, as far as the reader goes: what a fresh reader that is told of each reply hands out of a line on which one stretch of words was replaced.
 use Prim.Native.Nat.{ℕ, zero, suc, _+_, _-_, _*_, _<_, _≤_}
 use mathlib.Core.Path.{_≡_, refl, sym, _∙_, ap}
-use mathlib.Core.Bool.{true, not, _&&_}
+use mathlib.Core.Bool.{true}
 use mathlib.Core.List.{List, [], _∷_, _++_, append-assoc, append-nil, map-append}
 use native.Mathlib.Omega.{arith}
 use lib.ListN.{length, take, drop, getD, length-append}
@@ -18,15 +18,14 @@ use Rattle.frames.proofs.Passages.{passages-append, sound-left, sound-right}
 use Rattle.frames.proofs.Replaced.{in-one}
 use Rattle.wire.specs.Line.{letterOf, markedOf, sizeOf}
 use Rattle.wire.specs.Holds.{carried}
-use Rattle.wire.specs.Messages.{Latched, Message, report, reply, messageBytes, HeldBy, SoundIn, SoundEnd, finishedReports}
+use Rattle.wire.specs.Messages.{Latched, Message, report, reply, messageBytes, HeldBy, SoundEnd, finishedReports}
 use Rattle.wire.specs.declared.Report.{Report}
 use Rattle.wire.specs.declared.Format.{Format}
 use Rattle.wire.proofs.Front.{size-between}
 use Rattle.wire.proofs.Codec.{bytes-length}
-use Rattle.reader.specs.State.{fiveOf}
-use Rattle.reader.specs.Counts.{handedOut, numbers}
+use Rattle.reader.specs.Counts.{handedOut}
 use Rattle.reader.specs.Promises as reader
-use Rattle.reader.specs.Runs.{stepsOf, answers}
+use Rattle.reader.specs.Runs.{stepsOf}
 use Rattle.reader.specs.DamagedLines as narrow
 use Rattle.reader.specs.DamagedLines.{Given}
 use Rattle.reader.specs.declared.Reader.{Reader}
@@ -36,11 +35,11 @@ use Rattle.reader.proofs.Lines.{line-sent}
 use Rattle.reader.proofs.AsSent.{sent-legal}
 use Rattle.reader.proofs.Handed.{permitted, found-at, numbers-at, given-sent}
 use Rattle.replies.specs.Replying as replying
-use Rattle.replies.specs.Replying.{isNone, finishes, more, fitting}
+use Rattle.replies.specs.Replying.{more, fitting}
 use Rattle.replies.specs.Good.{good}
-use Rattle.replies.specs.Rules.{toldReader, kindOf, continues}
+use Rattle.replies.specs.Rules.{toldReader, continues}
 use Rattle.replies.specs.Promises.{FreshPromise}
-use Rattle.tellings.specs.Items.{Item, word, telling, asItems, wordsIn, isLegal, legalItems, Done, ItemsPromise, ownAnswersOf, repliesOf, Call, itemsOf, Called, CallsPromise, sliceAfter, TookAll}
+use Rattle.tellings.specs.Items.{Item, word, telling, asItems, wordsIn, isLegal, legalItems, Done, ItemsPromise, ownAnswersOf, repliesOf, Call, itemsOf, Called, CallsPromise, TookAll}
 use Rattle.tellings.specs.Clear.{awaitedBehind, Clear}
 use Rattle.tellings.specs.Lines.{repliesSent, HandsOutAt, HandsOut, TellsReplies, InReport, in-finished, in-broken, in-going}
 use Rattle.replies.specs.declared.Awaited.{Awaited}

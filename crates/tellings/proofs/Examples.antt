@@ -1,5 +1,4 @@
 -- Worked lines with tellings, each answer computed.
-use Prim.Native.Nat.{ℕ}
 use mathlib.Core.Path.{_≡_, refl, ap, _∙_}
 use mathlib.Core.Bool.{false}
 use mathlib.Core.List.{List, [], _∷_, _++_}
@@ -14,8 +13,8 @@ use Rattle.reader.specs.declared.Answer.the-variants as answer
 use Rattle.ballbox.specs.Commands.{letterf, lettert, byte05}
 use Rattle.replies.specs.Replying.{came, none, awaiting, nothing}
 use Rattle.replies.specs.Rules.{toldReader}
-use Rattle.replies.specs.Line.{Long, whole}
-use Rattle.replies.specs.Promises.{TellPromise, ReadPromise, tellingOf, readOf}
+use Rattle.replies.specs.Line.{whole}
+use Rattle.replies.specs.Promises.{TellPromise, ReadPromise, tellingOf}
 use Rattle.tellings.specs.Items.{Item, word, telling, Done, ItemsPromise, ownAnswersOf, repliesOf}
 use Rattle.replies.specs.declared.Kind.the-variants as kind
 use Rattle.replies.specs.declared.Asked.the-variants.{Command, Waking}

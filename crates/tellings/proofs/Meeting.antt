@@ -1,13 +1,10 @@
 -- Two ways to split the items of a line, and where they meet.
-use Prim.Native.Nat.{ℕ, suc, _+_, _<_, _≤_}
-use mathlib.Core.Path.{_≡_, refl, sym, _∙_, ap}
-use mathlib.Core.Bool.{Bool, true, false}
+use Prim.Native.Nat.{ℕ, _+_, _<_, _≤_}
+use mathlib.Core.Path.{_≡_, refl, sym, ap}
 use mathlib.Core.List.{List, [], _∷_, _++_, tail-eq-of-cons-eq, head-eq-of-cons-eq}
 use native.Mathlib.Omega.{arith}
-use lib.ListN.{length, take}
-use Rattle.numbers.proofs.Tested.{holds}
+use lib.ListN.{length}
 use Rattle.tellings.specs.Items.{Item, word, telling, asItems, wordsIn}
-use Rattle.replies.specs.declared.Asked.{Asked}
 
 -- how many words an item has
 abbrev wordsOfItem : Item → ℕ

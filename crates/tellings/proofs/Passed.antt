@@ -1,7 +1,7 @@
 -- Where the reader is told of each reply, the report reader is given the line without them, a broken one leaving a lone 256.
-use Prim.Native.Nat.{ℕ, zero, suc, _+_, _<_, _≤_}
-use mathlib.Core.Path.{_≡_, refl, sym, _∙_, ap}
-use mathlib.Core.Bool.{Bool, true, false, cond}
+use Prim.Native.Nat.{ℕ, zero, suc, _<_, _≤_}
+use mathlib.Core.Path.{_≡_, refl, _∙_, ap}
+use mathlib.Core.Bool.{true, false, cond}
 use mathlib.Core.List.{List, [], _∷_, _++_, append-assoc, append-nil, map-append}
 use native.Mathlib.Omega.{arith}
 use lib.ListN.{length, take}
@@ -11,7 +11,7 @@ use Rattle.frames.specs.Words.{break, silence}
 use Rattle.frames.specs.Passages.{Passage, silent, finished, broken, UnderWay, nothing, first, Unbroken, wordsOf, passageWords, partWords, Unfinished, Sound, SoundOf, SoundPart}
 use Rattle.frames.proofs.Passages.{passages-append, sound-append}
 use Rattle.wire.specs.Reading as reading
-use Rattle.wire.specs.Messages.{Latched, Message, report, reply, latchedIn, messageBytes, HeldBy, carriedIn, SoundIn, SoundEnd, finishedReports}
+use Rattle.wire.specs.Messages.{Message, report, reply, latchedIn, messageBytes, HeldBy, carriedIn, SoundIn, SoundEnd, finishedReports}
 use Rattle.wire.specs.declared.Report.{Report}
 use Rattle.wire.specs.Holds.{accepted, holds}
 use Rattle.wire.specs.declared.Format.{Format}
@@ -25,7 +25,7 @@ use Rattle.replies.specs.Replying.{none, awaiting, isNone, finishes, more, told
 use Rattle.replies.specs.Rules.{kindOf, continues}
 use Rattle.replies.specs.Line.{toldIn}
 use Rattle.tellings.specs.Items.{Item, word, telling, asItems, wordsIn}
-use Rattle.tellings.specs.Clear.{awaitedThen, awaitedBehind}
+use Rattle.tellings.specs.Clear.{awaitedBehind}
 use Rattle.tellings.specs.Lines.{replyTold, cameOf, repliesIn, repliesSent}
 use Rattle.replies.specs.declared.Kind.{Kind}
 use Rattle.replies.specs.declared.Asked.{Asked}

@@ -1,22 +1,19 @@
 -- What reaches the host's half of a run with replies are the items of its passages.
 use Prim.Native.Nat.{ℕ, _+_}
 use mathlib.Core.Path.{_≡_, refl, sym, _∙_, ap}
-use mathlib.Core.Bool.{Bool, true, false, not, cond, _&&_}
+use mathlib.Core.Bool.{Bool, true, false, cond, _&&_}
 use mathlib.Core.List.{List, [], _∷_, _++_, append-assoc, append-nil, map-append}
 use lib.ListN.{length, take}
 use lib.Dec.{eqb}
-use borrow.Author.Tests.{not-false, not-true}
 use Rattle.numbers.proofs.Choices.{cases, or-else}
 use Rattle.numbers.proofs.Tested.{holds, left, right}
 use Rattle.frames.specs.Words.{break}
-use Rattle.frames.specs.Passages.{Passage, silent, finished, broken, UnderWay, nothing, first, passageWords, partWords, Sound, SoundPart}
-use Rattle.frames.specs.Sender.{Told, told, sentOne, brokenOff, passagesOver, goingOver}
-use Rattle.wire.specs.Line.{known, namedBy}
+use Rattle.frames.specs.Passages.{finished, broken, UnderWay, nothing, first, passageWords, partWords}
+use Rattle.frames.specs.Sender.{Told, told, sentOne, passagesOver, goingOver}
 use Rattle.wire.specs.Messages.{Latched, Message, report, reply, messageBytes}
 use Rattle.wire.specs.declared.Format.{Format}
-use Rattle.wire.specs.declared.Format.the-variants.{Mm, Microsoft, Absolute, Relative, FiveByte, ThreeByte, Hexadecimal}
 use Rattle.ballbox.specs.Box as box
-use Rattle.ballbox.specs.Commands.{commandOf, codeByte, asksForReports}
+use Rattle.ballbox.specs.Commands.{commandOf, asksForReports}
 use Rattle.ballbox.specs.Commands as commands
 use Rattle.ballbox.specs.Latching.{taken}
 use Rattle.ballbox.specs.Events.{wanted, onHost, awake}
@@ -26,7 +23,6 @@ use Rattle.ballbox.specs.declared.BallBox.{BallBox}
 use Rattle.ballbox.specs.declared.Event.{Event}
 use Rattle.ballbox.specs.declared.Event.the-variants.{Motion, Buttons, Host, Latch, Send, Period}
 use Rattle.ballbox.specs.declared.Stepped.{Stepped}
-use Rattle.ballbox.proofs.Parts.{letter-known, parts}
 use Rattle.ballbox.proofs.Refusals.{ruled}
 use Rattle.history.specs.Runs.{RunPromise}
 use Rattle.history.specs.Asked.{hostsPass, allHosts}
@@ -34,13 +30,12 @@ use Rattle.history.specs.History.{begun, paired, withPair, isFive, unsentReply,
 use Rattle.history.proofs.Carries.{Carries}
 use Rattle.history.proofs.Sending.{bytes-left}
 use Rattle.history.proofs.Bridge.{step-sends, told-is}
-use Rattle.history.proofs.Asking.{HeldWith, SetWith, refused-told, hosted-step, hosted-sound, asking-command, asking-reply}
-use Rattle.replies.specs.Replying.{isNone, codeByteOf}
+use Rattle.history.proofs.Asking.{SetWith, refused-told, hosted-step, asking-command, asking-reply}
+use Rattle.replies.specs.Replying.{isNone}
 use Rattle.replies.specs.Rules.{replyTo}
 use Rattle.tellings.specs.Items.{Item, word, telling, asItems}
 use Rattle.tellings.specs.Runs.{hasReply, asksOrTells, tellingOf, itemsGiven}
-use Rattle.replies.specs.declared.Asked.the-variants.{Command}
-use Rattle.tellings.proofs.Passed.{IsReply, askedFor, passageItems, lineItems, partItems, items-append}
+use Rattle.tellings.proofs.Passed.{IsReply, askedFor, lineItems, partItems, items-append}
 use Rattle.tellings.proofs.Answering.{asks-by, asks-reply, asks-for, with-replies}
 
 -- a command's telling stands in front of its reply

@@ -1,30 +1,23 @@
 -- A reply of the box, read by a reader that was told, comes back as the format, mode or buttons that the box had at the command.
-use Prim.Native.Nat.{ℕ, _%_}
-use mathlib.Core.Path.{_≡_, refl, sym, _∙_, ap}
-use mathlib.Core.Bool.{true, false, not, cond}
-use mathlib.Core.List.{List, [], _∷_, _++_, append-nil}
-use native.Mathlib.Nat.{mod-eq-of-lt}
+use Prim.Native.Nat.{ℕ}
+use mathlib.Core.Path.{_≡_, refl, _∙_, ap}
+use mathlib.Core.Bool.{true, false, not}
+use mathlib.Core.List.{List, [], _∷_}
 use native.Mathlib.Omega.{arith}
 use lib.ListN.{length, replicate}
 use lib.Seq.{take-all}
-use lib.Dec.{eqb}
-use borrow.Author.Tests.{leb-true}
 use Rattle.numbers.proofs.Choices.{both}
-use Rattle.wire.specs.Line.{letterOf, known, namedBy}
-use Rattle.wire.specs.declared.Format.{Format}
-use Rattle.wire.specs.declared.Format.the-variants.{Mm, Microsoft, Absolute, Relative, FiveByte, ThreeByte, Hexadecimal}
-use Rattle.ballbox.specs.Commands.{ack, space, letterf, lettert, byte05, commandOf}
+use Rattle.ballbox.specs.Commands.{ack, commandOf}
 use Rattle.ballbox.specs.Commands as box
 use Rattle.ballbox.specs.Good.{good}
 use Rattle.ballbox.specs.declared.BallBox.{BallBox}
-use Rattle.ballbox.proofs.Parts.{letter-known, few, parts}
 use Rattle.reader.specs.Runs.{stepsOf}
 use Rattle.reader.specs.declared.Reader.{Reader}
 use Rattle.reader.specs.declared.Answer.{Answer}
 use Rattle.reader.specs.declared.Answer.the-variants as answer
 use Rattle.replies.specs.Good as told
-use Rattle.replies.specs.Replying.{none, awaiting, nothing, isNone, codeByteOf, letterOfCode, fits, finishes, more}
-use Rattle.replies.specs.Rules.{toldReader, replyTo, kindOf, continues}
+use Rattle.replies.specs.Replying.{none, awaiting, isNone, fits, more}
+use Rattle.replies.specs.Rules.{replyTo, kindOf}
 use Rattle.replies.specs.Line.{toldIn}
 use Rattle.tellings.specs.Items.{telling, asItems, legalItems, Done, afterDone, ItemsPromise, ownAnswersOf, repliesOf}
 use Rattle.tellings.specs.Lines.{ReadsReply}

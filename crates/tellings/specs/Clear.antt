@@ -1,5 +1,4 @@
 -- "The stretch stays clear of everything from a telling to the reply's last byte or break": behind the items in front of it no reply is awaited.
-use Prim.Native.Nat.{ℕ}
 use mathlib.Core.Path.{_≡_}
 use mathlib.Core.Bool.{cond}
 use mathlib.Core.List.{List, [], _∷_}

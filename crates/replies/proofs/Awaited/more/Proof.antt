@@ -1,5 +1,5 @@
 -- `more`: the byte goes behind those that have come.
-use borrow.Author.Tests.{eq-eqb, ne-eqb}
+use borrow.Author.Tests.{ne-eqb}
 use Rattle.replies.specs.Replying.{more}
 use Rattle.replies.proofs.Awaited.more.Statement.{statement}
 use Rattle.replies.proofs.Awaited.more.Tie as tie

@@ -1,9 +1,9 @@
 -- `over`: what is left of the line gives what is left of the reply.
 use Prim.Native.Nat.{_-_, _≤_}
-use mathlib.Core.Path.{_≡_, refl, sym, _∙_}
+use mathlib.Core.Path.{_≡_, sym, _∙_}
 use native.Mathlib.Nat.{zero-add}
 use native.Mathlib.Omega.{arith}
-use lib.ListN.{length, drop, getD}
+use lib.ListN.{length, drop}
 use borrow.Author.Tests.{not-true, not-false}
 use Rattle.replies.specs.Fronts.{ahead, frontOf}
 use Rattle.replies.proofs.Fronts.{byte-same, not-its, its-last, its-next, no-more}

@@ -1,13 +1,12 @@
 -- `line`: the reply at the front, and the report reader's own long read.
 use borrow.Author.Needs.{needs}
 use Prim.Native.Nat.{_≤_}
-use mathlib.Core.Path.{_≡_, sym, _∙_, ap}
+use mathlib.Core.Path.{sym, _∙_, ap}
 use native.Mathlib.Omega.{arith}
 use lib.ListN.{length, drop, length-drop}
 use Rattle.fold.proofs.Parts.{rest-is}
 use Rattle.reader.proofs.Goodness.{read-line}
 use Rattle.reader.proofs.Bounds.{within}
-use Rattle.replies.specs.Fronts.{frontOf}
 use Rattle.replies.proofs.Fronts.{front-within}
 use Rattle.replies.proofs.Lines.{assembled, line-front}
 use Rattle.replies.proofs.ToldReader.line.Statement.{statement}
