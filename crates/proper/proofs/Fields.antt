@@ -16,9 +16,9 @@ use Rattle.numbers.proofs.Tested.{left, right, holds, refused, agree-if}
 use Rattle.numbers.proofs.Rows.{bit-in}
 use Rattle.numbers.proofs.Twos.{neg-magnitude}
 use Rattle.frames.specs.Frame.{Fits}
-use Rattle.wire.specs.Line.{sizeOf}
+use Rattle.wire.specs.Line.{letterOf, sizeOf}
 use Rattle.wire.specs.Table.{L, M, R, bytesOf, bytesS, bytesV, rowsV, bytesA, bytesB, rowsA, bytesU, bytesT, bytesW, rowsW}
-use Rattle.wire.specs.Holds.{_to_, within, accepted}
+use Rattle.wire.specs.Holds.{_to_, within, accepted, xRange, yRange, secondRange}
 use Rattle.wire.specs.Places.{fitsLater, fitsAt, valid}
 use Rattle.wire.specs.Digits.{undigit}
 use Rattle.wire.specs.Reading.{at, reportOf, readV, readU, readT, readW, pair, settled}
@@ -34,7 +34,7 @@ use Rattle.wire.proofs.Codec.Accepted.{parts}
 use Rattle.wire.proofs.Codec.Ranges.{magnitude, magnitude-within}
 use Rattle.ballbox.specs.Latching.{limits}
 use Rattle.yard.specs.Stands.{minusZero, isLeast, leastV, least, leastW, barred, stands}
-use Rattle.proper.proofs.Latchable.{Latchable, latchable-accepted, strict}
+use Rattle.proper.proofs.Latchable.{secondLimits, Latchable, latchable-accepted, strict}
 
 -- a byte that fits and is not barred
 pub standing : (f : Format) (place first last b : ℕ) → fitsAt f place b ≡ true → barred f place first last b ≡ false → stands f place first last b ≡ true
@@ -252,24 +252,11 @@ of-five P p (a ∷ bs) q = go bs (omega arith)
 abbrev Read : Format → List ℕ → Type 0
 Read f bs = Fits (strict f) [] bs → accepted f (reportOf f bs) ≡ true → Latchable f (reportOf f bs)
 
--- what is read of A, B and S can be latched as it is
-read-S : (bs : List ℕ) → Read Mm bs
-unfolding limits
-read-S bs h a =
-    let p = parts Mm (reportOf Mm bs) a in
-    record { buttons = omega (arith, p .pressed); x1 = p .moved .x; y1 = p .moved .y; x2 = p .moved .second-x; y2 = p .moved .second-y }
-
-read-A : (bs : List ℕ) → Read Absolute bs
-unfolding limits
-read-A bs h a =
-    let p = parts Absolute (reportOf Absolute bs) a in
-    record { buttons = omega (arith, p .pressed); x1 = p .moved .x; y1 = p .moved .y; x2 = p .moved .second-x; y2 = p .moved .second-y }
-
-read-B : (bs : List ℕ) → Read Relative bs
-unfolding limits
-read-B bs h a =
-    let p = parts Relative (reportOf Relative bs) a in
-    record { buttons = omega (arith, p .pressed); x1 = p .moved .x; y1 = p .moved .y; x2 = p .moved .second-x; y2 = p .moved .second-y }
+-- where the limits are those of the wire, in A, B and S, what is read can be latched as it is
+read-held : (f : Format) → limits (letterOf f) ≡ xRange f → limits (letterOf f) ≡ yRange f → secondLimits f ≡ secondRange f → (bs : List ℕ) → Read f bs
+read-held f ex ey es bs h a =
+    let p = parts f (reportOf f bs) a in
+    record { buttons = omega (arith, p .pressed); x1 = rw ex (p .moved .x); y1 = rw ey (p .moved .y); x2 = rw es (p .moved .second-x); y2 = rw es (p .moved .second-y) }
 
 read-V : (a b c : ℕ) → Read Microsoft (a ∷ b ∷ c ∷ [])
 unfolding limits readV barred leastV
@@ -344,10 +331,11 @@ read-W a b c d e h q =
     }
 
 read-latchable : (f : Format) (bs : List ℕ) → length bs ≡ sizeOf f → Read f bs
-read-latchable Mm bs e = read-S bs
+unfolding limits
+read-latchable Mm bs e = read-held Mm refl refl refl bs
 read-latchable Microsoft bs e = of-three (Read Microsoft) read-V bs e
-read-latchable Absolute bs e = read-A bs
-read-latchable Relative bs e = read-B bs
+read-latchable Absolute bs e = read-held Absolute refl refl refl bs
+read-latchable Relative bs e = read-held Relative refl refl refl bs
 read-latchable FiveByte bs e = of-five (Read FiveByte) read-U bs e
 read-latchable ThreeByte bs e = of-three (Read ThreeByte) read-T bs e
 read-latchable Hexadecimal bs e = of-five (Read Hexadecimal) read-W bs e

@@ -6,10 +6,10 @@ use Rattle.figures.proofs.steps.answers.Statement.{statement}
 use Rattle.figures.proofs.steps.answers.Tie as tie
 
 abbrev Inv-loop : tie.InvT-loop
-Inv-loop letter words next₀ i₀ t6 t7 next i = i ≤ length words
+Inv-loop letter words next₀ i₀ t6 next i = i ≤ length words
 
 abbrev μ-loop : tie.MeasureT-loop
-μ-loop letter words next₀ i₀ t6 t7 next i = length words - i
+μ-loop letter words next₀ i₀ t6 next i = length words - i
 
 fresh-requires : tie.Need-fresh-requires Inv-loop μ-loop
 fresh-requires c κs = search needs
