@@ -310,6 +310,10 @@ only-held : (f : Format) (l : List (Passage Message)) (g : UnderWay Message) →
 only-held f l g s =
     (sound-by messageBytes (HeldWith (λ _. ⊥) f) (HeldBy f) (held-only f) l (s .0), part-by messageBytes (HeldWith (λ _. ⊥) f) (HeldBy f) (held-only f) g (s .1))
 
+-- what is going is a report that f holds
+pub set-sound : (f : Format) (b : BallBox) (g : UnderWay Message) → SetTo f b g → SoundEnd f g
+set-sound f b g h = part-by messageBytes (HeldWith (λ _. ⊥) f) (HeldBy f) (held-only f) g (h .sound)
+
 -- one step of a box that is handed such bytes only
 pub asked-step : (f : Format) (b : BallBox) (e : Event) (g : UnderWay Message) → Asks e → SetTo f b g → SoundIn f (toldBy b e g .passages) × SetTo f (nextBox b e) (toldBy b e g .going)
 asked-step f b e g a h =

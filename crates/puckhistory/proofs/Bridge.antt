@@ -29,7 +29,7 @@ use Rattle.history.specs.History as told-by
 use Rattle.history.proofs.Carries.{Carries}
 use Rattle.history.proofs.Sending.{bytes-left}
 use Rattle.history.proofs.Bridge.{step-sends, told-is}
-use Rattle.history.proofs.Asking.{SetTo, Asks, Asking, asked-step}
+use Rattle.history.proofs.Asking.{SetTo, Asks, Asking, set-sound, asked-step}
 use Rattle.vsxxx.specs.SelfTests.{testBytes, holdsTest}
 use Rattle.vsxxx.specs.Reports.{PuckMessage, of-box, of-test, puckBytes, HeldByPuck}
 use Rattle.vsxxx.proofs.Bytes.{bytes-are, room-holds}
@@ -100,7 +100,7 @@ t-sends p nothing h k =
 t-sends p (first n m) h k =
     record {
       words = rw (bytes-left (p .ball) n m (h .carries)) (breaks puckBytes n (of-box m) ∙ sym (append-nil _));
-      sound = (h .sound, tt);
+      sound = (set-sound Mm (p .ball) (first n m) h, tt);
       holds = powered-holds (p .ball .settings .buttons) (p .revision) (p .maker) k;
     }
 
@@ -225,7 +225,7 @@ run-passages p g events answers k h r =
 
 -- what is under way is sound
 holds-sound : (p : Puck) (g : UnderWay PuckMessage) → good p ≡ true → Holds p g → SoundPart puckBytes HeldByPuck g
-holds-sound p g k (by-box b z h) = part-sound-as of-box puckBytes HeldByPuck b (h .sound)
+holds-sound p g k (by-box b z h) = part-sound-as of-box puckBytes HeldByPuck b (set-sound Mm (p .ball) b h)
 holds-sound p g k (by-test n z some h) =
     (test-held p (parts p k) (is-going p (parts p k) (lt-ltb 0 (p .test .left) some)), omega (arith, test-length p))
 
