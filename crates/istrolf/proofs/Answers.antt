@@ -12,7 +12,7 @@ use Rattle.istrolf.specs.Listers as listers
 use Rattle.istrolf.specs.Bridges as bridges
 use Rattle.istrolf.specs.Told as told
 use Rattle.istrolf.specs.Readbacks as readbacks
-use Rattle.istrolf.specs.Promises.{FreshReaderPromise, ReaderStepPromise, ReadPromise, EncodePromise, FreshBoxPromise, BoxStepPromise, FreshListerPromise, FeedPromise, FinishPromise, FreshYardPromise, YardStepPromise, YardCheckPromise, FreshBridgePromise, ConvertPromise, PickPromise, SalvagePromise, FreshToldPromise, TellPromise, ToldStepPromise, ToldReadPromise, FreshReadbackPromise, ReadbackReadPromise, ReadbackFinishPromise, ReadbackRewritePromise}
+use Rattle.istrolf.specs.Promises.{FreshReaderPromise, ReaderStepPromise, ReadPromise, EncodePromise, FreshBoxPromise, BoxStepPromise, FreshListerPromise, FeedPromise, FinishPromise, FreshYardPromise, YardStepPromise, YardCheckPromise, FreshBridgePromise, ConvertPromise, PickPromise, SalvagePromise, FreshToldPromise, TellPromise, ToldStepPromise, ToldReadPromise, FreshReadbackPromise, ReadbackReadPromise, ReadbackFinishPromise, ReadbackRewritePromise, MadePuckPromise, PuckStepPromise, FreshPuckReaderPromise, PuckReaderStepPromise, PuckReadPromise}
 use Rattle.istrolf.specs.declared.HeldReader.{HeldReader}
 use Rattle.istrolf.specs.declared.FreshReader.{FreshReader}
 use Rattle.istrolf.specs.declared.ReadWord.{ReadWord}
@@ -41,6 +41,12 @@ use Rattle.istrolf.specs.declared.HeardWords.{HeardWords}
 use Rattle.istrolf.specs.declared.HeldReadback.{HeldReadback}
 use Rattle.istrolf.specs.declared.RewrittenLines.{RewrittenLines}
 use Rattle.istrolf.specs.declared.ReadLines.{ReadLines}
+use Rattle.fold.specs.Counting.{Long}
+use Rattle.puckreader.specs.declared.PuckReader.{PuckReader}
+use Rattle.istrolf.specs.declared.HeldPuck.{HeldPuck}
+use Rattle.istrolf.specs.declared.SteppedPuck.{SteppedPuck}
+use Rattle.istrolf.specs.declared.ReadPuckWord.{ReadPuckWord}
+use Rattle.istrolf.specs.declared.ReadPuckWords.{ReadPuckWords}
 
 listed-same : {a b : ListedBytes} {x y : List ℕ} → listers.whole a x ≡ listers.whole b y → (a ≡ b) × (x ≡ y)
 listed-same e = (ap (λ (l : listers.Whole). l .listed) e, ap (λ (l : listers.Whole). l .out) e)
@@ -130,3 +136,21 @@ one-readback-finish h left a b e f = e ∙ sym f
 pub one-readback-rewrite : (h : HeldReadback) (input out : List ℕ) (a b : RewrittenLines) (x y : List ℕ)
     → ReadbackRewritePromise h input out a x → ReadbackRewritePromise h input out b y → (a ≡ b) × (x ≡ y)
 one-readback-rewrite h input out a b x y e f = (ap (λ (l : readbacks.Rewriting). l .told) (e ∙ sym f), ap (λ (l : readbacks.Rewriting). l .out) (e ∙ sym f))
+
+pub one-made-puck : (buttons revision maker : ℕ) (a b : HeldPuck) → MadePuckPromise buttons revision maker a → MadePuckPromise buttons revision maker b → a ≡ b
+one-made-puck buttons revision maker a b e f = e ∙ sym f
+
+pub one-puck-step : (h : HeldPuck) (e : Event) (a b : SteppedPuck) → PuckStepPromise h e a → PuckStepPromise h e b → a ≡ b
+one-puck-step h event a b e f = e ∙ sym f
+
+pub one-fresh-puck-reader : (a b : PuckReader) → FreshPuckReaderPromise a → FreshPuckReaderPromise b → a ≡ b
+one-fresh-puck-reader a b e f = e ∙ sym f
+
+pub one-puck-reader-step : (r : PuckReader) (w : ℕ) (a b : ReadPuckWord) → PuckReaderStepPromise r w a → PuckReaderStepPromise r w b → a ≡ b
+one-puck-reader-step r w a b e f = e ∙ sym f
+
+pub one-puck-read : (r : PuckReader) (words : List ℕ) (out : List ℤ) (a b : ReadPuckWords) (x y : List ℤ)
+    → PuckReadPromise r words out a x → PuckReadPromise r words out b y → (a ≡ b) × (x ≡ y)
+one-puck-read r words out a b x y e f =
+    let q = e ∙ sym f in
+    (λ i. (record { refusal = q i .refusal; next = q i .next; taken = q i .taken; reports = q i .reports; dropped = q i .dropped }), ap (λ (l : Long PuckReader ℤ). l .out) q)

@@ -15,6 +15,7 @@ use Rattle.bridge.specs.declared.Bridge.{Bridge}
 use Rattle.replies.specs.declared.Kind.{Kind}
 use Rattle.replies.specs.declared.Kind.the-variants as kind
 use Rattle.replies.specs.declared.ToldReader.{ToldReader}
+use Rattle.puck.specs.declared.Puck.{Puck}
 use Rattle.istrolf.specs.Marks.{isMark}
 use Rattle.istrolf.specs.Readers as readers
 use Rattle.istrolf.specs.Boxes as boxes
@@ -26,11 +27,13 @@ use Rattle.istrolf.specs.Told as told
 use Rattle.istrolf.specs.Readbacks as readbacks
 use Rattle.readback.specs.declared.Readback.{Readback}
 use Rattle.istrolf.specs.declared.HeldReadback.{HeldReadback}
+use Rattle.istrolf.specs.Pucks as pucks
 use Rattle.istrolf.specs.declared.HeldReader.{HeldReader}
 use Rattle.istrolf.specs.declared.HeldBox.{HeldBox}
 use Rattle.istrolf.specs.declared.HeldLister.{HeldLister}
 use Rattle.istrolf.specs.declared.HeldBridge.{HeldBridge}
 use Rattle.istrolf.specs.declared.HeldTold.{HeldTold}
+use Rattle.istrolf.specs.declared.HeldPuck.{HeldPuck}
 use Rattle.istrolf.proofs.Marks.{mark-back, mark-stands, mark-of}
 
 -- a reader
@@ -172,3 +175,13 @@ readback-back h s = λ i. record { width = h .width; ended = mark-of (h .ended) 
 
 pub readback-stands : (r : Readback) → readbacks.stands (readbacks.packed r) ≡ true
 readback-stands r = rw (mark-stands (r .ended))
+
+-- a puck
+pub puck-there : (p : Puck) → pucks.unpacked (pucks.packed p) ≡ p
+puck-there p = λ i. record { ball = box-there (p .ball) i; test = p .test; revision = p .revision; maker = p .maker }
+
+pub puck-back : (h : HeldPuck) → boxes.stands (h .ball) ≡ true → pucks.packed (pucks.unpacked h) ≡ h
+puck-back h s = λ i. record { ball = box-back (h .ball) s i; test = h .test; revision = h .revision; maker = h .maker }
+
+pub puck-stands : (p : Puck) → boxes.stands (pucks.packed p .ball) ≡ true
+puck-stands p = box-stands (p .ball)
