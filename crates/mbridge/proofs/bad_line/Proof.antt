@@ -14,7 +14,7 @@ use Rattle.mbridge.proofs.bad_line.Tie as tie
 
 returns : tie.Need-returns
 returns c = let a = c .before .before .before .before .before .args .line in
-    c .with3 .ensures ∙ rw (c .before .decimal .ensures, c .before .before .with2 .ensures, c .before .before .before .with .ensures, c .before .before .before .before .none .ensures, toZ-pos w64 {n = a} (omega arith)) (both _ (decimalOf 4 (pos a)) (10 ∷ []))
+    c .with3 .ensures ∙ rw (c .before .decimal .ensures, c .before .before .with2 .ensures, c .before .before .before .with .ensures, c .before .before .before .before .none .ensures, toZ-pos w64 {n = a} (omega arith)) (both _ (decimalOf 6 (pos a)) (10 ∷ []))
 
 pub bad-line-spec : {M : Type 1} → statement M
 bad-line-spec =

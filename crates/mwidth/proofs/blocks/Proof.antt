@@ -32,17 +32,17 @@ block-requires : tie.Need-block-requires Inv-loop μ-loop
 block-requires c κs = c .before .before .before .before .before .loop .inv .0
 
 add-i : tie.Need-add-i Inv-loop μ-loop
-add-i c = record { fits = omega (arith, c .before .before .before .before .before .before .before .before .loop-test .taken) }
+add-i c = record { fits = omega (arith, c .before .before .before .before .before .before .before .before .before .loop-test .taken) }
 
 loop-less : tie.Need-loop-less Inv-loop μ-loop
-loop-less c = omega (arith, c .before .before .before .before .before .before .before .before .loop-test .taken)
+loop-less c = omega (arith, c .before .before .before .before .before .before .before .before .before .loop-test .taken)
 
 loop-again : tie.Need-loop-again Inv-loop μ-loop
-loop-again c = let l = c .before .before .before .before .before .before .before .before .before .loop in
-    let b = c .before .before .before .block in
+loop-again c = let l = c .before .before .before .before .before .before .before .before .before .before .loop in
+    let b = c .before .before .before .before .block in
     let same-input : length (b .last .1 .1 .0) ≡ length (l .input) = search needs in
-    let same-items : length (b .last .1 .1 .1 .0) ≡ length (l .items) = search needs in
-    (b .ensures, same-input ∙ l .inv .1, same-items ∙ l .inv .2)
+    let same-out : length (b .last .1 .1 .1 .0) ≡ length (l .out) = search needs in
+    (b .ensures, same-input ∙ l .inv .1, same-out ∙ l .inv .2)
 
 same-length-3 : tie.Need-same-length-3 Inv-loop μ-loop
 same-length-3 c = c .before .loop .inv .1

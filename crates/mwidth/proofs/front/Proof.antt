@@ -5,11 +5,11 @@ use borrow.Author.Needs.{needs}
 use Rattle.mwidth.proofs.front.Statement.{statement}
 use Rattle.mwidth.proofs.front.Tie as tie
 
-slice-aggregate-read : tie.Need-slice-aggregate-read
-slice-aggregate-read c = let s = c .before .before in sym (length-take-le (s .args .all) (s .args .input .now) (s .pre))
+slice-aggregate-rewrite : tie.Need-slice-aggregate-rewrite
+slice-aggregate-rewrite c = let s = c .before .before .before in sym (length-take-le (s .args .all) (s .args .input .now) (s .pre))
 
-read-requires : tie.Need-read-requires
-read-requires c κs = search needs
+rewrite-requires : tie.Need-rewrite-requires
+rewrite-requires c κs = search needs
 
 same-length : tie.Need-same-length
 same-length c = search needs
@@ -18,4 +18,4 @@ returns : tie.Need-returns
 returns c = search needs
 
 pub front-spec : {M : Type 1} → statement M
-front-spec = tie.close (tie.spec slice-aggregate-read read-requires same-length returns)
+front-spec = tie.close (tie.spec slice-aggregate-rewrite rewrite-requires same-length returns)
