@@ -8,9 +8,9 @@ mod listers;
 mod mixes;
 mod print;
 mod readers;
-mod yards;
-mod told;
 mod salvages;
+mod told;
+mod yards;
 
 fn main() {
     readers::fresh();

@@ -38,13 +38,7 @@ fn pick(call: u64) -> Turn {
     let mut places = [7u16; 4];
     let count = draws::drawn(call, 140, 11) as usize;
     let room = draws::drawn(call, 141, 5) as usize;
-    let p = lent(
-        draws::letter(call, 142),
-        &words,
-        count,
-        &mut places,
-        room,
-    );
+    let p = lent(draws::letter(call, 142), &words, count, &mut places, room);
     let counts = mixes::number(
         mixes::number(
             mixes::number(mixes::byte(0, p.refusal), p.taken as u64),
@@ -98,7 +92,11 @@ fn part(text: &[u8], at: usize, call: u64) -> u64
 fn begun(call: u64) -> usize
     ensures { λ r. ⌜ r ≤ 48 ⌝ }
 {
-    if draws::drawn(call, 152, 2) == 0 { 0 } else { 48 }
+    if draws::drawn(call, 152, 2) == 0 {
+        0
+    } else {
+        48
+    }
 }
 
 fn parts(text: &[u8]) {

@@ -3,9 +3,9 @@ use ballbox::Going;
 use ballbox::Settings;
 use ballbox::Sums;
 use ballbox::Track;
-use replies::Came;
 use puck::Testing;
 use puckreader::PuckReader;
+use replies::Came;
 use vsxxx::SelfTest;
 use wire::Report;
 
@@ -16,9 +16,9 @@ mod listers;
 mod pucks;
 mod readbacks;
 mod readers;
-mod yards;
 mod salvages;
 mod told;
+mod yards;
 
 // What is given back for what stands for no state.
 pub(crate) const BAD_STATE: u8 = 6;

@@ -234,7 +234,11 @@ pub extern "C" fn istrolf_puck_reader_step(reader: PuckReader, word: u16) -> Rea
 
 // A line of words, and the numbers of its reports to a lent slice.
 #[no_mangle]
-pub extern "C" fn istrolf_puck_reader_read(reader: PuckReader, words: &[u16], out: &mut [i16]) -> ReadPuckWords
+pub extern "C" fn istrolf_puck_reader_read(
+    reader: PuckReader,
+    words: &[u16],
+    out: &mut [i16],
+) -> ReadPuckWords
     ensures { λ r. ⌜ PuckReadPromise reader (now (words .entry)) (now (out .entry)) r (now (out .exit)) ⌝ }
 {
     packed_reading(reader.read(words, out))

@@ -22,10 +22,7 @@ fn follows(ball: BallBox) -> bool
 fn rests(ball: BallBox) -> bool
     ensures { λ r. ⌜ r ≡ rests ball ⌝ }
 {
-    (ball.going.length == 0)
-        & (ball.settings.mode == MODE_D)
-        & !ball.due
-        & (ball.memory.count == 0)
+    (ball.going.length == 0) & (ball.settings.mode == MODE_D) & !ball.due & (ball.memory.count == 0)
 }
 
 impl Puck {
@@ -44,10 +41,6 @@ impl Puck {
         ensures { λ r. ⌜ GoodPromise self r ⌝ }
     {
         let ball = self.ball;
-        ball.good()
-            & follows(ball)
-            & self.good_test()
-            & (self.revision <= 15)
-            & (self.maker <= 7)
+        ball.good() & follows(ball) & self.good_test() & (self.revision <= 15) & (self.maker <= 7)
     }
 }

@@ -129,13 +129,7 @@ fn byte_of_test(left: u8, revision: u8, maker: u8, buttons: u8) -> u8
     match left {
         0 => 0,
         1 => buttons % 8,
-        2 => {
-            if buttons == 0 {
-                0
-            } else {
-                BUTTON_ERROR
-            }
-        }
+        2 => { if buttons == 0 { 0 } else { BUTTON_ERROR } }
         3 => maker % 8 * 16 + DEVICE,
         _ => 160 + revision % 16,
     }

@@ -48,7 +48,6 @@ pub left-button-read : Answered (0xA1 ∷ 0x32 ∷ 0x3D ∷ 0x04 ∷ []) (Nothin
 unfolding computing answersOver
 left-button-read = refl
 
-
 -- T in the middle of a report: the report is broken off, and what was counted since is gone with it
 abbrev middle : List Event
 middle = Send ∷ Send ∷ Send ∷ Send ∷ Motion (pos 5) (pos 3) ∷ Host letterP ∷ Latch ∷ Send ∷ Motion (pos 9) (pos 0) ∷ Host letterT ∷ Send ∷ Send ∷ Send ∷ Send ∷ Host letterP ∷ Latch ∷ Send ∷ Send ∷ Send ∷ []

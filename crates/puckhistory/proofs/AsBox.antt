@@ -116,8 +116,7 @@ box-passages p g (e ∷ events) k z w =
     let n = next-is p e k z h in
     let d = told-is p e k z h g in
     let none : nextPuck p e .test .left ≡ 0 = ap (λ (q : Puck). q .test .left) n ∙ z in
-    let r = box-passages (nextPuck p e) (t .going) events (stepped-puck p e k) none (right (T-free e) (withoutT events) w) in
-    (
+    let r = box-passages (nextPuck p e) (t .going) events (stepped-puck p e k) none (right (T-free e) (withoutT events) w) in (
       rw (d, r .0, n) (sym (passages-as-append of-box (t .passages) (box-history.passagesOf (box-history.nextBox (p .ball) (asBox e)) (t .going) (map asBox events)))),
       rw (d, r .1, n),
     )

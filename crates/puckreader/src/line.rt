@@ -69,7 +69,13 @@ fn put_test(out: &mut [i16], t: SelfTest)
 }
 
 // A line of which words, reports and bytes are counted so far.
-fn reading(refusal: u8, next: PuckReader, taken: usize, reports: usize, dropped: usize) -> PuckReading
+fn reading(
+    refusal: u8,
+    next: PuckReader,
+    taken: usize,
+    reports: usize,
+    dropped: usize,
+) -> PuckReading
     ensures { λ r. ⌜ r ≡ record { refusal = refusal; next = next; taken = taken; reports = reports; dropped = dropped } ⌝ }
 {
     PuckReading {

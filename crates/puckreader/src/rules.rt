@@ -110,10 +110,7 @@ impl PuckReader {
             return answering(holding(0, 0, 0, 0), PuckAnswer::Test(test));
         }
         if is_test(kept[0]) {
-            return answering(
-                holding(3, kept[0], kept[1], byte),
-                PuckAnswer::Nothing,
-            );
+            return answering(holding(3, kept[0], kept[1], byte), PuckAnswer::Nothing);
         }
         let report = wire::report_of(FORMAT_S, [kept[0], kept[1], byte, 0, 0]);
         answering(holding(0, 0, 0, 0), PuckAnswer::Movement(report))
@@ -132,10 +129,7 @@ impl PuckReader {
         requires { ⌜ good self ≡ true ⌝ }
         ensures { λ r. ⌜ r ≡ answered (act puckFrame bad (keptIn self) byte) ⌝ }
     {
-        answering(
-            holding(0, 0, 0, 0),
-            PuckAnswer::Dropped(self.count + 1),
-        )
+        answering(holding(0, 0, 0, 0), PuckAnswer::Dropped(self.count + 1))
     }
 
     // A break or a silence drops the kept.

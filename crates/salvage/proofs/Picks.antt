@@ -93,7 +93,7 @@ module _ (letter : ℕ) (words before : List ℕ) (a : Picked) (after : List ℕ
           record {
             best = rw w best;
             left-out = leaves ∙ rw (w, take-all (length before) (pickedBy letter words) room, e, take-all (length words) words (omega arith))
-            (omega (arith, left-and-runs (sizeBy letter) (validBy letter) some words (pickedBy letter words) (best .choice)));
+                (omega (arith, left-and-runs (sizeBy letter) (validBy letter) some words (pickedBy letter words) (best .choice)));
           }
       go (until less t) = absurd (omega (arith, e, t, some, choice-within (sizeBy letter) (validBy letter) words 0 (pickedBy letter words) (length before) (best .choice) less))
 

@@ -1,6 +1,5 @@
 // The salvage of a recording: its log is read (log), and what the log falls into is printed, line by line (lines, walk).
 ghost use Rattle.salvaged.specs.Promises.{ListPromise};
-
 use listing::Given;
 
 mod lines;

@@ -60,9 +60,12 @@ loop-again c =
     let l = c .before .before .before .loop in
     let size = c .before .before .before .before .before .before .size .result in
     let b = take size (a .words .now) in
-    let long : l .i < length b = omega (arith, length-take-le size (a .words .now) (l .inv .2)) in
-    (l .inv .0, l .inv .1, l .inv .2,
-    l .inv .3 ∙ fit-more b (l .ok) (l .i) long (a .letter) ∙ rw (getD-take size (a .words .now) (l .i) 0 (omega arith), c .fits-word .ensures))
+    let long : l .i < length b = omega (arith, length-take-le size (a .words .now) (l .inv .2)) in (
+      l .inv .0,
+      l .inv .1,
+      l .inv .2,
+      l .inv .3 ∙ fit-more b (l .ok) (l .i) long (a .letter) ∙ rw (getD-take size (a .words .now) (l .i) 0 (omega arith), c .fits-word .ensures),
+    )
 
 returns-3 : tie.Need-returns-3 Inv-loop μ-loop
 returns-3 c =

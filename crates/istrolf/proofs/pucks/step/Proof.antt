@@ -15,7 +15,7 @@ returns c = simp (sym (c .before .before .stands .ensures) ∙ not-true _ (c .be
 
 returns-2 : tie.Need-returns-2
 unfolding puckStepOf
-returns-2 c = 
+returns-2 c =
     let s = c .before in
     let u = s .before in
     let b = ap (λ (p : Puck). stepOf p (u .before .before .before .before .args .event)) (u .unpacked .ensures) in

@@ -25,7 +25,7 @@ same-length : tie.Need-same-length
 same-length c = simp length-set
 
 returns : tie.Need-returns
-returns c = 
+returns c =
     let kind : toZ w16 (ofZ w16 (c .args .kind)) ≡ c .args .kind = search needs in
     let a : toZ w16 (ofZ w16 (c .args .a)) ≡ c .args .a = search needs in
     let b : toZ w16 (ofZ w16 (c .args .b)) ≡ c .args .b = search needs in

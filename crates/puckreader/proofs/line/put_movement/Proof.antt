@@ -9,7 +9,7 @@ use mir.Val.{toZ, ofZ}
 use mir.ValLaws.{toZ-pos}
 
 returns : tie.Need-returns
-returns c = 
+returns c =
     let s = c .before .before .before .before .before .before .before .before in
     let r = s .args .r in
     let x1 : toZ w16 (ofZ w16 (r .x1)) ≡ r .x1 = search needs in
