@@ -18,7 +18,7 @@ refused-rewritten-requires c κs = search needs
 
 returns : tie.Need-returns
 unfolding readbackRewriteOf
-returns c = let a = c .before .before .before .before .args in
+returns c = let a = c .before .before .before .before .before .args in
     simp (sym (c .before .before .stands .ensures) ∙ not-true _ (c .before .if1 .taken)) (ap (λ (l : RewrittenLines). rewriting l (a .out .now)) (c .refused-rewritten .ensures))
 
 unpacked-requires : tie.Need-unpacked-requires
@@ -35,9 +35,9 @@ same-length c = search needs
 
 returns-2 : tie.Need-returns-2
 unfolding readbackRewriteOf
-returns-2 c = let s = c .before .before in
+returns-2 c = let s = c .before .before .before in
     let u = s .before .before in
-    let a = u .before .before .before .before .args in
+    let a = u .before .before .before .before .before .args in
     let i = s .rewrite .ensures ∙ ap (λ (m : Readback). readback.rewriteOf m (a .input .now) (a .out .now)) (u .unpacked .ensures) in
     simp (sym (u .before .before .stands .ensures) ∙ not-false _ (u .before .if1 .left))
     (ap (λ (l : RewrittenLines). rewriting l (s .rewrite .last .1 .1 .0)) (c .packed-rewritten .ensures) ∙ ap packedRewriting i)
