@@ -213,7 +213,7 @@ static void lister(void) {
     const istrolf_reader r = {'S', {148, 5, 0, 0, 0}, 2, 0};
     m.reader = r;
     istrolf_listed a = istrolf_lister_feed(m, (const uint8_t *)"3\nQ", 3, out, sizeof out);
-    const char text[] = "R\t0042\tL--\t5\t-3\n";
+    const char text[] = "R\t000042\tL--\t5\t-3\n";
     same("listed.refusal", a.refusal, 0);
     same("listed.ended", a.ended, 0);
     same("listed.taken", (long long)a.taken, 3);
@@ -513,7 +513,7 @@ static void salvage(void) {
     same("picked.refusal", istrolf_salvage_pick('S', words, 11, places, 3).refusal, ISTROLF_MARKED);
 
     const char input[] = "F\tT\nB\t9\nB\t1\nB\t2\nB\t3";
-    const char text[] = "S\t4\nD\t0002\t1\nR\t0005\t--R\t2\t3\nH\t0\n";
+    const char text[] = "S\t6\nD\t000002\t1\nR\t000005\t--R\t2\t3\nH\t0\n";
     uint8_t out[64];
     istrolf_salvaged a = istrolf_salvage_list((const uint8_t *)input, sizeof input - 1, out, sizeof out);
     same("salvaged.whole", a.whole, 1);
