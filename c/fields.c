@@ -524,6 +524,112 @@ static void salvage(void) {
     same("salvaged.written", (long long)a.written, 4);
 }
 
+static void same_puck(istrolf_puck found, istrolf_puck expected) {
+    same_box(found.ball, expected.ball);
+    same("test.left", found.test.left, expected.test.left);
+    same("test.buttons", found.test.buttons, expected.test.buttons);
+    same("revision", found.revision, expected.revision);
+    same("maker", found.maker, expected.maker);
+}
+
+static istrolf_puck stepped_puck(istrolf_stepped_puck s, uint8_t refusal, uint8_t sent, uint16_t word) {
+    same("stepped_puck.refusal", s.refusal, refusal);
+    same("stepped_puck.sent", s.sent, sent);
+    same("stepped_puck.word", s.word, word);
+    return s.next;
+}
+
+static void puck(void) {
+    const istrolf_puck powered = {{{'S', 'D', 5}, {{0, 0}, {0, 0}, {0, 0}}, {0, 0, {0}}, {{0}, 0, 0}, {{0, 0}, {0, 0}}, 0, 0}, {4, 5}, 9, 6};
+    istrolf_puck p = istrolf_puck_made(13, 25, 14), e = powered;
+    same_puck(p, e);
+
+    /* the self-test's bytes tell revision, maker, error and buttons; a byte of the host's does nothing, motion and buttons count */
+    p = stepped_puck(istrolf_puck_send(p), 0, 1, 0xA9);
+    p = stepped_puck(istrolf_puck_host(p, 'R'), 0, 0, 0);
+    p = stepped_puck(istrolf_puck_send(p), 0, 1, 0x62);
+    p = stepped_puck(istrolf_puck_motion(p, 300, -400), 0, 0, 0);
+    p = stepped_puck(istrolf_puck_buttons(p, 3), 0, 0, 0);
+    e.ball.track.counter.x = 300, e.ball.track.counter.y = -400, e.ball.track.position.x = 300;
+    e.ball.settings.buttons = 3, e.test.left = 2;
+    same_puck(p, e);
+    p = stepped_puck(istrolf_puck_send(p), 0, 1, ISTROLF_BUTTON_ERROR);
+    p = stepped_puck(istrolf_puck_send(p), 0, 1, 5);
+    e.test.left = 0, e.test.buttons = 0;
+    same_puck(p, e);
+
+    /* R, a change, the interval, a report, and T in its middle */
+    p = stepped_puck(istrolf_puck_host(p, 'R'), 0, 0, 0);
+    p = stepped_puck(istrolf_puck_buttons(p, 2), 0, 0, 0);
+    p = stepped_puck(istrolf_puck_period(p), 0, 0, 0);
+    e.ball.settings.mode = 'R', e.ball.settings.buttons = 2, e.ball.memory.states[0] = 2, e.ball.memory.count = 1, e.ball.due = 1;
+    same_puck(p, e);
+    p = stepped_puck(istrolf_puck_latch(p), 0, 0, 0);
+    p = stepped_puck(istrolf_puck_send(p), 0, 1, 0x92);
+    same("going.sent", p.ball.going.sent, 1);
+    same("sums.limit.x", p.ball.sums.limit.x, 173);
+    p = stepped_puck(istrolf_puck_host(p, 'T'), 0, 1, ISTROLF_BREAK);
+    e = powered, e.ball.settings.buttons = 2, e.test.buttons = 2;
+    same_puck(p, e);
+
+    /* refusals hand it back */
+    same_puck(stepped_puck(istrolf_puck_buttons(p, 8), ISTROLF_BAD_BUTTONS, 0, 0), e);
+    p.maker = 8, e = p;
+    same_puck(stepped_puck(istrolf_puck_send(p), ISTROLF_BAD_STATE, 0, 0), e);
+    p.maker = 7, p.ball.dormant = 2, e = p;
+    same_puck(stepped_puck(istrolf_puck_send(p), ISTROLF_BAD_STATE, 0, 0), e);
+}
+
+static void same_puck_reader(istrolf_puck_reader r, const uint8_t *kept, uint8_t count) {
+    for (int i = 0; i < 3; i++) same("puck_reader.kept", r.kept[i], kept[i]);
+    same("puck_reader.count", r.count, count);
+}
+
+static void puck_reader(void) {
+    const uint8_t none[3] = {0}, three[3] = {0xA9, 0x64, 0x21};
+    same_puck_reader(istrolf_puck_reader_fresh(), none, 0);
+    const istrolf_puck_reader r = {{0xA9, 0x64, 0x21}, 3};
+    istrolf_read_puck_word w = istrolf_puck_reader_step(r, 5);
+    same("read_puck_word.refusal", w.refusal, 0);
+    same("read_puck_word.movements", w.movements, 0);
+    same("read_puck_word.tests", w.tests, 1);
+    same("read_puck_word.dropped", w.dropped, 0);
+    same("self_test.revision", w.test.revision, 9);
+    same("self_test.maker", w.test.maker, 6);
+    same("self_test.device", w.test.device, 4);
+    same("self_test.error", w.test.error, 0x21);
+    same("self_test.buttons", w.test.buttons, 5);
+    same_puck_reader(w.next, none, 0);
+    const istrolf_puck_reader two = {{0x8D, 11, 0}, 2};
+    w = istrolf_puck_reader_step(two, 12);
+    same("read_puck_word.movements", w.movements, 1);
+    same("movement.buttons", w.movement.buttons, 5);
+    same("movement.x1", w.movement.x1, -11);
+    same("movement.y1", w.movement.y1, 12);
+    same("movement.x2", w.movement.x2, 0);
+    same("movement.y2", w.movement.y2, 0);
+    w = istrolf_puck_reader_step(r, 8);
+    same("read_puck_word.dropped", w.dropped, 4);
+    w = istrolf_puck_reader_step(r, 258);
+    same("read_puck_word.refusal", w.refusal, ISTROLF_BAD_WORD);
+    same_puck_reader(w.next, three, 3);
+
+    const uint16_t words[] = {5, 3, 0x98, 1, 2, 0x9F};
+    int16_t out[14];
+    for (int i = 0; i < 14; i++) out[i] = (int16_t)(700 + i);
+    istrolf_puck_reading a = istrolf_puck_reader_read(r, words, 6, out, 14);
+    const int16_t numbers[14] = {2, 9, 6, 4, 0x21, 5, 0, 0, 1, 2, 0, 0, 712, 713};
+    same("puck_reading.refusal", a.refusal, 0);
+    same("puck_reading.taken", (long long)a.taken, 6);
+    same("puck_reading.reports", (long long)a.reports, 2);
+    same("puck_reading.dropped", (long long)a.dropped, 1);
+    same("puck_reading.next.count", a.next.count, 1);
+    same("puck_reading.next.kept", a.next.kept[0], 0x9F);
+    for (int i = 0; i < 14; i++) same("out", out[i], numbers[i]);
+    const istrolf_puck_reader bad = {{0xB0, 0, 0}, 1};
+    same("puck_reading.refusal", istrolf_puck_reader_read(bad, words, 6, out, 14).refusal, ISTROLF_BAD_STATE);
+}
+
 int main(void) {
     reader();
     encoder();
@@ -534,6 +640,8 @@ int main(void) {
     readback();
     told();
     salvage();
+    puck();
+    puck_reader();
     printf("%d compared, %d wrong\n", compared, wrong);
     return wrong > 0;
 }

@@ -1,5 +1,5 @@
 /* Istrolf for C99 and C++: reader, encoder, box, lister, bridge, yard check, reader of listings, reader of replies, lister and salvage for a serial trackball and the seven
- * formats of the old mice. Link libistrolf.a.
+ * formats of the old mice, and the VSXXX puck. Link libistrolf.a.
  *
  * Calls. Every function takes every argument, ends, and has one answer; each is proved. There is no set-up and no error but the refusals below.
  * Nothing is allocated and nothing is kept between calls, so calls from several threads need no lock.
@@ -426,6 +426,78 @@ istrolf_picked istrolf_salvage_pick(uint8_t letter, const uint16_t *words, size_
 /* The salvage of a recording, as text: a line S; R for each report and D for each longest run of bytes left out, at the line of its last byte; H 0. A marked
  * format, a log too long or a bad line is an E that stands alone behind S. Only whole lines are written. */
 istrolf_salvaged istrolf_salvage_list(const uint8_t *input, size_t count, uint8_t *out, size_t room);
+
+/* ---- The Digital VSXXX puck: the box in S with the commands R, D, P and T alone, and a self-test; and its reader. */
+
+typedef struct {
+    istrolf_box ball; /* a box in S */
+    struct {
+        uint8_t left;    /* bytes of the self-test that are left to be sent, 0 if none is going */
+        uint8_t buttons; /* the buttons at its start */
+    } test;
+    uint8_t revision; /* 0 to 15 */
+    uint8_t maker;    /* 0 to 7 */
+} istrolf_puck;
+
+typedef struct {
+    uint8_t refusal;
+    uint8_t sent;  /* how many words the device sends: 0 or 1 */
+    uint16_t word; /* the word, or 0 */
+    istrolf_puck next;
+} istrolf_stepped_puck;
+
+/* Power-up: buttons modulo 8, revision modulo 16, maker modulo 8. The four bytes of a self-test are to be sent. */
+istrolf_puck istrolf_puck_made(uint8_t buttons, uint8_t revision, uint8_t maker);
+
+/* One event each, as the box's. Refusals: BAD_STATE; BAD_BUTTONS, by istrolf_puck_buttons alone. While a self-test is going a byte of the host's does nothing. */
+istrolf_stepped_puck istrolf_puck_motion(istrolf_puck puck, int16_t dx, int16_t dy);
+istrolf_stepped_puck istrolf_puck_buttons(istrolf_puck puck, uint8_t buttons);
+istrolf_stepped_puck istrolf_puck_host(istrolf_puck puck, uint8_t byte); /* R stream, D prompt, P a report, T a self-test; any other only breaks off */
+istrolf_stepped_puck istrolf_puck_latch(istrolf_puck puck);
+istrolf_stepped_puck istrolf_puck_send(istrolf_puck puck);
+istrolf_stepped_puck istrolf_puck_period(istrolf_puck puck);
+
+typedef struct {
+    uint8_t revision; /* of the firmware */
+    uint8_t maker;    /* the maker's location */
+    uint8_t device;   /* 2 a mouse, 4 a tablet */
+    uint8_t error;    /* 0 none; ISTROLF_FATAL or more is fatal */
+    uint8_t buttons;  /* those that are down or have failed */
+} istrolf_self_test;
+
+enum { ISTROLF_FATAL = 0x20, ISTROLF_BUTTON_ERROR = 0x3D };
+
+typedef struct {
+    uint8_t kept[3]; /* the bytes kept of an unfinished report, the rest 0 */
+    uint8_t count;   /* how many are kept */
+} istrolf_puck_reader;
+
+typedef struct {
+    uint8_t refusal;
+    uint8_t movements; /* 1 if this word ended a movement's report, and else 0 */
+    uint8_t tests;     /* 1 if it ended a self-test, and else 0 */
+    uint8_t dropped;   /* how many bytes were dropped */
+    istrolf_puck_reader next;
+    istrolf_report movement; /* the movement, or zeros */
+    istrolf_self_test test;  /* the self-test, or zeros */
+} istrolf_read_puck_word;
+
+typedef struct {
+    uint8_t refusal;
+    istrolf_puck_reader next;
+    size_t taken;   /* words taken */
+    size_t reports; /* reports written, of either kind */
+    size_t dropped; /* bytes dropped */
+} istrolf_puck_reading;
+
+istrolf_puck_reader istrolf_puck_reader_fresh(void);
+
+/* One word. Refusals: BAD_STATE, BAD_WORD. */
+istrolf_read_puck_word istrolf_puck_reader_step(istrolf_puck_reader reader, uint16_t word);
+
+/* Many words. A report is six numbers of out: 0, buttons, x, y, 0, 0 for a movement; 1, or 2 if its error is fatal, revision, maker, device, error, buttons for a self-test. Refusals and
+ * what is left are as in istrolf_reader_read, with six for five. */
+istrolf_puck_reading istrolf_puck_reader_read(istrolf_puck_reader reader, const uint16_t *words, size_t count, int16_t *out, size_t room);
 
 #ifdef __cplusplus
 }
