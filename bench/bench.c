@@ -329,11 +329,12 @@ static void check_words(void) {
     }
 }
 
-/* The recording as a whole, and in pieces with little room. */
-static void check_recording(size_t length) {
+/* The recording behind so many lines, in pieces with little room. */
+static void check_recording(uint32_t line, size_t length) {
     istrolf_lister m, ours = istrolf_lister_fresh();
     size_t taken, written;
     plain_lister(&m);
+    ours.line = m.line = line;
     for (size_t at = 0; at < length;) {
         size_t piece = drawn(64), room = drawn(60);
         if (piece > length - at) piece = length - at;
@@ -459,11 +460,10 @@ static void check_bad_recordings(void) {
         if (is_digit(text[at]) && is_digit(text[at + 1]) && is_digit(text[at + 2])) text[at] = '2', text[at + 1] = '5', text[at + 2] = (uint8_t)('4' + drawn(4));
         if (drawn(2) == 0) text[drawn(length)] = (uint8_t)"\n\tBXQF0126 \r"[drawn(12)];
         if (drawn(4) == 0) length--;
-        check_recording(length);
+        check_recording(0, length);
         if (i % 100 != 0) continue;
-        make_recording();
-        for (size_t i = 4; i < 4 + 2 * 10000; i += 2) text[i] = 'Q', text[i + 1] = '\n';
-        check_recording(4 + 2 * (9996 + drawn(5)) + drawn(2));
+        for (size_t at = 0; at < 24; at += 2) text[at] = 'Q', text[at + 1] = '\n';
+        check_recording(999992 + (uint32_t)drawn(8), 2 * drawn(12) + drawn(2));
     }
 }
 

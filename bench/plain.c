@@ -391,7 +391,7 @@ uint8_t plain_period(istrolf_box *b) {
 
 /* ---- The lister */
 
-enum { MOST_LINES = 9999 };
+enum { MOST_LINES = 999999 };
 
 static uint8_t *put_text(uint8_t *to, const char *text) {
     while (*text) *to++ = (uint8_t)*text++;
@@ -410,7 +410,7 @@ static uint8_t *put_number(uint8_t *to, int number, int width) {
     return to;
 }
 
-static uint8_t *put_line(uint8_t *to, const char *letter, uint32_t line) { return put_number(put_text(to, letter), (int)line, 4); }
+static uint8_t *put_line(uint8_t *to, const char *letter, uint32_t line) { return put_number(put_text(to, letter), (int)line, 6); }
 
 static uint8_t *put_report(uint8_t *to, uint8_t format, uint32_t line, const int16_t *p) {
     to = put_text(put_line(to, "R\t", line), "\t");
@@ -461,7 +461,7 @@ static uint8_t *take_line(istrolf_lister *m, uint8_t *to) {
 
 static int good_lister(const istrolf_lister *m) { return m->ended <= 1 && m->line <= MOST_LINES && m->count <= 5 && good_reader(m->reader.format, &m->reader); }
 
-static uint8_t *open_listing(const istrolf_lister *m, uint8_t *to) { return m->line == 0 && m->count == 0 && !m->ended ? put_text(to, "L\t4\n") : to; }
+static uint8_t *open_listing(const istrolf_lister *m, uint8_t *to) { return m->line == 0 && m->count == 0 && !m->ended ? put_text(to, "L\t6\n") : to; }
 
 void plain_lister(istrolf_lister *m) {
     memset(m, 0, sizeof *m);
@@ -500,7 +500,7 @@ uint8_t plain_finish(istrolf_lister *m, uint8_t *out, size_t room, size_t *writt
     *written = 0;
     if (!good_lister(m)) return ISTROLF_BAD_STATE;
     if (!next.ended && next.count > 0) end = take_line(&next, end);
-    if (!next.ended) end = next.line == 0 ? put_text(end, "E\t0001\n") : put_text(put_number(put_text(end, "H\t"), next.reader.count, 1), "\n");
+    if (!next.ended) end = next.line == 0 ? put_text(end, "E\t000001\n") : put_text(put_number(put_text(end, "H\t"), next.reader.count, 1), "\n");
     size_t length = (size_t)(end - text);
     if (length > room) return ISTROLF_OK;
     memcpy(out, text, length);

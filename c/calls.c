@@ -218,7 +218,7 @@ typedef struct {
 } placed;
 
 static placed any_lister(uint64_t call) {
-    placed m = {{(uint32_t)drawn(call, 105, 10002), 0, {0, 0, 0, 0, 0}, 0, any_reader(call)}, drawn(call, 106, 88)};
+    placed m = {{(uint32_t)(990000 * drawn(call, 112, 2) + drawn(call, 105, 10002)), 0, {0, 0, 0, 0, 0}, 0, any_reader(call)}, drawn(call, 106, 88)};
     if (drawn(call, 100, 8) == 0) m.lister.ended = mark(call, 101);
     if (drawn(call, 102, 2) == 0)
         m.lister.held[0] = 66, m.lister.held[1] = 9, m.lister.held[2] = drawn_byte(call, 103, 64), m.lister.count = drawn(call, 104, 8);
@@ -256,6 +256,197 @@ static void lister_pieces(void) {
     line("istrolf_lister", refused, all);
 }
 
+/* The yard check. */
+
+static uint64_t mixed_yard(uint64_t h, istrolf_yard y) { return mixed(mixed(mixed(mixed(mixed(h, y.format), y.first), y.last), y.count), y.ended); }
+
+static istrolf_yard any_yard(uint64_t call) {
+    istrolf_yard y = {letter(call, 120), 0, 0, 0, mark(call, 121)};
+    if (drawn(call, 122, 2) == 0) y.first = drawn_byte(call, 123, 256), y.last = drawn_byte(call, 124, 64), y.count = drawn_byte(call, 125, 6);
+    return y;
+}
+
+static void yards_fresh(void) {
+    uint64_t all = 0, refused = 0;
+    for (uint64_t call = 0; call < 100000; call++) {
+        istrolf_new_yard n = istrolf_yard_fresh(drawn_byte(call, 139, 256));
+        all = mixed_yard(mixed(all, n.refusal), n.yard);
+        refused += n.refusal > 0;
+    }
+    line("istrolf_yard_fresh", refused, all);
+}
+
+static void yard_steps(void) {
+    uint64_t all = 0, refused = 0;
+    istrolf_yard last = istrolf_yard_fresh('U').yard;
+    for (uint64_t call = 0; call < 100000; call++) {
+        uint64_t kind = drawn(call, 126, 8);
+        istrolf_yard y = kind == 0 ? istrolf_yard_fresh(letter(call, 127)).yard : kind == 1 ? any_yard(call) : last;
+        istrolf_judged j = istrolf_yard_step(y, word(call, 128));
+        all = mixed(all, mixed_yard(mixed(mixed(0, j.refusal), j.can), j.next));
+        refused += j.refusal > 0;
+        last = j.next;
+    }
+    line("istrolf_yard_step", refused, all);
+}
+
+static void yard_checks(void) {
+    uint64_t all = 0, refused = 0;
+    for (uint64_t call = 0; call < 100000; call++) {
+        uint16_t words[8] = {word(call, 130), 133};
+        for (int i = 2; i < 8; i++) words[i] = word(call, 129 + (uint64_t)i);
+        istrolf_checked c = istrolf_yard_check(letter(call, 138), words, drawn(call, 137, 9));
+        all = mixed(mixed(mixed(all, c.refusal), c.proper), c.sendable);
+        refused += c.refusal > 0;
+    }
+    line("istrolf_yard_check", refused, all);
+}
+
+/* The bridge. */
+
+static istrolf_bridge any_bridge(uint64_t call) {
+    istrolf_bridge b = {any_reader(call), 0, mark(call, 124), (uint16_t)drawn(call, 125, 65536), 0, 0};
+    if (drawn(call, 120, 2) == 0) b.based = mark(call, 121), b.x = position(call, 122), b.y = position(call, 123);
+    return b;
+}
+
+static istrolf_bridge chosen_bridge(istrolf_bridge last, uint64_t call) {
+    uint64_t kind = drawn(call, 126, 16);
+    return kind == 0 ? istrolf_bridge_fresh(letter(call, 127)).bridge : kind == 1 ? any_bridge(call) : last;
+}
+
+static uint64_t mixed_bridge(uint64_t h, istrolf_bridge b) {
+    h = mixed(mixed(mixed(mixed_reader(h, b.reader), b.based), b.middle), b.presses);
+    return mixed_signed(mixed_signed(h, b.x), b.y);
+}
+
+static void bridges_fresh(void) {
+    uint64_t all = 0, refused = 0;
+    for (uint64_t call = 0; call < 100000; call++) {
+        istrolf_new_bridge n = istrolf_bridge_fresh(drawn_byte(call, 142, 256));
+        all = mixed_bridge(mixed(all, n.refusal), n.bridge);
+        refused += n.refusal > 0;
+    }
+    line("istrolf_bridge_fresh", refused, all);
+}
+
+static void bridge_converts(void) {
+    uint64_t all = 0, refused = 0;
+    istrolf_bridge last = istrolf_bridge_fresh('U').bridge;
+    for (uint64_t call = 0; call < 100000; call++) {
+        uint16_t words[10];
+        uint8_t out[60];
+        for (uint64_t i = 0; i < 10; i++) words[i] = word(call, 130 + i);
+        memset(out, 7, 60);
+        istrolf_converted a = istrolf_bridge_convert(chosen_bridge(last, call), words, drawn(call, 140, 11), out, drawn(call, 141, 61));
+        uint64_t h = mixed(mixed(mixed(mixed(a.refusal, a.taken), a.reports), a.sent), a.dropped);
+        all = mixed(all, mixed_bytes(mixed_bridge(h, a.next), out, 60));
+        refused += a.refusal > 0;
+        last = a.next;
+    }
+    line("istrolf_bridge_convert", refused, all);
+}
+
+/* The reader that is told of replies. */
+
+static uint16_t heard(uint64_t call, uint64_t place) {
+    static const uint16_t replies[16] = {6, 16, 18, 20, 22, 24, 26, 28, 30, 85, 83, 79, 68, 80, 82, 257};
+    return drawn(call, place + 50, 2) == 0 ? replies[drawn(call, place, 16)] : word(call, place);
+}
+
+static istrolf_told any_told(uint64_t call) {
+    istrolf_told t = {any_reader(call), drawn_byte(call, 120, 6), {0, 0, 0}};
+    if (drawn(call, 121, 2) == 0) t.came.count = drawn_byte(call, 122, 4), t.came.first = letter(call, 123), t.came.second = drawn_byte(call, 124, 2);
+    return t;
+}
+
+static istrolf_told chosen_told(istrolf_told last, uint64_t call) {
+    uint64_t kind = drawn(call, 125, 16);
+    return kind == 0 ? istrolf_told_fresh(letter(call, 126)).told : kind == 1 ? any_told(call) : last;
+}
+
+static uint64_t mixed_came(uint64_t h, istrolf_came c) { return mixed(mixed(mixed(h, c.count), c.first), c.second); }
+
+static uint64_t mixed_told(uint64_t h, istrolf_told t) { return mixed_came(mixed(mixed_reader(h, t.reader), t.awaited), t.came); }
+
+static uint64_t mixed_reply(uint64_t h, istrolf_reply r) {
+    h = mixed(h, r.kind);
+    if (r.kind == ISTROLF_REPLY_FORMAT || r.kind == ISTROLF_REPLY_LETTERS) h = mixed(h, r.format);
+    if (r.kind == ISTROLF_REPLY_LETTERS) h = mixed(h, r.mode);
+    if (r.kind == ISTROLF_REPLY_BUTTONS) h = mixed(h, r.buttons);
+    return r.kind == ISTROLF_REPLY_BROKEN ? mixed_came(h, r.came) : h;
+}
+
+static uint64_t mixed_report(uint64_t h, istrolf_report p) {
+    return mixed_signed(mixed_signed(mixed_signed(mixed_signed(mixed(h, p.buttons), p.x1), p.y1), p.x2), p.y2);
+}
+
+static void told_turns(void) {
+    uint64_t all = 0, refused = 0;
+    istrolf_told last = istrolf_told_fresh('U').told;
+    for (uint64_t call = 0; call < 200000; call++) {
+        istrolf_told t = chosen_told(last, call);
+        uint64_t kind = drawn(call, 142, 8), one;
+        uint8_t number;
+        if (t.reader.awaiting > 1 || t.awaited > 4) { /* whatever is called */
+            istrolf_told_command_answer a = istrolf_told_waking(t);
+            number = a.refusal, last = a.next, one = mixed_told(mixed(0, a.refusal), a.next);
+        } else if (kind < 2) {
+            istrolf_told_command_answer a = kind == 0 ? istrolf_told_command(t, host(call, 143)) : istrolf_told_waking(t);
+            number = a.refusal, last = a.next, one = mixed_told(mixed(mixed(0, a.refusal), a.discarded), a.next);
+        } else if (kind < 5) {
+            istrolf_heard_word a = istrolf_told_step(t, heard(call, 144));
+            one = mixed_reply(mixed(0, a.refusal), a.reply);
+            one = a.reports > 0 ? mixed_report(mixed(one, 1), a.report) : a.dropped > 0 ? mixed(mixed(one, 2), a.dropped) : mixed(one, 0);
+            number = a.refusal, last = a.next, one = mixed_told(one, a.next);
+        } else {
+            uint16_t words[10];
+            int16_t out[12];
+            for (int i = 0; i < 10; i++) words[i] = heard(call, 130 + (uint64_t)i);
+            for (int i = 0; i < 12; i++) out[i] = 7;
+            istrolf_heard_words a = istrolf_told_read(t, words, drawn(call, 140, 11), out, drawn(call, 141, 13));
+            one = mixed_reply(mixed(mixed(mixed(mixed(0, a.refusal), a.taken), a.reports), a.dropped), a.reply);
+            one = mixed_told(one, a.next);
+            for (int i = 0; i < 12; i++) one = mixed_signed(one, out[i]);
+            number = a.refusal, last = a.next;
+        }
+        all = mixed(all, one);
+        refused += number > 0;
+    }
+    line("istrolf_told", refused, all);
+}
+
+/* Salvage. */
+
+static void picks(void) {
+    uint64_t all = 0, refused = 0;
+    for (uint64_t call = 0; call < 100000; call++) {
+        uint16_t words[10], places[4] = {7, 7, 7, 7};
+        for (uint64_t i = 0; i < 10; i++) words[i] = word(call, 130 + i);
+        istrolf_picked p = istrolf_salvage_pick(letter(call, 142), words, drawn(call, 140, 11), places, drawn(call, 141, 5));
+        uint64_t h = mixed(mixed(mixed(mixed(0, p.refusal), p.taken), p.runs), p.left);
+        for (int i = 0; i < 4; i++) h = mixed(h, places[i]);
+        all = mixed(all, h);
+        refused += p.refusal > 0;
+    }
+    line("istrolf_salvage_pick", refused, all);
+}
+
+static const char logs[] = "F\tT\nB\t9\nB\t1\nB\t2\nB\t3\nX\nB\t4\nB\t250\nB\t6\nQ\nB\t7\nB\t0\nZ\nF\tU\nB\t130\nB\t5\nB\t133\nB\t1\nB\t2\nB\t3\nB\t4\nB\t5\nX\nB\t135\nB\t9";
+
+static void salvages(void) {
+    uint64_t all = 0;
+    for (uint64_t call = 0; call < 100000; call++) {
+        uint8_t out[60];
+        size_t at = drawn(call, 152, 2) == 0 ? 0 : 48, count = drawn(call, 150, 70);
+        if (count > 99 - at) count = 99 - at;
+        memset(out, 46, 60);
+        istrolf_salvaged s = istrolf_salvage_list((const uint8_t *)logs + at, count, out, drawn(call, 151, 61));
+        all = mixed(all, mixed_bytes(mixed(mixed(0, s.whole), s.written), out, 60));
+    }
+    line("istrolf_salvage_list", 0, all);
+}
+
 int main(void) {
     readers_fresh();
     reader_steps();
@@ -263,5 +454,13 @@ int main(void) {
     encodes();
     box_steps();
     lister_pieces();
+    yards_fresh();
+    yard_steps();
+    yard_checks();
+    bridges_fresh();
+    bridge_converts();
+    told_turns();
+    picks();
+    salvages();
     return 0;
 }

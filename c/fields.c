@@ -213,7 +213,7 @@ static void lister(void) {
     const istrolf_reader r = {'S', {148, 5, 0, 0, 0}, 2, 0};
     m.reader = r;
     istrolf_listed a = istrolf_lister_feed(m, (const uint8_t *)"3\nQ", 3, out, sizeof out);
-    const char text[] = "R\t0042\tL--\t5\t-3\n";
+    const char text[] = "R\t000042\tL--\t5\t-3\n";
     same("listed.refusal", a.refusal, 0);
     same("listed.ended", a.ended, 0);
     same("listed.taken", (long long)a.taken, 3);
@@ -241,11 +241,407 @@ static void lister(void) {
     same_lister(a.next, 41, 2, "", 0);
 }
 
+static void same_yard(istrolf_yard y, uint8_t format, uint8_t first, uint8_t last, uint8_t count, uint8_t ended) {
+    same("yard.format", y.format, format);
+    same("yard.first", y.first, first);
+    same("yard.last", y.last, last);
+    same("yard.count", y.count, count);
+    same("yard.ended", y.ended, ended);
+}
+
+static void yard(void) {
+    istrolf_new_yard n = istrolf_yard_fresh('W');
+    same("new_yard.refusal", n.refusal, 0);
+    same_yard(n.yard, 'W', 0, 0, 0, 0);
+    n = istrolf_yard_fresh('X');
+    same("new_yard.refusal", n.refusal, ISTROLF_BAD_LETTER);
+    same_yard(n.yard, 'U', 0, 0, 0, 0);
+
+    /* in: the high digit 8 behind the last byte 0 is -128, and else it can be sent; out: the same by their members */
+    const istrolf_yard low = {'W', '7', '0', 2, 0}, other = {'W', '7', '1', 2, 0};
+    istrolf_judged j = istrolf_yard_step(low, '8');
+    same("judged.refusal", j.refusal, 0);
+    same("judged.can", j.can, 0);
+    same_yard(j.next, 'W', 0, 0, 0, 1);
+    j = istrolf_yard_step(j.next, ISTROLF_SILENCE);
+    same("judged.can", j.can, 0);
+    same_yard(j.next, 'W', 0, 0, 0, 1);
+    j = istrolf_yard_step(other, '8');
+    same("judged.refusal", j.refusal, 0);
+    same("judged.can", j.can, 1);
+    same_yard(j.next, 'W', '7', '8', 3, 0);
+
+    /* the sign of S is in the first byte */
+    const istrolf_yard minus = {'S', 0x88, 0x88, 1, 0}, plus = {'S', 0x98, 0x98, 1, 0};
+    same("judged.can", istrolf_yard_step(minus, 0).can, 0);
+    same("judged.can", istrolf_yard_step(plus, 0).can, 1);
+
+    /* a word above 257, a mark of 2 and a last byte that is none are refused, and the check is handed back */
+    j = istrolf_yard_step(other, 258);
+    same("judged.refusal", j.refusal, ISTROLF_BAD_WORD);
+    same_yard(j.next, 'W', '7', '1', 2, 0);
+    istrolf_yard y = low;
+    y.ended = 2;
+    j = istrolf_yard_step(y, '0');
+    same("judged.refusal", j.refusal, ISTROLF_BAD_STATE);
+    same("judged.can", j.can, 0);
+    same_yard(j.next, 'W', '7', '0', 2, 2);
+    y.ended = 0, y.last = 'G';
+    same("judged.refusal", istrolf_yard_step(y, '0').refusal, ISTROLF_BAD_STATE);
+
+    const uint16_t words[] = {257, 0x94, 5, 3, 256, 0x88, 0, 258};
+    istrolf_checked c = istrolf_yard_check('S', words, 6);
+    same("checked.refusal", c.refusal, 0);
+    same("checked.proper", c.proper, 1);
+    same("checked.sendable", (long long)c.sendable, 6);
+    c = istrolf_yard_check('S', words, 7);
+    same("checked.refusal", c.refusal, 0);
+    same("checked.proper", c.proper, 0);
+    same("checked.sendable", (long long)c.sendable, 6);
+    c = istrolf_yard_check('S', words, 8);
+    same("checked.refusal", c.refusal, ISTROLF_BAD_WORD);
+    same("checked.proper", c.proper, 0);
+    same("checked.sendable", (long long)c.sendable, 0);
+    same("checked.refusal", istrolf_yard_check('X', words, 8).refusal, ISTROLF_BAD_LETTER);
+}
+
+static void same_bridge(istrolf_bridge b, uint8_t based, uint8_t middle, uint16_t presses, int16_t x, int16_t y) {
+    same("bridge.based", b.based, based);
+    same("bridge.middle", b.middle, middle);
+    same("bridge.presses", b.presses, presses);
+    same("bridge.x", b.x, x);
+    same("bridge.y", b.y, y);
+}
+
+static void bridge(void) {
+    const uint8_t none[5] = {0}, four[5] = {80, 129, 0, 130, 0};
+    istrolf_new_bridge n = istrolf_bridge_fresh('W');
+    same("new_bridge.refusal", n.refusal, 0);
+    same_reader(n.bridge.reader, 'W', none, 0, 1);
+    same_bridge(n.bridge, 0, 0, 0, 0, 0);
+    same("new_bridge.refusal", istrolf_bridge_fresh('X').refusal, ISTROLF_BAD_LETTER);
+
+    /* in: the base and the kept bytes make V reports, and a middle that was down is no press; out: the last position is the base, with one press more */
+    istrolf_bridge b = {{'A', {80, 129, 0, 130, 0}, 4, 0}, 1, 1, 700, 201, 302};
+    const uint16_t words[] = {0, 72, 129, 0, 130, 0, 0, 258};
+    const uint8_t bytes[14] = {102, 1, 63, 102, 55, 63, 96, 0, 46, 64, 0, 0, 79, 80};
+    uint8_t out[14];
+    for (int i = 0; i < 14; i++) out[i] = (uint8_t)(67 + i);
+    istrolf_converted a = istrolf_bridge_convert(b, words, 8, out, 14);
+    same("converted.refusal", a.refusal, ISTROLF_BAD_WORD);
+    same("converted.taken", (long long)a.taken, 7);
+    same("converted.reports", (long long)a.reports, 2);
+    same("converted.sent", (long long)a.sent, 4);
+    same("converted.dropped", (long long)a.dropped, 1);
+    same_reader(a.next.reader, 'A', none, 0, 0);
+    same_bridge(a.next, 1, 1, 701, 1, 2);
+    for (int i = 0; i < 14; i++) same("out", out[i], bytes[i]);
+
+    /* no room: nothing is written, and the state stands before the word */
+    a = istrolf_bridge_convert(b, words, 8, out, 8);
+    same("converted.refusal", a.refusal, 0);
+    same("converted.taken", (long long)a.taken, 0);
+    same_reader(a.next.reader, 'A', four, 4, 0);
+    same_bridge(a.next, 1, 1, 700, 201, 302);
+
+    /* a mark of 2 in each place is refused, and handed back */
+    b.based = 2;
+    a = istrolf_bridge_convert(b, words, 8, out, 14);
+    same("converted.refusal", a.refusal, ISTROLF_BAD_STATE);
+    same_bridge(a.next, 2, 1, 700, 201, 302);
+    b.based = 1, b.middle = 2;
+    a = istrolf_bridge_convert(b, words, 8, out, 14);
+    same("converted.refusal", a.refusal, ISTROLF_BAD_STATE);
+    same_bridge(a.next, 1, 2, 700, 201, 302);
+}
+
+static void same_readback(istrolf_readback r, uint8_t width, uint8_t ended, uint32_t last, uint32_t lines) {
+    same("readback.width", r.width, width);
+    same("readback.ended", r.ended, ended);
+    same("readback.last", r.last, last);
+    same("readback.lines", r.lines, lines);
+}
+
+static void readback(void) {
+    int32_t out[12];
+    const char listing[] = "R\t0042\tL?-\t-5\t300\nH\t2\nX";
+    same_readback(istrolf_readback_fresh(), 0, 0, 0, 0);
+
+    /* in: the width, the last line number and the lines passed decide what is taken; out: the same by their members */
+    const istrolf_readback made = {4, 0, 41, 17};
+    for (int i = 0; i < 12; i++) out[i] = 700 + i;
+    istrolf_read_lines a = istrolf_readback_read(made, (const uint8_t *)listing, sizeof listing - 1, out, 12);
+    const int32_t numbers[12] = {ISTROLF_ITEM_R, 42, 12, -5, 300, ISTROLF_ITEM_H, 0, 2, 0, 0, 710, 711};
+    same("read_lines.refusal", a.refusal, 0);
+    same("read_lines.line", a.line, 0);
+    same("read_lines.taken", (long long)a.taken, (long long)sizeof listing - 2);
+    same("read_lines.items", (long long)a.items, 2);
+    for (int i = 0; i < 12; i++) same("out", out[i], numbers[i]);
+    same_readback(a.next, 4, 1, 42, 19);
+    a = istrolf_readback_finish(a.next, 1);
+    same("read_lines.refusal", a.refusal, ISTROLF_BAD_LISTING);
+    same("read_lines.line", a.line, 20);
+    same_readback(a.next, 4, 1, 42, 19);
+    same("read_lines.refusal", istrolf_readback_finish(a.next, 0).refusal, 0);
+    istrolf_readback r = made;
+    r.last = 42; /* which is no longer below the line's number */
+    a = istrolf_readback_read(r, (const uint8_t *)listing, sizeof listing - 1, out, 12);
+    same("read_lines.refusal", a.refusal, ISTROLF_BAD_LISTING);
+    same("read_lines.line", a.line, 18);
+    same("read_lines.taken", (long long)a.taken, 0);
+    r.ended = 2;
+    a = istrolf_readback_read(r, (const uint8_t *)listing, sizeof listing - 1, out, 12);
+    same("read_lines.refusal", a.refusal, ISTROLF_BAD_STATE);
+    same_readback(a.next, 4, 2, 42, 17);
+    r = made, r.width = 5;
+    same("read_lines.refusal", istrolf_readback_finish(r, 0).refusal, ISTROLF_BAD_STATE);
+}
+
+static void same_came(istrolf_came c, uint8_t count, uint8_t first, uint8_t second) {
+    same("came.count", c.count, count);
+    same("came.first", c.first, first);
+    same("came.second", c.second, second);
+}
+
+static void same_reply(istrolf_reply r, uint8_t kind, uint8_t format, uint8_t mode, uint8_t buttons) {
+    same("reply.kind", r.kind, kind);
+    same("reply.format", r.format, format);
+    same("reply.mode", r.mode, mode);
+    same("reply.buttons", r.buttons, buttons);
+}
+
+static void told(void) {
+    const uint8_t none[5] = {0}, four[5] = {135, 11, 12, 13, 0};
+    istrolf_new_told n = istrolf_told_fresh('T');
+    same("new_told.refusal", n.refusal, 0);
+    same_reader(n.told.reader, 'T', none, 0, 1);
+    same("told.awaited", n.told.awaited, ISTROLF_AWAITS_NOTHING);
+    same_came(n.told.came, 0, 0, 0);
+    same("new_told.refusal", istrolf_told_fresh('X').refusal, ISTROLF_BAD_LETTER);
+
+    /* in: the first letter that has come and the kind make the reply; out: the same by its members, and the report reader as it was */
+    const istrolf_told t = {{'U', {135, 11, 12, 13, 0}, 4, 0}, ISTROLF_AWAITS_LETTERS, {1, 'B', 0}};
+    istrolf_heard_word w = istrolf_told_step(t, 'R');
+    same("heard_word.refusal", w.refusal, 0);
+    same("heard_word.reports", w.reports, 0);
+    same("heard_word.dropped", w.dropped, 0);
+    same_reply(w.reply, ISTROLF_REPLY_LETTERS, 'B', 'R', 0);
+    same_came(w.reply.came, 0, 0, 0);
+    same_reader(w.next.reader, 'U', four, 4, 0);
+    same("told.awaited", w.next.awaited, ISTROLF_AWAITS_NOTHING);
+    same_came(w.next.came, 0, 0, 0);
+
+    /* no mode: it breaks the reply, and ends the report */
+    w = istrolf_told_step(t, 240);
+    same_reply(w.reply, ISTROLF_REPLY_BROKEN, 0, 0, 0);
+    same_came(w.reply.came, 1, 'B', 0);
+    same("heard_word.reports", w.reports, 1);
+    same("report.buttons", w.report.buttons, 0);
+    same("report.x1", w.report.x1, 11);
+    same("report.y1", w.report.y1, 12);
+    same("report.x2", w.report.x2, 13);
+    same("report.y2", w.report.y2, -16);
+    same_reader(w.next.reader, 'U', none, 0, 0);
+    w = istrolf_told_step(t, ISTROLF_BREAK);
+    same("heard_word.dropped", w.dropped, 4);
+    w = istrolf_told_step(t, 258);
+    same("heard_word.refusal", w.refusal, ISTROLF_BAD_WORD);
+    same_reply(w.reply, ISTROLF_REPLY_NONE, 0, 0, 0);
+    same_reader(w.next.reader, 'U', four, 4, 0);
+    same("told.awaited", w.next.awaited, ISTROLF_AWAITS_LETTERS);
+    same_came(w.next.came, 1, 'B', 0);
+
+    /* three bytes, of which the low bits of the first tell */
+    istrolf_told b = {{'S', {0}, 0, 0}, ISTROLF_AWAITS_BUTTONS, {1, 253, 0}};
+    w = istrolf_told_step(b, 77);
+    same_came(w.next.came, 2, 253, 77);
+    same("told.awaited", w.next.awaited, ISTROLF_AWAITS_BUTTONS);
+    w = istrolf_told_step(w.next, 99);
+    same_reply(w.reply, ISTROLF_REPLY_BUTTONS, 0, 0, 5);
+    b.awaited = ISTROLF_AWAITS_CODE, b.came.count = 0, b.came.first = 0;
+    same_reply(istrolf_told_step(b, 26).reply, ISTROLF_REPLY_FORMAT, 'S', 0, 0);
+
+    istrolf_told_command_answer c = istrolf_told_command(t, 'f');
+    same("told_command.refusal", c.refusal, 0);
+    same("told_command.discarded", c.discarded, 1);
+    same("told.awaited", c.next.awaited, ISTROLF_AWAITS_CODE);
+    same_came(c.next.came, 0, 0, 0);
+    same_reader(c.next.reader, 'U', four, 4, 0);
+    c = istrolf_told_command(t, 'P');
+    same("told_command.refusal", c.refusal, ISTROLF_NO_REPLY);
+    same("told_command.discarded", c.discarded, 0);
+    same("told.awaited", c.next.awaited, ISTROLF_AWAITS_LETTERS);
+    same_came(c.next.came, 1, 'B', 0);
+    same("told.awaited", istrolf_told_waking(t).next.awaited, ISTROLF_AWAITS_ACK);
+    same_reply(istrolf_told_step(istrolf_told_waking(t).next, 6).reply, ISTROLF_REPLY_ACK, 0, 0, 0);
+
+    const uint16_t words[] = {240, 257, 130, 1, 2, 3, 4, 131, 5, 256, 7};
+    int16_t out[12] = {0};
+    for (int i = 0; i < 12; i++) out[i] = (int16_t)(700 + i);
+    istrolf_heard_words a = istrolf_told_read(t, words, 11, out, 12);
+    const int16_t numbers[12] = {0, 11, 12, 13, -16, 5, 1, 2, 3, 4, 710, 711};
+    same("heard_words.refusal", a.refusal, 0);
+    same("heard_words.taken", (long long)a.taken, 11);
+    same("heard_words.reports", (long long)a.reports, 2);
+    same("heard_words.dropped", (long long)a.dropped, 3);
+    same_reply(a.reply, ISTROLF_REPLY_BROKEN, 0, 0, 0);
+    same_came(a.reply.came, 1, 'B', 0);
+    same_reader(a.next.reader, 'U', none, 0, 1);
+    same("told.awaited", a.next.awaited, ISTROLF_AWAITS_NOTHING);
+    for (int i = 0; i < 12; i++) same("out", out[i], numbers[i]);
+    b.awaited = 5, b.came.second = 9;
+    a = istrolf_told_read(b, words, 11, out, 12);
+    same("heard_words.refusal", a.refusal, ISTROLF_BAD_STATE);
+    same("heard_words.taken", (long long)a.taken, 0);
+    same("told.awaited", a.next.awaited, 5);
+    same_came(a.next.came, 0, 0, 9);
+}
+
+static void salvage(void) {
+    const uint16_t words[] = {9, 1, 2, 3, 4, 5, 6, 7, 256, 0, 0};
+    uint16_t places[3] = {71, 72, 73};
+    istrolf_picked p = istrolf_salvage_pick('T', words, 11, places, 3);
+    same("picked.refusal", p.refusal, 0);
+    same("picked.taken", (long long)p.taken, 11);
+    same("picked.runs", (long long)p.runs, 2);
+    same("picked.left", (long long)p.left, 4);
+    same("places", places[0], 1);
+    same("places", places[1], 4);
+    same("places", places[2], 73);
+    same("picked.taken", (long long)istrolf_salvage_pick('T', words, 11, places, 1).taken, 4);
+    same("picked.refusal", istrolf_salvage_pick('X', words, 11, places, 3).refusal, ISTROLF_BAD_LETTER);
+    same("picked.refusal", istrolf_salvage_pick('S', words, 11, places, 3).refusal, ISTROLF_MARKED);
+
+    const char input[] = "F\tT\nB\t9\nB\t1\nB\t2\nB\t3";
+    const char text[] = "S\t6\nD\t000002\t1\nR\t000005\t--R\t2\t3\nH\t0\n";
+    uint8_t out[64];
+    istrolf_salvaged a = istrolf_salvage_list((const uint8_t *)input, sizeof input - 1, out, sizeof out);
+    same("salvaged.whole", a.whole, 1);
+    same("salvaged.written", (long long)a.written, (long long)(sizeof text - 1));
+    for (size_t i = 0; i < sizeof text - 1; i++) same("out", out[i], (uint8_t)text[i]);
+    a = istrolf_salvage_list((const uint8_t *)input, sizeof input - 1, out, 5);
+    same("salvaged.whole", a.whole, 0);
+    same("salvaged.written", (long long)a.written, 4);
+}
+
+static void same_puck(istrolf_puck found, istrolf_puck expected) {
+    same_box(found.ball, expected.ball);
+    same("test.left", found.test.left, expected.test.left);
+    same("test.buttons", found.test.buttons, expected.test.buttons);
+    same("revision", found.revision, expected.revision);
+    same("maker", found.maker, expected.maker);
+}
+
+static istrolf_puck stepped_puck(istrolf_stepped_puck s, uint8_t refusal, uint8_t sent, uint16_t word) {
+    same("stepped_puck.refusal", s.refusal, refusal);
+    same("stepped_puck.sent", s.sent, sent);
+    same("stepped_puck.word", s.word, word);
+    return s.next;
+}
+
+static void puck(void) {
+    const istrolf_puck powered = {{{'S', 'D', 5}, {{0, 0}, {0, 0}, {0, 0}}, {0, 0, {0}}, {{0}, 0, 0}, {{0, 0}, {0, 0}}, 0, 0}, {4, 5}, 9, 6};
+    istrolf_puck p = istrolf_puck_made(13, 25, 14), e = powered;
+    same_puck(p, e);
+
+    /* the self-test's bytes tell revision, maker, error and buttons; a byte of the host's does nothing, motion and buttons count */
+    p = stepped_puck(istrolf_puck_send(p), 0, 1, 0xA9);
+    p = stepped_puck(istrolf_puck_host(p, 'R'), 0, 0, 0);
+    p = stepped_puck(istrolf_puck_send(p), 0, 1, 0x62);
+    p = stepped_puck(istrolf_puck_motion(p, 300, -400), 0, 0, 0);
+    p = stepped_puck(istrolf_puck_buttons(p, 3), 0, 0, 0);
+    e.ball.track.counter.x = 300, e.ball.track.counter.y = -400, e.ball.track.position.x = 300;
+    e.ball.settings.buttons = 3, e.test.left = 2;
+    same_puck(p, e);
+    p = stepped_puck(istrolf_puck_send(p), 0, 1, ISTROLF_BUTTON_ERROR);
+    p = stepped_puck(istrolf_puck_send(p), 0, 1, 5);
+    e.test.left = 0, e.test.buttons = 0;
+    same_puck(p, e);
+
+    /* R, a change, the interval, a report, and T in its middle */
+    p = stepped_puck(istrolf_puck_host(p, 'R'), 0, 0, 0);
+    p = stepped_puck(istrolf_puck_buttons(p, 2), 0, 0, 0);
+    p = stepped_puck(istrolf_puck_period(p), 0, 0, 0);
+    e.ball.settings.mode = 'R', e.ball.settings.buttons = 2, e.ball.memory.states[0] = 2, e.ball.memory.count = 1, e.ball.due = 1;
+    same_puck(p, e);
+    p = stepped_puck(istrolf_puck_latch(p), 0, 0, 0);
+    p = stepped_puck(istrolf_puck_send(p), 0, 1, 0x92);
+    same("going.sent", p.ball.going.sent, 1);
+    same("sums.limit.x", p.ball.sums.limit.x, 173);
+    p = stepped_puck(istrolf_puck_host(p, 'T'), 0, 1, ISTROLF_BREAK);
+    e = powered, e.ball.settings.buttons = 2, e.test.buttons = 2;
+    same_puck(p, e);
+
+    /* refusals hand it back */
+    same_puck(stepped_puck(istrolf_puck_buttons(p, 8), ISTROLF_BAD_BUTTONS, 0, 0), e);
+    p.maker = 8, e = p;
+    same_puck(stepped_puck(istrolf_puck_send(p), ISTROLF_BAD_STATE, 0, 0), e);
+    p.maker = 7, p.ball.dormant = 2, e = p;
+    same_puck(stepped_puck(istrolf_puck_send(p), ISTROLF_BAD_STATE, 0, 0), e);
+}
+
+static void same_puck_reader(istrolf_puck_reader r, const uint8_t *kept, uint8_t count) {
+    for (int i = 0; i < 3; i++) same("puck_reader.kept", r.kept[i], kept[i]);
+    same("puck_reader.count", r.count, count);
+}
+
+static void puck_reader(void) {
+    const uint8_t none[3] = {0}, three[3] = {0xA9, 0x64, 0x21};
+    same_puck_reader(istrolf_puck_reader_fresh(), none, 0);
+    const istrolf_puck_reader r = {{0xA9, 0x64, 0x21}, 3};
+    istrolf_read_puck_word w = istrolf_puck_reader_step(r, 5);
+    same("read_puck_word.refusal", w.refusal, 0);
+    same("read_puck_word.movements", w.movements, 0);
+    same("read_puck_word.tests", w.tests, 1);
+    same("read_puck_word.dropped", w.dropped, 0);
+    same("self_test.revision", w.test.revision, 9);
+    same("self_test.maker", w.test.maker, 6);
+    same("self_test.device", w.test.device, 4);
+    same("self_test.error", w.test.error, 0x21);
+    same("self_test.buttons", w.test.buttons, 5);
+    same_puck_reader(w.next, none, 0);
+    const istrolf_puck_reader two = {{0x8D, 11, 0}, 2};
+    w = istrolf_puck_reader_step(two, 12);
+    same("read_puck_word.movements", w.movements, 1);
+    same("movement.buttons", w.movement.buttons, 5);
+    same("movement.x1", w.movement.x1, -11);
+    same("movement.y1", w.movement.y1, 12);
+    same("movement.x2", w.movement.x2, 0);
+    same("movement.y2", w.movement.y2, 0);
+    w = istrolf_puck_reader_step(r, 8);
+    same("read_puck_word.dropped", w.dropped, 4);
+    w = istrolf_puck_reader_step(r, 258);
+    same("read_puck_word.refusal", w.refusal, ISTROLF_BAD_WORD);
+    same_puck_reader(w.next, three, 3);
+
+    const uint16_t words[] = {5, 3, 0x98, 1, 2, 0x9F};
+    int16_t out[14];
+    for (int i = 0; i < 14; i++) out[i] = (int16_t)(700 + i);
+    istrolf_puck_reading a = istrolf_puck_reader_read(r, words, 6, out, 14);
+    const int16_t numbers[14] = {2, 9, 6, 4, 0x21, 5, 0, 0, 1, 2, 0, 0, 712, 713};
+    same("puck_reading.refusal", a.refusal, 0);
+    same("puck_reading.taken", (long long)a.taken, 6);
+    same("puck_reading.reports", (long long)a.reports, 2);
+    same("puck_reading.dropped", (long long)a.dropped, 1);
+    same("puck_reading.next.count", a.next.count, 1);
+    same("puck_reading.next.kept", a.next.kept[0], 0x9F);
+    for (int i = 0; i < 14; i++) same("out", out[i], numbers[i]);
+    const istrolf_puck_reader bad = {{0xB0, 0, 0}, 1};
+    same("puck_reading.refusal", istrolf_puck_reader_read(bad, words, 6, out, 14).refusal, ISTROLF_BAD_STATE);
+}
+
 int main(void) {
     reader();
     encoder();
     box();
     lister();
+    yard();
+    bridge();
+    readback();
+    told();
+    salvage();
+    puck();
+    puck_reader();
     printf("%d compared, %d wrong\n", compared, wrong);
     return wrong > 0;
 }

@@ -1,15 +1,16 @@
-/* Istrolf for C99 and C++: reader, encoder, box and lister for a serial trackball and the seven formats of the old mice. Link libistrolf.a.
+/* Istrolf for C99 and C++: reader, encoder, box, lister, bridge, yard check, reader of listings, reader of replies, lister and salvage for a serial trackball and the seven
+ * formats of the old mice, and the VSXXX puck. Link libistrolf.a.
  *
  * Calls. Every function takes every argument, ends, and has one answer; each is proved. There is no set-up and no error but the refusals below.
  * Nothing is allocated and nothing is kept between calls, so calls from several threads need no lock.
  *
- * States. A reader, a box and a lister are values that you own: a function ending in _fresh gives one, each other function takes one by value and
+ * States. A reader, a box, a lister and a bridge are values that you own: a function ending in _fresh gives one, each other function takes one by value and
  * gives the next in its answer. Store the next one over the old one and go on. A copy is a state of its own. Members may be read; leave the writing
  * to the functions. Whatever bytes stand in a state, a call is safe: what is no state is refused with ISTROLF_BAD_STATE and handed back as it was.
  *
  * Refusals. An answer's first member, refusal, is 0 or one of the numbers below. A refusal hands back the old state, writes nothing to what you
- * lent, and has counts of 0; only istrolf_reader_read does all before a bad word. Behind each function stand its refusals in the order in which they
- * are tested.
+ * lent, and has counts of 0; only istrolf_reader_read, istrolf_told_read and istrolf_bridge_convert do all before a bad word, and istrolf_readback_read all before a
+ * faulty line. Behind each function stand its refusals in the order in which they are tested.
  *
  * Pointers. A pointer and the count of elements behind it stand for what you lend for the call alone: it is yours before and after, and nobody keeps
  * the pointer. It must point at that many elements, aligned as C has them, also when the count is 0 (any address that is not null will do then). What
@@ -31,10 +32,15 @@ enum {
     ISTROLF_BAD_WORD = 4,     /* a line word above 257 */
     ISTROLF_SHORT_BUFFER = 5, /* a buffer shorter than the report */
     ISTROLF_BAD_STATE = 6,    /* a state that no function here gives */
+    ISTROLF_BAD_LISTING = 7,  /* a faulty line of a listing */
     ISTROLF_BAD_X1 = 8,       /* a movement that the format does not hold: the first of x1, y1, x2, y2 */
     ISTROLF_BAD_Y1 = 9,
     ISTROLF_BAD_X2 = 10,
-    ISTROLF_BAD_Y2 = 11
+    ISTROLF_BAD_Y2 = 11,
+    ISTROLF_NO_REPLY = 12,      /* a command that has no reply */
+    ISTROLF_MARKED = 13,        /* a salvage of a marked format */
+    ISTROLF_LONG_LOG = 14,      /* a salvage of more than 4,096 words */
+    ISTROLF_TOO_WIDE = 15       /* a line number that does not fit the other width */
 };
 
 /* A line word is a byte, 0 to 255, or one of these. */
@@ -192,6 +198,306 @@ istrolf_listed istrolf_lister_feed(istrolf_lister lister, const uint8_t *input, 
 
 /* The end of the recording. Refusal: BAD_STATE. If it has not ended then, there was no room for its text: call again with new room. */
 istrolf_listed istrolf_lister_finish(istrolf_lister lister, uint8_t *out, size_t room);
+
+/* ---- The yard check: can a box, set to a format and then asked only for reports, send the words of a log from there on? */
+
+typedef struct {
+    uint8_t format; /* its letter */
+    uint8_t first;  /* of the report that is going, the first byte, or 0 */
+    uint8_t last;   /* the last byte, or 0 */
+    uint8_t count;  /* how many have gone */
+    uint8_t ended;  /* 1 once a word has come that cannot be sent, and else 0 */
+} istrolf_yard;
+
+typedef struct {
+    uint8_t refusal;
+    istrolf_yard yard;
+} istrolf_new_yard;
+
+typedef struct {
+    uint8_t refusal;
+    uint8_t can; /* 1 if the word can be sent, with those before it, and else 0 */
+    istrolf_yard next;
+} istrolf_judged;
+
+typedef struct {
+    uint8_t refusal;
+    uint8_t proper;  /* 1 if all words can be sent, and else 0 */
+    size_t sendable; /* how many words, from the first, can be sent: the place of the first that cannot */
+} istrolf_checked;
+
+/* A check of a format that has seen no word. Refusal: BAD_LETTER, and then the check is one of U. */
+istrolf_new_yard istrolf_yard_fresh(uint8_t letter);
+
+/* One word, for a log that comes in pieces. Behind a word that cannot be sent none can. Refusals: BAD_STATE, BAD_WORD. */
+istrolf_judged istrolf_yard_step(istrolf_yard yard, uint16_t word);
+
+/* A whole log. Refusals: BAD_LETTER; BAD_WORD, for a word above 257 anywhere, behind one that cannot be sent too. A refusal tells nothing of the words. */
+istrolf_checked istrolf_yard_check(uint8_t letter, const uint16_t *words, size_t count);
+
+/* ---- The bridge: line words of any format in, bytes of V out, for a recorder that knows only V. */
+
+typedef struct {
+    istrolf_reader reader;
+    uint8_t based;    /* 1 once a report of A has set the base, and else 0 */
+    uint8_t middle;   /* 1 if the middle button was down in the last report, and else 0 */
+    uint16_t presses; /* how often it was pressed, up to 65535; V does not carry them */
+    int16_t x, y;     /* the base: the position of the last report of A, or zeros */
+} istrolf_bridge;
+
+typedef struct {
+    uint8_t refusal;
+    istrolf_bridge bridge;
+} istrolf_new_bridge;
+
+typedef struct {
+    uint8_t refusal;
+    istrolf_bridge next;
+    size_t taken;   /* words taken */
+    size_t reports; /* reports that came in */
+    size_t sent;    /* V reports written to the front of out, three bytes each */
+    size_t dropped; /* bytes dropped */
+} istrolf_converted;
+
+/* Room for all V reports that one report becomes; so many for each word, and a call takes them all. */
+enum { ISTROLF_BRIDGE_ROOM = 99 };
+
+/* A fresh bridge of the format that comes in. Refusal: BAD_LETTER, and then the bridge is a fresh one of U. */
+istrolf_new_bridge istrolf_bridge_fresh(uint8_t letter);
+
+/* Many words. Each report becomes the fewest V reports of at most 127 on either axis that add up to its movement, U's pairs summed, with its L and R.
+ * In A the first report moves nothing and a later one by the difference. Refusals: BAD_STATE; BAD_WORD, with next, the counts and out as they stand
+ * before the bad word. With 0 and taken below count, out had no room for all V reports of the next report, and none of them is written: call again
+ * with next, words + taken, count - taken and new room. */
+istrolf_converted istrolf_bridge_convert(istrolf_bridge bridge, const uint16_t *words, size_t count, uint8_t *out, size_t room);
+
+/* ---- The reader of listings: a listing in, its items out, in pieces of any size. */
+
+typedef struct {
+    uint8_t width;  /* of its line numbers; 0 before the first line */
+    uint8_t ended;  /* 1 once its last line, an H or an E, has come, and else 0 */
+    uint32_t last;  /* the last line number */
+    uint32_t lines; /* lines passed */
+} istrolf_readback;
+
+typedef struct {
+    uint8_t refusal;
+    uint32_t line; /* with BAD_LISTING the faulty line, counted from 1, or the one that is missing; and else 0 */
+    size_t taken;  /* bytes taken, of whole lines */
+    size_t items;  /* items written to the front of out, five numbers each */
+    istrolf_readback next;
+} istrolf_read_lines;
+
+/* An item's five numbers: its kind, its line and three values. R: buttons, with 8 where the middle is not known, x and y. D: bytes dropped. H: bytes kept, and no
+ * line. E: none. E over: none, and no line. */
+enum { ISTROLF_ITEM_R = 1, ISTROLF_ITEM_D = 2, ISTROLF_ITEM_H = 3, ISTROLF_ITEM_E = 4, ISTROLF_ITEM_OVER = 5 };
+
+/* A reader of listings before the first line. */
+istrolf_readback istrolf_readback_fresh(void);
+
+/* A piece of a listing. Refusals: BAD_STATE; BAD_LISTING, before a faulty line, with all as it stands before it. It takes whole lines: hand what was not taken over
+ * again, with what follows it; and where fewer than five places are left, with new room. */
+istrolf_read_lines istrolf_readback_read(istrolf_readback reader, const uint8_t *input, size_t count, int32_t *out, size_t room);
+
+/* The end of a listing, of which so many bytes are left that were not taken. Refusals: BAD_STATE; BAD_LISTING where bytes are left or no H or E has come. */
+istrolf_read_lines istrolf_readback_finish(istrolf_readback reader, size_t left);
+
+/* What a piece that is rewritten gives back. */
+typedef struct {
+    uint8_t refusal;
+    uint32_t line;  /* the line that was not rewritten, counted from 1, or 0 */
+    size_t taken;   /* bytes taken, of whole lines */
+    size_t written; /* bytes written to the front of out */
+    istrolf_readback next;
+} istrolf_rewritten;
+
+/* A piece of a listing, rewritten with line numbers of the other width, 4 or 6. Refusals: BAD_STATE; BAD_LISTING, before a faulty line; TOO_WIDE, before a line
+ * whose number does not fit; whichever of the two comes first, with all as it stands before it. */
+istrolf_rewritten istrolf_readback_rewrite(istrolf_readback reader, const uint8_t *input, size_t count, uint8_t *out, size_t room);
+
+/* ---- The reader that is told of replies: it reads the reply to a command just sent, and hands over to the report reader. */
+
+/* The bytes of a reply that have come: how many, and 0 in the places behind them. */
+typedef struct {
+    uint8_t count; /* at most 2 */
+    uint8_t first, second;
+} istrolf_came;
+
+/* The reply that is awaited. */
+enum {
+    ISTROLF_AWAITS_NOTHING = 0,
+    ISTROLF_AWAITS_ACK = 1,     /* of a space, or of a byte that woke a dormant box: 06H */
+    ISTROLF_AWAITS_CODE = 2,    /* of 'f': one byte */
+    ISTROLF_AWAITS_LETTERS = 3, /* of 't': two letters */
+    ISTROLF_AWAITS_BUTTONS = 4  /* of 05H: three bytes */
+};
+
+typedef struct {
+    istrolf_reader reader; /* the report reader; it stays as it is while a reply is read */
+    uint8_t awaited;       /* one of the above */
+    istrolf_came came;     /* what has come of it */
+} istrolf_told;
+
+/* What became of a reply. */
+enum {
+    ISTROLF_REPLY_NONE = 0,    /* nothing yet */
+    ISTROLF_REPLY_ACK = 1,     /* it is whole: ACK */
+    ISTROLF_REPLY_FORMAT = 2,  /* it is whole: format */
+    ISTROLF_REPLY_LETTERS = 3, /* it is whole: format and mode */
+    ISTROLF_REPLY_BUTTONS = 4, /* it is whole: buttons */
+    ISTROLF_REPLY_BROKEN = 5   /* a word that is none of its bytes came first; came has those before it. The word went to the report reader */
+};
+
+typedef struct {
+    uint8_t kind;                  /* one of the above */
+    uint8_t format, mode, buttons; /* what it tells, and else 0 */
+    istrolf_came came;             /* of a broken one, and else zeros */
+} istrolf_reply;
+
+typedef struct {
+    uint8_t refusal;
+    istrolf_told told;
+} istrolf_new_told;
+
+typedef struct {
+    uint8_t refusal;
+    uint8_t discarded; /* how many bytes of an unfinished reply were discarded */
+    istrolf_told next;
+} istrolf_told_command_answer;
+
+typedef struct {
+    uint8_t refusal;
+    uint8_t reports; /* 1 if this word ended a report, and else 0 */
+    uint8_t dropped; /* how many bytes were dropped */
+    istrolf_reply reply;
+    istrolf_told next;
+    istrolf_report report; /* the report, or zeros */
+} istrolf_heard_word;
+
+typedef struct {
+    uint8_t refusal;
+    istrolf_reply reply; /* there is at most one in a call */
+    istrolf_told next;
+    size_t taken;   /* words taken */
+    size_t reports; /* reports written */
+    size_t dropped; /* bytes dropped; those of replies are not among them */
+} istrolf_heard_words;
+
+/* A fresh one of a format, which awaits no reply. Refusal: BAD_LETTER, and then it is a fresh one of U. */
+istrolf_new_told istrolf_told_fresh(uint8_t letter);
+
+/* This command was just sent: ' ', 'f', 't' or 5. Call it behind the break that the command itself may cause, and before the next word. It takes the place of an
+ * unfinished reply. Refusals: BAD_STATE, NO_REPLY. */
+istrolf_told_command_answer istrolf_told_command(istrolf_told told, uint8_t byte);
+
+/* The byte just sent, any, woke a dormant box. Refusal: BAD_STATE. */
+istrolf_told_command_answer istrolf_told_waking(istrolf_told told);
+
+/* One word. Refusals: BAD_STATE, BAD_WORD. */
+istrolf_heard_word istrolf_told_step(istrolf_told told, uint16_t word);
+
+/* Many words, as istrolf_reader_read has them, between two commands. It stops before a word that would end a report without room, the reply still awaited. Refusals:
+ * BAD_STATE; BAD_WORD, with all as it stands before the bad word. */
+istrolf_heard_words istrolf_told_read(istrolf_told told, const uint16_t *words, size_t count, int16_t *out, size_t room);
+
+/* ---- Salvage: a log in U, T or W whose line dropped bytes and had no silence. It picks separate runs of neighbouring bytes, each a valid report, so that
+ * the fewest bytes are left out; among equals those whose list of starting places is smallest, compared place by place. */
+
+typedef struct {
+    uint8_t refusal;
+    size_t taken; /* words taken */
+    size_t runs;  /* places written to the front of places */
+    size_t left;  /* bytes of the words taken that are in no run */
+} istrolf_picked;
+
+typedef struct {
+    uint8_t whole;  /* 1 if every line had room, and else 0 */
+    size_t written; /* bytes written to the front of out */
+} istrolf_salvaged;
+
+/* The most words of a log, and room in which every listing is whole. */
+enum { ISTROLF_SALVAGE_WORDS = 4096, ISTROLF_SALVAGE_ROOM = 163920 };
+
+/* The starting places of the runs, the first word being at 0. A third as many places as words have room for all. Refusals: BAD_LETTER, MARKED, LONG_LOG,
+ * BAD_WORD. With 0 and taken below count there was no place for the next run: call again with words + taken, count - taken and new room; the places
+ * are then counted from there. */
+istrolf_picked istrolf_salvage_pick(uint8_t letter, const uint16_t *words, size_t count, uint16_t *places, size_t room);
+
+/* The salvage of a recording, as text: a line S; R for each report and D for each longest run of bytes left out, at the line of its last byte; H 0. A marked
+ * format, a log too long or a bad line is an E that stands alone behind S. Only whole lines are written. */
+istrolf_salvaged istrolf_salvage_list(const uint8_t *input, size_t count, uint8_t *out, size_t room);
+
+/* ---- The Digital VSXXX puck: the box in S with the commands R, D, P and T alone, and a self-test; and its reader. */
+
+typedef struct {
+    istrolf_box ball; /* a box in S */
+    struct {
+        uint8_t left;    /* bytes of the self-test that are left to be sent, 0 if none is going */
+        uint8_t buttons; /* the buttons at its start */
+    } test;
+    uint8_t revision; /* 0 to 15 */
+    uint8_t maker;    /* 0 to 7 */
+} istrolf_puck;
+
+typedef struct {
+    uint8_t refusal;
+    uint8_t sent;  /* how many words the device sends: 0 or 1 */
+    uint16_t word; /* the word, or 0 */
+    istrolf_puck next;
+} istrolf_stepped_puck;
+
+/* Power-up: buttons modulo 8, revision modulo 16, maker modulo 8. The four bytes of a self-test are to be sent. */
+istrolf_puck istrolf_puck_made(uint8_t buttons, uint8_t revision, uint8_t maker);
+
+/* One event each, as the box's. Refusals: BAD_STATE; BAD_BUTTONS, by istrolf_puck_buttons alone. While a self-test is going a byte of the host's does nothing. */
+istrolf_stepped_puck istrolf_puck_motion(istrolf_puck puck, int16_t dx, int16_t dy);
+istrolf_stepped_puck istrolf_puck_buttons(istrolf_puck puck, uint8_t buttons);
+istrolf_stepped_puck istrolf_puck_host(istrolf_puck puck, uint8_t byte); /* R stream, D prompt, P a report, T a self-test; any other only breaks off */
+istrolf_stepped_puck istrolf_puck_latch(istrolf_puck puck);
+istrolf_stepped_puck istrolf_puck_send(istrolf_puck puck);
+istrolf_stepped_puck istrolf_puck_period(istrolf_puck puck);
+
+typedef struct {
+    uint8_t revision; /* of the firmware */
+    uint8_t maker;    /* the maker's location */
+    uint8_t device;   /* 2 a mouse, 4 a tablet */
+    uint8_t error;    /* 0 none; ISTROLF_FATAL or more is fatal */
+    uint8_t buttons;  /* those that are down or have failed */
+} istrolf_self_test;
+
+enum { ISTROLF_FATAL = 0x20, ISTROLF_BUTTON_ERROR = 0x3D };
+
+typedef struct {
+    uint8_t kept[3]; /* the bytes kept of an unfinished report, the rest 0 */
+    uint8_t count;   /* how many are kept */
+} istrolf_puck_reader;
+
+typedef struct {
+    uint8_t refusal;
+    uint8_t movements; /* 1 if this word ended a movement's report, and else 0 */
+    uint8_t tests;     /* 1 if it ended a self-test, and else 0 */
+    uint8_t dropped;   /* how many bytes were dropped */
+    istrolf_puck_reader next;
+    istrolf_report movement; /* the movement, or zeros */
+    istrolf_self_test test;  /* the self-test, or zeros */
+} istrolf_read_puck_word;
+
+typedef struct {
+    uint8_t refusal;
+    istrolf_puck_reader next;
+    size_t taken;   /* words taken */
+    size_t reports; /* reports written, of either kind */
+    size_t dropped; /* bytes dropped */
+} istrolf_puck_reading;
+
+istrolf_puck_reader istrolf_puck_reader_fresh(void);
+
+/* One word. Refusals: BAD_STATE, BAD_WORD. */
+istrolf_read_puck_word istrolf_puck_reader_step(istrolf_puck_reader reader, uint16_t word);
+
+/* Many words. A report is six numbers of out: 0, buttons, x, y, 0, 0 for a movement; 1, or 2 if its error is fatal, revision, maker, device, error, buttons for a self-test. Refusals and
+ * what is left are as in istrolf_reader_read, with six for five. */
+istrolf_puck_reading istrolf_puck_reader_read(istrolf_puck_reader reader, const uint16_t *words, size_t count, int16_t *out, size_t room);
 
 #ifdef __cplusplus
 }

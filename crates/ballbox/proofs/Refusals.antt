@@ -25,6 +25,11 @@ pub bad-buttons : (b : BallBox) (n : ℕ) (r : Stepped) → StepPromise b (Butto
 unfolding stepOf
 bad-buttons b n r s g l = rw (g, lt-ltb 7 n l) at s
 
+-- a refused event leaves the box
+pub refused-next : (b : BallBox) (e : Event) → good b ≡ true → aboveSeven e ≡ true → stepOf b e .next ≡ b
+unfolding stepOf
+refused-next b e k p = rw (k, p)
+
 -- else the rules
 pub ruled : (b : BallBox) (e : Event) (dormant : Bool) → good b ≡ true → aboveSeven e ≡ false → b .dormant ≡ dormant → stepOf b e ≡ cond dormant (asleep b e) (awake b e)
 unfolding stepOf
@@ -59,7 +64,7 @@ asleep-rightly b Latch = accepted refl
 asleep-rightly b Send = accepted refl
 asleep-rightly b Period = accepted refl
 
-step-rightly : (b : BallBox) (e : Event) → StepRefusal b (stepOf b e)
+pub step-rightly : (b : BallBox) (e : Event) → StepRefusal b (stepOf b e)
 unfolding stepOf
 step-rightly b e =
     cases (StepRefusal b) (not (good b)) (λ g. refusal (here refl))

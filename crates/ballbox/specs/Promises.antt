@@ -47,6 +47,10 @@ StepRefusal b a = RefusesRightly (λ (s : Step). s .refusal) (refused badState b
 abbrev pub FreshPromise : BallBox → Type 0
 FreshPromise r = r ≡ freshBox
 
+-- the promise of `good`
+abbrev pub GoodPromise : BallBox → Bool → Type 0
+GoodPromise b answer = answer ≡ good b
+
 -- the promise of `step`
 abbrev pub StepPromise : BallBox → Event → Stepped → Type 0
 StepPromise b e r = outcome r ≡ stepOf b e

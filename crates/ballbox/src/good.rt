@@ -1,6 +1,7 @@
 // The good box, rule by rule.
 ghost use mathlib.Core.Path.{_≡_};
-ghost use Rattle.ballbox.specs.Good.{goodSettings, onPad, goodTrack, sentBelow, lengthKnown, secondHeld, restZero, goodGoing, dormantRightly, statesSmall, unusedZero, goodMemory, remembersRightly, showsRightly, good};
+ghost use Rattle.ballbox.specs.Good.{goodSettings, onPad, goodTrack, sentBelow, lengthKnown, secondHeld, restZero, goodGoing, dormantRightly, statesSmall, unusedZero, goodMemory, remembersRightly, showsRightly};
+ghost use Rattle.ballbox.specs.Promises.{GoodPromise};
 use crate::BallBox;
 use crate::FORMAT_U;
 use crate::Going;
@@ -143,8 +144,9 @@ impl BallBox {
         !memory.any() | (!self.dormant & is_stream(self.settings.mode))
     }
 
-    pub(crate) fn good(self) -> bool
-        ensures { λ r. ⌜ r ≡ good self ⌝ }
+    // Whether the box is good: a step of any other is refused with 6.
+    pub fn good(self) -> bool
+        ensures { λ r. ⌜ GoodPromise self r ⌝ }
     {
         let settings = self.settings;
         let track = self.track;

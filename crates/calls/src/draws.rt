@@ -173,3 +173,31 @@ pub(crate) fn least(a: usize, b: usize) -> usize
 {
     if a < b { a } else { b }
 }
+
+// A word as above, or one of which replies are made.
+pub(crate) fn heard(call: u64, place: u64) -> u16
+    requires { ⌜ place < 256 ⌝ }
+{
+    let replies: [u16; 16] = [
+        6,
+        16,
+        18,
+        20,
+        22,
+        24,
+        26,
+        28,
+        30,
+        85,
+        83,
+        79,
+        68,
+        80,
+        82,
+        257,
+    ];
+    if drawn(call, place + 50, 2) == 0 {
+        return replies[at(call, place, 16)];
+    }
+    word(call, place)
+}

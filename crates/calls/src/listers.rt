@@ -56,7 +56,8 @@ fn any(call: u64) -> Marked {
     Marked {
         lister: Lister {
             scanner: Scanner {
-                line: draws::drawn(call, 105, 10002) as u32,
+                line: (990_000 * draws::drawn(call, 112, 2)
+                    + draws::drawn(call, 105, 10002)) as u32,
                 ended: ended == 1,
                 held: held,
                 count: count,

@@ -59,6 +59,17 @@ use Rattle.listing.proofs.Calls as calls
 use Rattle.text.specs.Promises.{NonePromise, WithPromise, DecimalPromise, NumberPromise, PutPromise}
 use Rattle.text.specs.declared.Text.{Text}
 use Rattle.text.proofs.Answers as text
+use Rattle.yard.specs.Good as yards
+use Rattle.yard.specs.Rules as yard-rules
+use Rattle.yard.specs.Log as yard-log
+use Rattle.yard.specs.Promises as yard
+use Rattle.yard.specs.declared.Yard.{Yard}
+use Rattle.yard.specs.declared.NewYard.{NewYard}
+use Rattle.yard.specs.declared.Judged.{Judged}
+use Rattle.yard.specs.declared.Checked.{Checked}
+use Rattle.yard.proofs.Answers as yard-answers
+use Rattle.yard.proofs.Refusals as yard-refusals
+use Rattle.yard.proofs.Goodness as yard-goodness
 
 -- "Every public entry takes every event, line word, state and buffer and ends with an answer": that it takes every argument and ends is the check
 -- of the function itself, which has no condition. Its answer is one: two that the promise permits are equal, and with them every number of a lent slice.
@@ -350,3 +361,46 @@ pub finish-stays-good : (m : Lister) (before after : List ℕ) (a : Listed)
     → FinishPromise m before a after
     → listers.good (a .next) ≡ true
 finish-stays-good = listing-refusals.finish-stays-good
+
+-- `Yard::fresh`, `Yard::step`, `yard::check`: one answer
+pub fresh-yard-one : (letter : ℕ) → One (yard.FreshPromise letter)
+fresh-yard-one letter = yard-answers.one-fresh letter
+
+pub yard-step-one : (y : Yard) (w : ℕ) → One (yard.StepPromise y w)
+yard-step-one y w = yard-answers.one-step y w
+
+pub check-one : (letter : ℕ) (words : List ℕ) → One (yard.CheckPromise letter words)
+check-one letter words = yard-answers.one-check letter words
+
+-- their refusals: 1, with a check of U; 6 and then 4, with the check as it was; 1 and then 4, wherever the word stands, with counts of 0
+pub fresh-yard-refusals : (letter : ℕ) (a : NewYard) → yard.FreshPromise letter a → yard.FreshRefusal a
+fresh-yard-refusals = yard-refusals.fresh-refusal
+
+pub yard-step-refusals : (y : Yard) (w : ℕ) (a : Judged) → yard.StepPromise y w a → yard.StepRefusal y a
+yard-step-refusals = yard-refusals.step-refusal
+
+pub check-refusals : (letter : ℕ) (words : List ℕ) (a : Checked) → yard.CheckPromise letter words a → yard.CheckRefusal a
+check-refusals = yard-refusals.check-refusal
+
+pub yard-step-bad-state : (y : Yard) (w : ℕ) (a : Judged) → yards.good y ≡ false → yard.StepPromise y w a → a ≡ yard-rules.refusing badState y
+yard-step-bad-state = yard-refusals.bad-state
+
+pub yard-step-bad-word : (y : Yard) (w : ℕ) (a : Judged) → yards.good y ≡ true → silence < w → yard.StepPromise y w a → a ≡ yard-rules.refusing badWord y
+yard-step-bad-word = yard-refusals.bad-word
+
+pub check-bad-letter : (letter : ℕ) (words : List ℕ) (a : Checked) → known letter ≡ false → yard.CheckPromise letter words a → a ≡ yard-log.refused badLetter
+check-bad-letter = yard-refusals.unknown-check
+
+pub check-bad-word : (letter : ℕ) (front : List ℕ) (w : ℕ) (behind : List ℕ) (a : Checked)
+    → known letter ≡ true
+    → silence < w
+    → yard.CheckPromise letter (front ++ w ∷ behind) a
+    → a ≡ yard-log.refused badWord
+check-bad-word = yard-refusals.anywhere
+
+-- and no check that they give is ever refused
+pub fresh-yard-good : (letter : ℕ) (a : NewYard) → yard.FreshPromise letter a → yards.good (a .yard) ≡ true
+fresh-yard-good = yard-goodness.fresh-is-good
+
+pub yard-stays-good : (y : Yard) (w : ℕ) (a : Judged) → yards.good y ≡ true → yard.StepPromise y w a → (yards.good (a .next) ≡ true) × (a .next .format ≡ y .format)
+yard-stays-good = yard-goodness.step-stays-good

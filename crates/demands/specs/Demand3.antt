@@ -57,7 +57,7 @@ module _ {f : Format} {b : BallBox} {a : Stepped} {events : List Event} {answers
   pub set-box : SetTo f (a .next) nothing
   set-box = set-to f b a (run .good) (run .awake) (run .set)
 
-  front-given : {front : List ℕ} → Front a front → Given front
+  pub front-given : {front : List ℕ} → Front a front → Given front
   front-given from-then-on = no-word
   front-given from-the-letter-on = rw (set-words f b a (run .good) (run .awake) (run .set)) (given-by (bytesLeft b))
 

@@ -1,6 +1,6 @@
 -- The user's demands (Demand1, Demand2, Demand3, and runs of the box worked out in Worked), the eighth bit of a Microsoft byte (EighthBit),
 -- presses that outlive a busy line (Presses, worked out in Taps), latch and send apart (LatchAndSend), what the limit threw away (Excess), the account of a move (Account),
--- the paper's figures (Figures, in the words of Said) and the useless programs that are shut out (Strength), as theorems over what the other crates promise; and what examples compute with (Computing).
+-- the paper's figures (Figures, in the words of Said), the useless programs that are shut out (Strength), and the yard check (ProperBox), as theorems over what the other crates promise; and what examples compute with (Computing).
 pub mod Demand1
 pub mod Demand2
 pub mod Demand3
@@ -15,3 +15,6 @@ pub mod Account
 pub mod Said
 pub mod Figures
 pub mod Strength
+pub mod ProperBox
+pub mod Replies
+pub mod WorkedReplies

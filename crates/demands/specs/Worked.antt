@@ -31,7 +31,7 @@ slots zero events = events
 slots (suc n) events = Latch ∷ Send ∷ slots n events
 
 -- a fresh box that is set to f by its letter, and the answers of the rules
-abbrev setTo : Format → Stepped
+abbrev pub setTo : Format → Stepped
 setTo f = answerTo freshBox (Host (letterOf f))
 
 -- over events that ask only for reports it sends these words, which are these passages, and nothing is going at the end
@@ -58,10 +58,10 @@ run-of {f} {events} sends =
 abbrev eventsS : List Event
 eventsS = Motion (pos 5) (minus 3) ∷ slots 4 (Buttons 4 ∷ slots 3 [])
 
-abbrev moved : Report
+abbrev pub moved : Report
 moved = report 0 (pos 5) (minus 3)
 
-abbrev press : Report
+abbrev pub press : Report
 press = report 4 (pos 0) (pos 0)
 
 pub in-S : Sends Mm eventsS
@@ -75,7 +75,7 @@ in-S = record { asked = refl; line = refl; is = refl; ends = refl }
 abbrev eventsU : List Event
 eventsU = Motion (minus 123) (pos 0) ∷ slots 3 (Motion (minus 123) (pos 0) ∷ slots 3 (Buttons 4 ∷ slots 5 []))
 
-abbrev fast : Report
+abbrev pub fast : Report
 fast = record { buttons = 0; x1 = minus 123; y1 = pos 0; x2 = minus 123; y2 = pos 0 }
 
 pub in-U : Sends FiveByte eventsU

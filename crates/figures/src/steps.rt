@@ -163,7 +163,19 @@ fn heard(r: Reader, word: u16) -> Reader {
     read.next
 }
 
-// A fresh reader's answers to words, one after the other.
+// What the yard check says of words: that they are a box's, or from which on, the first being 0, they are no box's.
+fn judged(letter: u8, words: &[u16]) {
+    let c = yard::check(letter, words);
+    if c.proper {
+        print::say(b", a box's\n");
+    } else {
+        print::say(b", no box's from word ");
+        print::number(c.sendable);
+        print::say(b"\n");
+    }
+}
+
+// A fresh reader's answers to words, one after the other, and what the yard check says of them.
 pub(crate) fn answers(letter: u8, words: &[u16]) {
     let new = Reader::fresh(letter);
     let mut next = new.reader;
@@ -174,7 +186,7 @@ pub(crate) fn answers(letter: u8, words: &[u16]) {
     }
     print::say(b", keeps ");
     print::small(next.count);
-    print::say(b"\n");
+    judged(letter, words);
 }
 
 // The same to the first words, where there are so many.

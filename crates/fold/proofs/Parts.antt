@@ -7,7 +7,7 @@ use native.Mathlib.Omega.{arith}
 use lib.ListN.{length, take, drop, length-append, length-drop, drop-of-length-le}
 use lib.Seq.{take-all, drop-drop, take-at, drop-at}
 use borrow.Rule.Slice.PartMut.{putMid}
-use Rattle.fold.specs.Fold.{Machine, ran, behind, written, places, takes, run, Part}
+use Rattle.fold.specs.Fold.{MachineOver, ran, behind, written, places, takes, run, Part}
 use Rattle.fold.proofs.Laws.{written-append, within}
 
 -- a list from a place on, as the code lends it; and the list, when that part is back
@@ -21,12 +21,12 @@ module _ {X : Type 0} where
   pub back : (l last : List X) (a : ℕ) → putMid a (length l - a) l last ≡ take a l ++ last
   back l last a = rw (none-after l a, append-nil last)
 
-module _ {S A X : Type 0} (m : Machine S A X) where
+module _ {W S A X : Type 0} (m : MachineOver W S A X) where
   -- nothing is taken yet; and one word
-  pub none : (s : S) (words : List ℕ) (out : List X) → Part m s words out [] 0 0 s out
+  pub none : (s : S) (words : List W) (out : List X) → Part m s words out [] 0 0 s out
   none s words out = let z : length out - 0 ≡ length out = omega arith in record { words-are = refl; places-are = refl; wrote = refl; is = rw z }
 
-  pub one : (s : S) (w : ℕ) (words : List ℕ) (out : List X) → takes m s w (length out) ≡ true
+  pub one : (s : S) (w : W) (words : List W) (out : List X) → takes m s w (length out) ≡ true
       → Part m s (w ∷ words) out (m .answer s w ∷ []) 1 (places m s w) (m .next s w) (m .writes (m .answer s w) ++ drop (places m s w) out)
   unfolding run
   one s w words out e = record { words-are = refl; places-are = rw append-nil; wrote = rw append-nil; is = rw e }
@@ -35,7 +35,7 @@ module _ {S A X : Type 0} (m : Machine S A X) where
   none-written [] e = refl
   none-written (a ∷ l) e = absurd (omega arith)
 
-  module _ {s t : S} {words : List ℕ} {before mid : List X} {l : List A} {at used : ℕ} (p : Part m s words before l at used t mid) where
+  module _ {s t : S} {words : List W} {before mid : List X} {l : List A} {at used : ℕ} (p : Part m s words before l at used t mid) where
     abbrev later : List A
     later = run m t (drop at words) (length before - used) .answers
 

@@ -1,6 +1,6 @@
 -- Passages in two parts (Passages); the words of a sender are those of its passages (Sender); what a reader hands out: over words, over the bytes
 -- of reports (Reading), in a marked format after any words (Marks), in an unmarked one up to a silence (Waiting), and over a line of which a stretch was
--- replaced (Replaced); and what holds of each word of a line (Words).
+-- replaced (Replaced); what holds of each word of a line (Words), and a line told in another kind's reports (Retold).
 pub mod Passages
 pub mod Sender
 pub mod Reading
@@ -8,3 +8,4 @@ pub mod Marks
 pub mod Waiting
 pub mod Replaced
 pub mod Words
+pub mod Retold

@@ -1,6 +1,7 @@
--- The line, whatever stands on it: its words (Words), passages of any kind of report (Passages), whatever sends them (Sender), and a reader of
--- framed reports (Frame).
+-- The line, whatever stands on it: its words (Words), passages of any kind of report (Passages), whatever sends them (Sender), a line told in another kind's
+-- reports (Retold), and a reader of framed reports (Frame).
 pub mod Words
 pub mod Passages
 pub mod Sender
 pub mod Frame
+pub mod Retold

@@ -40,14 +40,14 @@ use Rattle.ballbox.proofs.Cases.{latching-busy, latching-wanted, latching-idle,
 use Rattle.ballbox.proofs.Obeying.{dropped-settings}
 use Rattle.ballbox.proofs.Goodness.{stepped-good}
 use Rattle.ballbox.proofs.Throwing.{taken-whole, counted-whole}
-use Rattle.ballbox.proofs.Refusals.{ruled}
+use Rattle.ballbox.proofs.Refusals.{ruled, refused-next}
 use Rattle.history.specs.History.{begun, pairedAt, paired, withPair, isFive, unsentReply, whenAwake, whenAsleep, toldBy, nextBox, passagesOf, goingAfter}
 use Rattle.history.specs.Presses.{boxAfter}
 use Rattle.history.specs.Sums.{Kind, over-limit, over-counter, Axis, x-axis, y-axis, excessOf, thrownIn, sumOf}
 use Rattle.history.proofs.Carries.{Carries}
 use Rattle.history.proofs.Sending.{bytes-left}
 use Rattle.history.proofs.Bridge.{step-sends, told-is, buttons-line}
-use Rattle.history.proofs.Asking.{latching-alike, sending-alike, refused-next, refused-told}
+use Rattle.history.proofs.Asking.{latching-alike, sending-alike, refused-told}
 use Rattle.history.specs.Account.{along, whileAwake, over, fedBy, valueOf, valueIn, inFinished, inGoing, inCounter, inBroken, clearedBy, selectsA, neverA}
 
 -- what an event of a box that is awake throws away

@@ -37,7 +37,7 @@ use Rattle.ballbox.proofs.Goodness.{stepped-good}
 use Rattle.ballbox.proofs.Remembering.{remembered-length}
 use Rattle.ballbox.proofs.Parts.{parts}
 use Rattle.ballbox.proofs.Pressing.{idle-shows-none}
-use Rattle.ballbox.proofs.Refusals.{ruled}
+use Rattle.ballbox.proofs.Refusals.{ruled, refused-next}
 use Rattle.ballbox.proofs.Obeying.{dropped-settings, dropped-awake}
 use Rattle.history.specs.Runs.{RunPromise}
 use Rattle.history.specs.History.{whenAwake, toldBy, nextBox, passagesOf}
@@ -45,7 +45,7 @@ use Rattle.history.specs.Asked.{hostsPass, allHosts, asks}
 use Rattle.history.specs.Presses.{NoReport, nothing-going, a-reply, empties, noneEmpties, changeTo, changesIn, inPlaceOfLast, noting, statesOver, noNinth, neverNinth, shownIn, shownBy, boxAfter, lastBox}
 use Rattle.history.proofs.Carries.{Carries}
 use Rattle.history.proofs.Bridge.{step-sends, told-is}
-use Rattle.history.proofs.Asking.{refused-next, refused-told}
+use Rattle.history.proofs.Asking.{refused-told}
 use Rattle.history.proofs.Showing.{Showing, same-showing, Keeps, send-keeps, latch-keeps, buttons-keep, Kept, kept-command, host-keeps}
 
 -- a good box, awake in a stream mode, and what is going in it

@@ -6,9 +6,13 @@ use lib.IntN.{ℤ}
 use Rattle.wire.specs.Encoder as wire
 use Rattle.wire.specs.declared.Report.{Report}
 use Rattle.ballbox.specs.declared.Event.{Event}
+use Rattle.replies.specs.declared.Asked.{Asked}
 use Rattle.istrolf.specs.Readers as readers
 use Rattle.istrolf.specs.Listers as listers
-use Rattle.istrolf.specs.Promises.{FreshReaderPromise, ReaderStepPromise, ReadPromise, EncodePromise, FreshBoxPromise, BoxStepPromise, FreshListerPromise, FeedPromise, FinishPromise}
+use Rattle.istrolf.specs.Bridges as bridges
+use Rattle.istrolf.specs.Told as told
+use Rattle.istrolf.specs.Readbacks as readbacks
+use Rattle.istrolf.specs.Promises.{FreshReaderPromise, ReaderStepPromise, ReadPromise, EncodePromise, FreshBoxPromise, BoxStepPromise, FreshListerPromise, FeedPromise, FinishPromise, FreshYardPromise, YardStepPromise, YardCheckPromise, FreshBridgePromise, ConvertPromise, PickPromise, SalvagePromise, FreshToldPromise, TellPromise, ToldStepPromise, ToldReadPromise, FreshReadbackPromise, ReadbackReadPromise, ReadbackFinishPromise, ReadbackRewritePromise, MadePuckPromise, PuckStepPromise, FreshPuckReaderPromise, PuckReaderStepPromise, PuckReadPromise}
 use Rattle.istrolf.specs.declared.HeldReader.{HeldReader}
 use Rattle.istrolf.specs.declared.FreshReader.{FreshReader}
 use Rattle.istrolf.specs.declared.ReadWord.{ReadWord}
@@ -18,6 +22,31 @@ use Rattle.istrolf.specs.declared.HeldBox.{HeldBox}
 use Rattle.istrolf.specs.declared.SteppedBox.{SteppedBox}
 use Rattle.istrolf.specs.declared.HeldLister.{HeldLister}
 use Rattle.istrolf.specs.declared.ListedBytes.{ListedBytes}
+use Rattle.istrolf.specs.declared.HeldYard.{HeldYard}
+use Rattle.istrolf.specs.declared.FreshYard.{FreshYard}
+use Rattle.istrolf.specs.declared.JudgedWord.{JudgedWord}
+use Rattle.istrolf.specs.declared.CheckedWords.{CheckedWords}
+use Rattle.istrolf.specs.declared.HeldBridge.{HeldBridge}
+use Rattle.istrolf.specs.declared.FreshBridge.{FreshBridge}
+use Rattle.istrolf.specs.declared.ConvertedWords.{ConvertedWords}
+use Rattle.istrolf.specs.declared.SalvagedBytes.{SalvagedBytes}
+use Rattle.istrolf.specs.Salvages as salvages
+use Rattle.salvage.specs.declared.Picked.{Picked}
+use Rattle.salvage.proofs.Picks as below
+use Rattle.istrolf.specs.declared.HeldTold.{HeldTold}
+use Rattle.istrolf.specs.declared.FreshTold.{FreshTold}
+use Rattle.istrolf.specs.declared.ToldCommand.{ToldCommand}
+use Rattle.istrolf.specs.declared.HeardWord.{HeardWord}
+use Rattle.istrolf.specs.declared.HeardWords.{HeardWords}
+use Rattle.istrolf.specs.declared.HeldReadback.{HeldReadback}
+use Rattle.istrolf.specs.declared.RewrittenLines.{RewrittenLines}
+use Rattle.istrolf.specs.declared.ReadLines.{ReadLines}
+use Rattle.fold.specs.Counting.{Long}
+use Rattle.puckreader.specs.declared.PuckReader.{PuckReader}
+use Rattle.istrolf.specs.declared.HeldPuck.{HeldPuck}
+use Rattle.istrolf.specs.declared.SteppedPuck.{SteppedPuck}
+use Rattle.istrolf.specs.declared.ReadPuckWord.{ReadPuckWord}
+use Rattle.istrolf.specs.declared.ReadPuckWords.{ReadPuckWords}
 
 listed-same : {a b : ListedBytes} {x y : List ℕ} → listers.whole a x ≡ listers.whole b y → (a ≡ b) × (x ≡ y)
 listed-same e = (ap (λ (l : listers.Whole). l .listed) e, ap (λ (l : listers.Whole). l .out) e)
@@ -54,3 +83,74 @@ one-feed h input out a b x y e f = listed-same (e ∙ sym f)
 pub one-finish : (h : HeldLister) (out : List ℕ) (a b : ListedBytes) (x y : List ℕ)
     → FinishPromise h out a x → FinishPromise h out b y → (a ≡ b) × (x ≡ y)
 one-finish h out a b x y e f = listed-same (e ∙ sym f)
+
+pub one-fresh-yard : (letter : ℕ) (a b : FreshYard) → FreshYardPromise letter a → FreshYardPromise letter b → a ≡ b
+one-fresh-yard letter a b e f = e ∙ sym f
+
+pub one-yard-step : (h : HeldYard) (w : ℕ) (a b : JudgedWord) → YardStepPromise h w a → YardStepPromise h w b → a ≡ b
+one-yard-step h w a b e f = e ∙ sym f
+
+pub one-yard-check : (letter : ℕ) (words : List ℕ) (a b : CheckedWords) → YardCheckPromise letter words a → YardCheckPromise letter words b → a ≡ b
+one-yard-check letter words a b e f = e ∙ sym f
+
+pub one-fresh-bridge : (letter : ℕ) (a b : FreshBridge) → FreshBridgePromise letter a → FreshBridgePromise letter b → a ≡ b
+one-fresh-bridge letter a b e f = e ∙ sym f
+
+pub one-convert : (h : HeldBridge) (words out : List ℕ) (a b : ConvertedWords) (x y : List ℕ)
+    → ConvertPromise h words out a x → ConvertPromise h words out b y → (a ≡ b) × (x ≡ y)
+one-convert h words out a b x y e f = (ap (λ (l : bridges.Whole). l .told) (e ∙ sym f), ap (λ (l : bridges.Whole). l .out) (e ∙ sym f))
+
+pub one-pick : (letter : ℕ) (words places : List ℕ) (a b : Picked) (x y : List ℕ)
+    → PickPromise letter words places a x → PickPromise letter words places b y → (a ≡ b) × (x ≡ y)
+one-pick letter words places a b x y e f = below.one-pick letter words places e f
+
+pub one-salvage : (input out : List ℕ) (a b : SalvagedBytes) (x y : List ℕ)
+    → SalvagePromise input out a x → SalvagePromise input out b y → (a ≡ b) × (x ≡ y)
+one-salvage input out a b x y e f =
+    (ap (λ (w : salvages.Whole). w .told) (e ∙ sym f), ap (λ (w : salvages.Whole). w .out) (e ∙ sym f))
+
+pub one-fresh-told : (letter : ℕ) (a b : FreshTold) → FreshToldPromise letter a → FreshToldPromise letter b → a ≡ b
+one-fresh-told letter a b e f = e ∙ sym f
+
+pub one-tell : (h : HeldTold) (asked : Asked) (a b : ToldCommand) → TellPromise h asked a → TellPromise h asked b → a ≡ b
+one-tell h asked a b e f = e ∙ sym f
+
+pub one-told-step : (h : HeldTold) (w : ℕ) (a b : HeardWord) → ToldStepPromise h w a → ToldStepPromise h w b → a ≡ b
+one-told-step h w a b e f = e ∙ sym f
+
+pub one-told-read : (h : HeldTold) (words : List ℕ) (out : List ℤ) (a b : HeardWords) (x y : List ℤ)
+    → ToldReadPromise h words out a x → ToldReadPromise h words out b y → (a ≡ b) × (x ≡ y)
+one-told-read h words out a b x y e f =
+    (ap (λ (l : told.Whole). l .line) (e ∙ sym f), ap (λ (l : told.Whole). l .out) (e ∙ sym f))
+
+pub one-fresh-readback : (a b : HeldReadback) → FreshReadbackPromise a → FreshReadbackPromise b → a ≡ b
+one-fresh-readback a b e f = e ∙ sym f
+
+pub one-readback-read : (h : HeldReadback) (input : List ℕ) (out : List ℤ) (a b : ReadLines) (x y : List ℤ)
+    → ReadbackReadPromise h input out a x → ReadbackReadPromise h input out b y → (a ≡ b) × (x ≡ y)
+one-readback-read h input out a b x y e f = (ap (λ (l : readbacks.Whole). l .back) (e ∙ sym f), ap (λ (l : readbacks.Whole). l .out) (e ∙ sym f))
+
+pub one-readback-finish : (h : HeldReadback) (left : ℕ) (a b : ReadLines) → ReadbackFinishPromise h left a → ReadbackFinishPromise h left b → a ≡ b
+one-readback-finish h left a b e f = e ∙ sym f
+
+pub one-readback-rewrite : (h : HeldReadback) (input out : List ℕ) (a b : RewrittenLines) (x y : List ℕ)
+    → ReadbackRewritePromise h input out a x → ReadbackRewritePromise h input out b y → (a ≡ b) × (x ≡ y)
+one-readback-rewrite h input out a b x y e f = (ap (λ (l : readbacks.Rewriting). l .told) (e ∙ sym f), ap (λ (l : readbacks.Rewriting). l .out) (e ∙ sym f))
+
+pub one-made-puck : (buttons revision maker : ℕ) (a b : HeldPuck) → MadePuckPromise buttons revision maker a → MadePuckPromise buttons revision maker b → a ≡ b
+one-made-puck buttons revision maker a b e f = e ∙ sym f
+
+pub one-puck-step : (h : HeldPuck) (e : Event) (a b : SteppedPuck) → PuckStepPromise h e a → PuckStepPromise h e b → a ≡ b
+one-puck-step h event a b e f = e ∙ sym f
+
+pub one-fresh-puck-reader : (a b : PuckReader) → FreshPuckReaderPromise a → FreshPuckReaderPromise b → a ≡ b
+one-fresh-puck-reader a b e f = e ∙ sym f
+
+pub one-puck-reader-step : (r : PuckReader) (w : ℕ) (a b : ReadPuckWord) → PuckReaderStepPromise r w a → PuckReaderStepPromise r w b → a ≡ b
+one-puck-reader-step r w a b e f = e ∙ sym f
+
+pub one-puck-read : (r : PuckReader) (words : List ℕ) (out : List ℤ) (a b : ReadPuckWords) (x y : List ℤ)
+    → PuckReadPromise r words out a x → PuckReadPromise r words out b y → (a ≡ b) × (x ≡ y)
+one-puck-read r words out a b x y e f =
+    let q = e ∙ sym f in
+    (λ i. (record { refusal = q i .refusal; next = q i .next; taken = q i .taken; reports = q i .reports; dropped = q i .dropped }), ap (λ (l : Long PuckReader ℤ). l .out) q)

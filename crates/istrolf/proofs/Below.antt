@@ -23,9 +23,13 @@ use Rattle.ballbox.specs.declared.Event.{Event}
 use Rattle.history.specs.Presses as history
 use Rattle.history.specs.Runs.{sentAs, answerTo, answersTo}
 use Rattle.history.specs.Runs as history-runs
+use Rattle.replies.specs.Promises as replies
+use Rattle.replies.specs.declared.Asked.{Asked}
+use Rattle.replies.specs.declared.ToldReader.{ToldReader}
 use Rattle.istrolf.specs.Boxes as boxes
+use Rattle.istrolf.specs.Told as told
 use Rattle.istrolf.specs.Readers.{packed, answered, packedRead, Whole, packedLong}
-use Rattle.istrolf.specs.Promises.{FreshReaderPromise, readerStepOf, readOf, ReadPromise, boxStepOf}
+use Rattle.istrolf.specs.Promises.{FreshReaderPromise, readerStepOf, readOf, ReadPromise, boxStepOf, tellOf, toldStepOf, toldReadOf}
 use Rattle.istrolf.specs.Runs.{RunPromise, sentWords, wordsGiven, lastBox, StepsPromise, handedOut, handedOutAt, Took, HandsOutBy, HandsOut, HandsOutAt}
 use Rattle.istrolf.specs.declared.HeldReader.{HeldReader}
 use Rattle.istrolf.specs.declared.FreshReader.{FreshReader}
@@ -33,7 +37,7 @@ use Rattle.istrolf.specs.declared.ReadWord.{ReadWord}
 use Rattle.istrolf.specs.declared.ReadWords.{ReadWords}
 use Rattle.istrolf.specs.declared.HeldBox.{HeldBox}
 use Rattle.istrolf.specs.declared.SteppedBox.{SteppedBox}
-use Rattle.istrolf.proofs.RoundTrip.{reader-there, reader-stands, box-there, box-stands}
+use Rattle.istrolf.proofs.RoundTrip.{reader-there, reader-stands, box-there, box-stands, told-there, told-stands}
 
 -- a word to a reader in C is one to the library's own
 pub step-as : (r : Reader) (w : ℕ) → readerStepOf (packed r) w ≡ packedRead (reader.stepOf r w)
@@ -176,3 +180,16 @@ run-as b (e ∷ events) (a ∷ answers) p =
       words = ap₂ (λ (x y : List ℕ). x ++ y) (sent-as b e a (p .0)) (later .words);
       last = ap (λ (h : HeldBox). lastBox h answers) n ∙ later .last;
     }
+
+-- a telling, a word and a long read of a told reader in C are those of the library's own
+pub tell-as : (s : ToldReader) (asked : Asked) → tellOf (told.packed s) asked ≡ told.packedTelling (replies.tellOf s asked)
+unfolding tellOf
+tell-as s asked = simp (told-stands s) (ap (λ (q : ToldReader). told.packedTelling (replies.tellOf q asked)) (told-there s))
+
+pub told-step-as : (s : ToldReader) (w : ℕ) → toldStepOf (told.packed s) w ≡ told.packedHeard (replies.stepOf s w)
+unfolding toldStepOf
+told-step-as s w = simp (told-stands s) (ap (λ (q : ToldReader). told.packedHeard (replies.stepOf q w)) (told-there s))
+
+pub told-read-as : (s : ToldReader) (words : List ℕ) (out : List ℤ) → toldReadOf (told.packed s) words out ≡ told.packedLong (replies.readOf s words out)
+unfolding toldReadOf
+told-read-as s words out = simp (told-stands s) (ap (λ (q : ToldReader). told.packedLong (replies.readOf q words out)) (told-there s))

@@ -1,17 +1,39 @@
 -- What C holds is what the library holds: packed and unpacked again it is the same, and what stands for a state is one that was packed.
-use mathlib.Core.Path.{_≡_}
+use Prim.Native.Nat.{ℕ, zero, suc}
+use mathlib.Core.Path.{_≡_, refl}
 use mathlib.Core.Bool.{true, _&&_}
+use native.Mathlib.Omega.{arith}
+use lib.Dec.{leb}
+use borrow.Author.Tests.{leb-true}
+use Rattle.numbers.proofs.Choices.{both}
 use Rattle.numbers.proofs.Tested.{left, right}
 use Rattle.reader.specs.declared.Reader.{Reader}
 use Rattle.ballbox.specs.declared.BallBox.{BallBox}
 use Rattle.listing.specs.declared.Lister.{Lister}
+use Rattle.yard.specs.declared.Yard.{Yard}
+use Rattle.bridge.specs.declared.Bridge.{Bridge}
+use Rattle.replies.specs.declared.Kind.{Kind}
+use Rattle.replies.specs.declared.Kind.the-variants as kind
+use Rattle.replies.specs.declared.ToldReader.{ToldReader}
+use Rattle.puck.specs.declared.Puck.{Puck}
 use Rattle.istrolf.specs.Marks.{isMark}
 use Rattle.istrolf.specs.Readers as readers
 use Rattle.istrolf.specs.Boxes as boxes
 use Rattle.istrolf.specs.Listers as listers
+use Rattle.istrolf.specs.Yards as yards
+use Rattle.istrolf.specs.declared.HeldYard.{HeldYard}
+use Rattle.istrolf.specs.Bridges as bridges
+use Rattle.istrolf.specs.Told as told
+use Rattle.istrolf.specs.Readbacks as readbacks
+use Rattle.readback.specs.declared.Readback.{Readback}
+use Rattle.istrolf.specs.declared.HeldReadback.{HeldReadback}
+use Rattle.istrolf.specs.Pucks as pucks
 use Rattle.istrolf.specs.declared.HeldReader.{HeldReader}
 use Rattle.istrolf.specs.declared.HeldBox.{HeldBox}
 use Rattle.istrolf.specs.declared.HeldLister.{HeldLister}
+use Rattle.istrolf.specs.declared.HeldBridge.{HeldBridge}
+use Rattle.istrolf.specs.declared.HeldTold.{HeldTold}
+use Rattle.istrolf.specs.declared.HeldPuck.{HeldPuck}
 use Rattle.istrolf.proofs.Marks.{mark-back, mark-stands, mark-of}
 
 -- a reader
@@ -73,3 +95,93 @@ lister-back h s =
 
 pub lister-stands : (m : Lister) → listers.stands (listers.packed m) ≡ true
 lister-stands m = rw (mark-stands (m .scanner .ended), mark-stands (m .reader .awaiting))
+
+-- a yard check
+pub yard-there : (y : Yard) → yards.unpacked (yards.packed y) ≡ y
+yard-there y = λ i. record { format = y .format; first = y .first; last = y .last; count = y .count; ended = mark-back (y .ended) i }
+
+pub yard-back : (h : HeldYard) → yards.stands h ≡ true → yards.packed (yards.unpacked h) ≡ h
+yard-back h s = λ i. record { format = h .format; first = h .first; last = h .last; count = h .count; ended = mark-of (h .ended) s i }
+
+pub yard-stands : (y : Yard) → yards.stands (yards.packed y) ≡ true
+yard-stands y = mark-stands (y .ended)
+
+-- a bridge
+pub bridge-there : (b : Bridge) → bridges.unpacked (bridges.packed b) ≡ b
+bridge-there b = λ i.
+    record {
+      reader = reader-there (b .reader) i;
+      past = record {
+        base = record { set = mark-back (b .past .base .set) i; x = b .past .base .x; y = b .past .base .y };
+        middle = mark-back (b .past .middle) i;
+        presses = b .past .presses;
+      };
+    }
+
+pub bridge-back : (h : HeldBridge) → bridges.stands h ≡ true → bridges.packed (bridges.unpacked h) ≡ h
+bridge-back h s =
+    let both = left (readers.stands (h .reader) && isMark (h .based)) (isMark (h .middle)) s in
+    let reader = reader-back (h .reader) (left (readers.stands (h .reader)) (isMark (h .based)) both) in
+    let based = mark-of (h .based) (right (readers.stands (h .reader)) (isMark (h .based)) both) in
+    let middle = mark-of (h .middle) (right (readers.stands (h .reader) && isMark (h .based)) (isMark (h .middle)) s) in
+    λ i. record { reader = reader i; based = based i; middle = middle i; presses = h .presses; x = h .x; y = h .y }
+
+pub bridge-stands : (b : Bridge) → bridges.stands (bridges.packed b) ≡ true
+bridge-stands b = rw (mark-stands (b .reader .awaiting), mark-stands (b .past .base .set), mark-stands (b .past .middle))
+
+-- a reader that is told of replies
+kind-back : (k : Kind) → told.kindOf (told.kindNumber k) ≡ k
+unfolding told.kindOf
+kind-back kind.Nothing = refl
+kind-back kind.Ack = refl
+kind-back kind.Code = refl
+kind-back kind.Letters = refl
+kind-back kind.Buttons = refl
+
+kind-stands : (k : Kind) → leb (told.kindNumber k) 4 ≡ true
+kind-stands kind.Nothing = refl
+kind-stands kind.Ack = refl
+kind-stands kind.Code = refl
+kind-stands kind.Letters = refl
+kind-stands kind.Buttons = refl
+
+number-back : (n : ℕ) → leb n 4 ≡ true → told.kindNumber (told.kindOf n) ≡ n
+unfolding told.kindOf
+number-back zero h = refl
+number-back (suc zero) h = refl
+number-back (suc (suc zero)) h = refl
+number-back (suc (suc (suc zero))) h = refl
+number-back (suc (suc (suc (suc zero)))) h = refl
+number-back (suc (suc (suc (suc (suc n))))) h = absurd (omega (arith, leb-true (suc (suc (suc (suc (suc n))))) 4 h))
+
+pub told-there : (s : ToldReader) → told.unpacked (told.packed s) ≡ s
+told-there s = λ i. record { reader = reader-there (s .reader) i; awaited = record { kind = kind-back (s .awaited .kind) i; came = s .awaited .came } }
+
+pub told-back : (h : HeldTold) → told.stands h ≡ true → told.packed (told.unpacked h) ≡ h
+told-back h s =
+    let reader = reader-back (h .reader) (left (readers.stands (h .reader)) (leb (h .awaited) 4) s) in
+    let number = number-back (h .awaited) (right (readers.stands (h .reader)) (leb (h .awaited) 4) s) in
+    λ i. record { reader = reader i; awaited = number i; came = h .came }
+
+pub told-stands : (s : ToldReader) → told.stands (told.packed s) ≡ true
+told-stands s = both (readers.stands (readers.packed (s .reader))) (leb (told.kindNumber (s .awaited .kind)) 4) (reader-stands (s .reader)) (kind-stands (s .awaited .kind))
+
+-- a reader of listings
+pub readback-there : (r : Readback) → readbacks.unpacked (readbacks.packed r) ≡ r
+readback-there r = λ i. record { width = r .width; last = r .last; lines = r .lines; ended = mark-back (r .ended) i }
+
+pub readback-back : (h : HeldReadback) → readbacks.stands h ≡ true → readbacks.packed (readbacks.unpacked h) ≡ h
+readback-back h s = λ i. record { width = h .width; ended = mark-of (h .ended) s i; last = h .last; lines = h .lines }
+
+pub readback-stands : (r : Readback) → readbacks.stands (readbacks.packed r) ≡ true
+readback-stands r = rw (mark-stands (r .ended))
+
+-- a puck
+pub puck-there : (p : Puck) → pucks.unpacked (pucks.packed p) ≡ p
+puck-there p = λ i. record { ball = box-there (p .ball) i; test = p .test; revision = p .revision; maker = p .maker }
+
+pub puck-back : (h : HeldPuck) → boxes.stands (h .ball) ≡ true → pucks.packed (pucks.unpacked h) ≡ h
+puck-back h s = λ i. record { ball = box-back (h .ball) s i; test = h .test; revision = h .revision; maker = h .maker }
+
+pub puck-stands : (p : Puck) → boxes.stands (pucks.packed p .ball) ≡ true
+puck-stands p = box-stands (p .ball)

@@ -2,6 +2,12 @@ pub mod Marks
 pub mod Readers
 pub mod Boxes
 pub mod Listers
+pub mod Yards
+pub mod Bridges
+pub mod Salvages
+pub mod Told
+pub mod Pucks
+pub mod Readbacks
 pub mod Promises
 pub mod Runs
 pub mod Demand3

@@ -12,9 +12,28 @@ use Rattle.ballbox.specs.Promises as ballbox
 use Rattle.ballbox.specs.declared.Event.{Event}
 use Rattle.listing.specs.Feeding as feeding
 use Rattle.listing.specs.Promises as listing
+use Rattle.yard.specs.Promises as yard
+use Rattle.bridge.specs.Promises as bridge
+use Rattle.salvage.specs.Promises as salvage
+use Rattle.salvage.specs.declared.Picked.{Picked}
+use Rattle.salvaged.specs.Promises as salvaged
+use Rattle.replies.specs.Promises as replies
+use Rattle.replies.specs.declared.Asked.{Asked}
+use Rattle.puck.specs.Device as device
+use Rattle.puck.specs.Promises as puck
+use Rattle.puckreader.specs.State as puckreaders
+use Rattle.puckreader.specs.Promises as puckreader
+use Rattle.puckreader.specs.declared.PuckReader.{PuckReader}
+use Rattle.readback.specs.Steps as steps
+use Rattle.readback.specs.Promises as readback
 use Rattle.istrolf.specs.Readers as readers
 use Rattle.istrolf.specs.Boxes as boxes
 use Rattle.istrolf.specs.Listers as listers
+use Rattle.istrolf.specs.Bridges as bridges
+use Rattle.istrolf.specs.Salvages as salvages
+use Rattle.istrolf.specs.Told as told
+use Rattle.istrolf.specs.Pucks as pucks
+use Rattle.istrolf.specs.Readbacks as readbacks
 use Rattle.istrolf.specs.declared.HeldReader.{HeldReader}
 use Rattle.istrolf.specs.declared.FreshReader.{FreshReader}
 use Rattle.istrolf.specs.declared.ReadWord.{ReadWord}
@@ -24,6 +43,27 @@ use Rattle.istrolf.specs.declared.HeldBox.{HeldBox}
 use Rattle.istrolf.specs.declared.SteppedBox.{SteppedBox}
 use Rattle.istrolf.specs.declared.HeldLister.{HeldLister}
 use Rattle.istrolf.specs.declared.ListedBytes.{ListedBytes}
+use Rattle.istrolf.specs.Yards as yards
+use Rattle.istrolf.specs.declared.HeldYard.{HeldYard}
+use Rattle.istrolf.specs.declared.FreshYard.{FreshYard}
+use Rattle.istrolf.specs.declared.JudgedWord.{JudgedWord}
+use Rattle.istrolf.specs.declared.CheckedWords.{CheckedWords}
+use Rattle.istrolf.specs.declared.HeldBridge.{HeldBridge}
+use Rattle.istrolf.specs.declared.FreshBridge.{FreshBridge}
+use Rattle.istrolf.specs.declared.ConvertedWords.{ConvertedWords}
+use Rattle.istrolf.specs.declared.SalvagedBytes.{SalvagedBytes}
+use Rattle.istrolf.specs.declared.HeldTold.{HeldTold}
+use Rattle.istrolf.specs.declared.FreshTold.{FreshTold}
+use Rattle.istrolf.specs.declared.ToldCommand.{ToldCommand}
+use Rattle.istrolf.specs.declared.HeardWord.{HeardWord}
+use Rattle.istrolf.specs.declared.HeardWords.{HeardWords}
+use Rattle.istrolf.specs.declared.HeldPuck.{HeldPuck}
+use Rattle.istrolf.specs.declared.SteppedPuck.{SteppedPuck}
+use Rattle.istrolf.specs.declared.ReadPuckWord.{ReadPuckWord}
+use Rattle.istrolf.specs.declared.ReadPuckWords.{ReadPuckWords}
+use Rattle.istrolf.specs.declared.HeldReadback.{HeldReadback}
+use Rattle.istrolf.specs.declared.RewrittenLines.{RewrittenLines}
+use Rattle.istrolf.specs.declared.ReadLines.{ReadLines}
 
 -- `istrolf_reader_fresh(letter)`
 abbrev pub FreshReaderPromise : ℕ → FreshReader → Type 0
@@ -79,3 +119,116 @@ finishOf h out =
 
 abbrev pub FinishPromise : HeldLister → List ℕ → ListedBytes → List ℕ → Type 0
 FinishPromise h before answer after = listers.whole answer after ≡ finishOf h before
+
+-- `istrolf_yard_fresh(letter)`
+abbrev pub FreshYardPromise : ℕ → FreshYard → Type 0
+FreshYardPromise letter answer = answer ≡ yards.packedFresh (yard.freshOf letter)
+
+-- `istrolf_yard_step(yard, word)`
+unfoldable pub yardStepOf : HeldYard → ℕ → JudgedWord
+yardStepOf h w = cond (yards.stands h) (yards.packedJudged (yard.stepOf (yards.unpacked h) w)) (yards.refusedJudged h)
+
+abbrev pub YardStepPromise : HeldYard → ℕ → JudgedWord → Type 0
+YardStepPromise h w answer = answer ≡ yardStepOf h w
+
+-- `istrolf_yard_check(letter, words)`
+abbrev pub YardCheckPromise : ℕ → List ℕ → CheckedWords → Type 0
+YardCheckPromise letter words answer = answer ≡ yards.packedChecked (yard.checkOf letter words)
+
+-- `istrolf_bridge_fresh(letter)`
+abbrev pub FreshBridgePromise : ℕ → FreshBridge → Type 0
+FreshBridgePromise letter answer = answer ≡ bridges.packedFresh (bridge.freshOf letter)
+
+-- `istrolf_bridge_convert(bridge, words, out)`
+unfoldable pub convertOf : HeldBridge → List ℕ → List ℕ → bridges.Whole
+convertOf h words out =
+    cond (bridges.stands h) (bridges.packedLong (bridge.convertOf (bridges.unpacked h) words out)) (bridges.whole (bridges.refusedConverted h) out)
+
+abbrev pub ConvertPromise : HeldBridge → List ℕ → List ℕ → ConvertedWords → List ℕ → Type 0
+ConvertPromise h words before answer after = bridges.whole answer after ≡ convertOf h words before
+
+-- `istrolf_salvage_pick(letter, words, places)`
+abbrev pub PickPromise : ℕ → List ℕ → List ℕ → Picked → List ℕ → Type 0
+PickPromise letter words before answer after = salvage.PickPromise letter words before answer after
+
+-- `istrolf_salvage_list(input, out)`
+unfoldable pub salvageOf : List ℕ → List ℕ → salvages.Whole
+salvageOf input out = salvages.packedWhole (salvaged.listOf input out)
+
+abbrev pub SalvagePromise : List ℕ → List ℕ → SalvagedBytes → List ℕ → Type 0
+SalvagePromise input before answer after = salvages.whole answer after ≡ salvageOf input before
+
+-- `istrolf_told_fresh(letter)`
+abbrev pub FreshToldPromise : ℕ → FreshTold → Type 0
+FreshToldPromise letter answer = answer ≡ told.packedFresh (replies.freshOf letter)
+
+-- `istrolf_told_command(told, byte)` and `istrolf_told_waking(told)`, each with what was asked
+unfoldable pub tellOf : HeldTold → Asked → ToldCommand
+tellOf h asked = cond (told.stands h) (told.packedTelling (replies.tellOf (told.unpacked h) asked)) (told.refusedTelling h)
+
+abbrev pub TellPromise : HeldTold → Asked → ToldCommand → Type 0
+TellPromise h asked answer = answer ≡ tellOf h asked
+
+-- `istrolf_told_step(told, word)`
+unfoldable pub toldStepOf : HeldTold → ℕ → HeardWord
+toldStepOf h w = cond (told.stands h) (told.packedHeard (replies.stepOf (told.unpacked h) w)) (told.refusedHeard h)
+
+abbrev pub ToldStepPromise : HeldTold → ℕ → HeardWord → Type 0
+ToldStepPromise h w answer = answer ≡ toldStepOf h w
+
+-- `istrolf_told_read(told, words, out)`
+unfoldable pub toldReadOf : HeldTold → List ℕ → List ℤ → told.Whole
+toldReadOf h words out = cond (told.stands h) (told.packedLong (replies.readOf (told.unpacked h) words out)) (told.whole (told.refusedLine h) out)
+
+abbrev pub ToldReadPromise : HeldTold → List ℕ → List ℤ → HeardWords → List ℤ → Type 0
+ToldReadPromise h words before answer after = told.whole answer after ≡ toldReadOf h words before
+
+-- `istrolf_puck_made(buttons, revision, maker)`
+abbrev pub MadePuckPromise : ℕ → ℕ → ℕ → HeldPuck → Type 0
+MadePuckPromise buttons revision maker answer = answer ≡ pucks.packed (device.made buttons revision maker)
+
+-- `istrolf_puck_motion`, `_buttons`, `_host`, `_latch`, `_send` and `_period`, each with its event
+unfoldable pub puckStepOf : HeldPuck → Event → SteppedPuck
+puckStepOf h e = cond (boxes.stands (h .ball)) (pucks.packedStep (puck.stepOf (pucks.unpacked h) e)) (pucks.refusedStep h)
+
+abbrev pub PuckStepPromise : HeldPuck → Event → SteppedPuck → Type 0
+PuckStepPromise h e answer = answer ≡ puckStepOf h e
+
+-- `istrolf_puck_reader_fresh()`
+abbrev pub FreshPuckReaderPromise : PuckReader → Type 0
+FreshPuckReaderPromise answer = answer ≡ puckreaders.fresh
+
+-- `istrolf_puck_reader_step(reader, word)`
+abbrev pub PuckReaderStepPromise : PuckReader → ℕ → ReadPuckWord → Type 0
+PuckReaderStepPromise r w answer = answer ≡ pucks.packedRead (puckreader.stepOf r w)
+
+-- `istrolf_puck_reader_read(reader, words, out)`
+abbrev pub PuckReadPromise : PuckReader → List ℕ → List ℤ → ReadPuckWords → List ℤ → Type 0
+PuckReadPromise r words before answer after = pucks.whole answer after ≡ puckreader.readOf r words before
+
+-- `istrolf_readback_fresh()`
+abbrev pub FreshReadbackPromise : HeldReadback → Type 0
+FreshReadbackPromise answer = answer ≡ readbacks.packed steps.fresh
+
+-- `istrolf_readback_read(reader, input, out)`
+unfoldable pub readbackReadOf : HeldReadback → List ℕ → List ℤ → readbacks.Whole
+readbackReadOf h input out =
+    cond (readbacks.stands h) (readbacks.packedWhole (readback.readOf (readbacks.unpacked h) input out)) (readbacks.whole (readbacks.refusedBack h) out)
+
+abbrev pub ReadbackReadPromise : HeldReadback → List ℕ → List ℤ → ReadLines → List ℤ → Type 0
+ReadbackReadPromise h input before answer after = readbacks.whole answer after ≡ readbackReadOf h input before
+
+-- `istrolf_readback_finish(reader, left)`
+unfoldable pub readbackFinishOf : HeldReadback → ℕ → ReadLines
+readbackFinishOf h left = cond (readbacks.stands h) (readbacks.packedBack (readback.finishOf (readbacks.unpacked h) left)) (readbacks.refusedBack h)
+
+abbrev pub ReadbackFinishPromise : HeldReadback → ℕ → ReadLines → Type 0
+ReadbackFinishPromise h left answer = answer ≡ readbackFinishOf h left
+
+-- `istrolf_readback_rewrite(reader, input, out)`
+unfoldable pub readbackRewriteOf : HeldReadback → List ℕ → List ℕ → readbacks.Rewriting
+readbackRewriteOf h input out =
+    cond (readbacks.stands h) (readbacks.packedRewriting (readback.rewriteOf (readbacks.unpacked h) input out)) (readbacks.rewriting (readbacks.refusedRewritten h) out)
+
+abbrev pub ReadbackRewritePromise : HeldReadback → List ℕ → List ℕ → RewrittenLines → List ℕ → Type 0
+ReadbackRewritePromise h input before answer after = readbacks.rewriting answer after ≡ readbackRewriteOf h input before

@@ -36,7 +36,7 @@ fn unpacked_memory(held: HeldMemory) -> Memory
     }
 }
 
-fn packed(b: BallBox) -> HeldBox
+pub(crate) fn packed(b: BallBox) -> HeldBox
     ensures { λ r. ⌜ r ≡ packed b ⌝ }
 {
     let settings = b.settings;
@@ -55,7 +55,7 @@ fn packed(b: BallBox) -> HeldBox
     }
 }
 
-fn unpacked(held: HeldBox) -> BallBox
+pub(crate) fn unpacked(held: HeldBox) -> BallBox
     ensures { λ r. ⌜ r ≡ unpacked held ⌝ }
 {
     let settings = held.settings;
@@ -75,7 +75,7 @@ fn unpacked(held: HeldBox) -> BallBox
 }
 
 // What stands for a box.
-fn stands(held: HeldBox) -> bool
+pub(crate) fn stands(held: HeldBox) -> bool
     ensures { λ r. ⌜ r ≡ stands held ⌝ }
 {
     let memory = held.memory;

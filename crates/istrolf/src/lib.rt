@@ -3,12 +3,22 @@ use ballbox::Going;
 use ballbox::Settings;
 use ballbox::Sums;
 use ballbox::Track;
+use puck::Testing;
+use puckreader::PuckReader;
+use replies::Came;
+use vsxxx::SelfTest;
 use wire::Report;
 
 mod boxes;
+mod bridges;
 mod encoder;
 mod listers;
+mod pucks;
+mod readbacks;
 mod readers;
+mod salvages;
+mod told;
+mod yards;
 
 // What is given back for what stands for no state.
 pub(crate) const BAD_STATE: u8 = 6;
@@ -103,4 +113,204 @@ pub struct ListedBytes {
     pub taken: usize,
     pub written: usize,
     pub next: HeldLister,
+}
+
+// A yard check as C holds it: whether it has ended is 0 or 1.
+#[repr(C)]
+pub struct HeldYard {
+    pub format: u8,
+    pub first: u8,
+    pub last: u8,
+    pub count: u8,
+    pub ended: u8,
+}
+
+// A new check, or why there is none of this letter.
+#[repr(C)]
+pub struct FreshYard {
+    pub refusal: u8,
+    pub yard: HeldYard,
+}
+
+// What a word gives back: whether a box can have sent it, 0 or 1.
+#[repr(C)]
+pub struct JudgedWord {
+    pub refusal: u8,
+    pub can: u8,
+    pub next: HeldYard,
+}
+
+// What a log gives back: whether a box can send all of it, 0 or 1, and how many of its words it can.
+#[repr(C)]
+pub struct CheckedWords {
+    pub refusal: u8,
+    pub proper: u8,
+    pub sendable: usize,
+}
+
+// A bridge as C holds it: whether there is a base and whether the middle was down are 0 or 1; the base stands at the end.
+#[repr(C)]
+pub struct HeldBridge {
+    pub reader: HeldReader,
+    pub based: u8,
+    pub middle: u8,
+    pub presses: u16,
+    pub x: i16,
+    pub y: i16,
+}
+
+// A new bridge, or why there is none of this letter.
+#[repr(C)]
+pub struct FreshBridge {
+    pub refusal: u8,
+    pub bridge: HeldBridge,
+}
+
+// What a long call gives back.
+#[repr(C)]
+pub struct ConvertedWords {
+    pub refusal: u8,
+    pub next: HeldBridge,
+    pub taken: usize,
+    pub reports: usize,
+    pub sent: usize,
+    pub dropped: usize,
+}
+
+// What a salvage tells: whether every line had room is 0 or 1.
+#[repr(C)]
+pub struct SalvagedBytes {
+    pub whole: u8,
+    pub written: usize,
+}
+
+// A reader that is told of replies, as C holds it: the reply that is awaited is a number, 0 where none is.
+#[repr(C)]
+pub struct HeldTold {
+    pub reader: HeldReader,
+    pub awaited: u8,
+    pub came: Came,
+}
+
+// What became of a reply, by its number: 0 nothing yet, 1 ACK, 2 a format, 3 a format and a mode, 4 buttons, 5 broken behind the bytes that had come; zeros elsewhere.
+#[repr(C)]
+pub struct HeldReply {
+    pub kind: u8,
+    pub format: u8,
+    pub mode: u8,
+    pub buttons: u8,
+    pub came: Came,
+}
+
+// A new reader that is told of replies, or why there is none of this letter.
+#[repr(C)]
+pub struct FreshTold {
+    pub refusal: u8,
+    pub told: HeldTold,
+}
+
+// What a telling gives back: also how many bytes of an unfinished reply it discards.
+#[repr(C)]
+pub struct ToldCommand {
+    pub refusal: u8,
+    pub discarded: u8,
+    pub next: HeldTold,
+}
+
+// What a word is answered by: what became of the reply, and the report reader's own answer as in ReadWord.
+#[repr(C)]
+pub struct HeardWord {
+    pub refusal: u8,
+    pub reports: u8,
+    pub dropped: u8,
+    pub reply: HeldReply,
+    pub next: HeldTold,
+    pub report: Report,
+}
+
+// What a long read gives back, and what became of the reply.
+#[repr(C)]
+pub struct HeardWords {
+    pub refusal: u8,
+    pub reply: HeldReply,
+    pub next: HeldTold,
+    pub taken: usize,
+    pub reports: usize,
+    pub dropped: usize,
+}
+
+// The reports, 0 or 1, and the bytes dropped of an answer, and the report, zeros where there is none.
+pub(crate) struct Own {
+    pub reports: u8,
+    pub dropped: u8,
+    pub report: Report,
+}
+
+// A VSXXX puck as C holds it.
+#[repr(C)]
+pub struct HeldPuck {
+    pub ball: HeldBox,
+    pub test: Testing,
+    pub revision: u8,
+    pub maker: u8,
+}
+
+// What an event gives back: the refusal, how many words are sent, 0 or 1, the word, 0 where there is none, and the device.
+#[repr(C)]
+pub struct SteppedPuck {
+    pub refusal: u8,
+    pub sent: u8,
+    pub word: u16,
+    pub next: HeldPuck,
+}
+
+// What a word is answered by: how many movements and how many self-tests, 0 or 1, how many bytes dropped, and the report, zeros where there is none.
+#[repr(C)]
+pub struct ReadPuckWord {
+    pub refusal: u8,
+    pub movements: u8,
+    pub tests: u8,
+    pub dropped: u8,
+    pub next: PuckReader,
+    pub movement: Report,
+    pub test: SelfTest,
+}
+
+// What a long read gives back.
+#[repr(C)]
+pub struct ReadPuckWords {
+    pub refusal: u8,
+    pub next: PuckReader,
+    pub taken: usize,
+    pub reports: usize,
+    pub dropped: usize,
+}
+
+// A reader of listings as C holds it: whether its last line has come is 0 or 1.
+#[repr(C)]
+pub struct HeldReadback {
+    pub width: u8,
+    pub ended: u8,
+    pub last: u32,
+    pub lines: u32,
+}
+
+// What a call of it gives back.
+#[repr(C)]
+pub struct ReadLines {
+    pub refusal: u8,
+    pub line: u32,
+    pub taken: usize,
+    pub items: usize,
+    pub next: HeldReadback,
+}
+
+// What a piece that is rewritten at the other width gives back.
+#[repr(C)]
+pub struct RewrittenLines {
+    pub refusal: u8,
+    pub line: u32,
+    pub taken: usize,
+    pub written: usize,
+    pub next: HeldReadback,
 }

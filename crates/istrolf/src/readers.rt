@@ -44,7 +44,7 @@ pub(crate) fn stands(held: HeldReader) -> bool
     held.awaiting <= 1
 }
 
-fn no_report() -> Report
+pub(crate) fn no_report() -> Report
     ensures { λ r. ⌜ r ≡ noReport ⌝ }
 {
     Report {

@@ -11,7 +11,7 @@ use borrow.Author.Tests.{ne-eqb, le-leb, leb-false}
 use Rattle.numbers.proofs.Choices.{cases}
 use Rattle.fold.proofs.Laws.{over-taken, stays}
 use Rattle.listing.specs.Lines.{newline, saidBy}
-use Rattle.listing.specs.Scanning.{mostLines, lineIn, ends, scan, unfinished, takenOf, scannedByte, closedOf, endOf, passed, mostBytes}
+use Rattle.listing.specs.Scanning.{width, mostLines, lineIn, ends, scan, unfinished, takenOf, scannedByte, closedOf, endOf, passed, mostBytes}
 use Rattle.listing.specs.Items.{itemsFrom}
 use Rattle.listing.specs.Feeding.{fedByte, lastOf, feeds, feedIn}
 use Rattle.listing.specs.declared.Line.{Line}
@@ -33,14 +33,14 @@ unfolding fedByte
 sixth-ends m c h n = ap (λ (k : Scan). k .next .ended) (sixth-bad (m .scanner) c h n) ∙ bad-ends (m .scanner)
 
 -- a scanner that has ended stays so, and finds nothing more
-abbrev Over : Scan → Type 0
+abbrev pub Over : Scan → Type 0
 Over k = (k .next .ended ≡ true) × (k .found ≡ Nothing)
 
 line-over : (s : Scanner) (l : Line) → s .ended ≡ true → Over (takenOf s l)
 unfolding takenOf
 line-over s l h = rw h (refl, refl)
 
-byte-over : (s : Scanner) (c : ℕ) → s .ended ≡ true → Over (scannedByte s c)
+pub byte-over : (s : Scanner) (c : ℕ) → s .ended ≡ true → Over (scannedByte s c)
 unfolding scannedByte
 byte-over s c h = cases Over (eqb c newline) (λ _. line-over s (saidBy (unfinished s)) h) (λ _. cases Over (leb 5 (s .count)) (λ _. line-over s line.Bad h) (λ _. (h, refl)))
 
@@ -60,18 +60,18 @@ stays-ended = stays feeds (λ (m : Lister). m .scanner .ended ≡ true) ended-st
 abbrev pub Within : Scanner → Type 0
 Within s = (s .line ≤ mostLines) × (s .count ≤ 5)
 
-abbrev On : Scanner → Scanner → Type 0
+abbrev pub On : Scanner → Scanner → Type 0
 On s next = (next .ended ≡ true) ⊎ ((passed s < passed next) × Within next)
 
 line-on : (s : Scanner) (l : Line) → Within s → On s (takenOf s l .next)
 unfolding takenOf
-line-on s l h = cases (λ (k : Scan). On s (k .next)) (s .ended) (λ _. inl refl) (λ _. go (ends (lineIn (s .line) l)) (goes-on (s .line) l))
+line-on s l h = cases (λ (k : Scan). On s (k .next)) (s .ended) (λ _. inl refl) (λ _. go (ends (lineIn width (s .line) l)) (goes-on (s .line) l))
   where
     go : (t : Bool) → (t ≡ false → s .line < mostLines) → On s (scan (cond t (s .line) (s .line + 1)) t Nothing .next)
     go true k = inl refl
     go false k = inr (omega (arith, k refl), (omega (arith, k refl), omega arith))
 
-byte-on : (s : Scanner) (c : ℕ) → Within s → On s (scannedByte s c .next)
+pub byte-on : (s : Scanner) (c : ℕ) → Within s → On s (scannedByte s c .next)
 unfolding scannedByte
 byte-on s c h =
     let P : Scan → Type 0 = λ k. On s (k .next) in

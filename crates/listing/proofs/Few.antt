@@ -38,7 +38,7 @@ use Rattle.listing.proofs.Small.{Small, few-kept, small-step}
 use Rattle.listing.proofs.Keeps.{closed-reads}
 
 -- fields whose line numbers are within the width, and whose other numbers have four digits at most
-abbrev Short : List Field → Type 0
+abbrev pub Short : List Field → Type 0
 Short [] = Unit {0}
 Short (field.Line n ∷ fs) = (n < 10 ^ width) × Short fs
 Short (field.Number x ∷ fs) = (natAbs x < 10 ^ 4) × Short fs
@@ -46,7 +46,7 @@ Short (field.Pressed b ∷ fs) = Short fs
 Short (field.Over ∷ fs) = Short fs
 
 -- the most bytes of such fields, each behind its tab
-abbrev mostOf : List Field → ℕ
+abbrev pub mostOf : List Field → ℕ
 mostOf [] = 0
 mostOf (field.Line n ∷ fs) = 2 + width + mostOf fs
 mostOf (field.Number x ∷ fs) = 6 + mostOf fs
@@ -60,28 +60,28 @@ few-fields (field.Number x ∷ fs) h = omega (arith, decimal-few plain 3 x (omeg
 few-fields (field.Pressed b ∷ fs) h = omega (arith, few-fields fs h)
 few-fields (field.Over ∷ fs) h = omega (arith, few-fields fs h)
 
-few-form : (f : Form) → Short (f .fields) → length (lineOf width f) ≤ 2 + mostOf (f .fields)
+pub few-form : (f : Form) → Short (f .fields) → length (lineOf width f) ≤ 2 + mostOf (f .fields)
 unfolding lineOf
 few-form f h = omega (arith, few-fields (f .fields) h, length-append (headOf width f) (newline ∷ []))
 
 -- the line of what is given
-abbrev ShortGiven : Given → Type 0
+abbrev pub ShortGiven : Given → Type 0
 ShortGiven given.Nothing = Unit {0}
 ShortGiven (given.One i) = Short (formOf i .fields)
 
-most-item : (i : Item) → mostOf (formOf i .fields) ≤ 22
+pub most-item : (i : Item) → mostOf (formOf i .fields) ≤ 24
 most-item (item.D n k) = omega arith
 most-item (item.R n b x y) = omega arith
 most-item (item.H k) = omega arith
 most-item (item.E n) = omega arith
 most-item item.Over = omega arith
 
-few-given : (g : Given) → ShortGiven g → length (allBytes width (itemsIn g)) ≤ 24
+few-given : (g : Given) → ShortGiven g → length (allBytes width (itemsIn g)) ≤ 26
 few-given given.Nothing h = omega arith
 few-given (given.One i) h = omega (arith, few-form (formOf i) h, most-item i, length-append (lineOf width (formOf i)) [])
 
 -- what is found on a line, whose number is below the most lines
-abbrev Numbered : Found → Type 0
+abbrev pub Numbered : Found → Type 0
 Numbered found.Nothing = Unit {0}
 Numbered (found.Format f) = Unit {0}
 Numbered (found.Word n w) = n < 10 ^ width
@@ -89,7 +89,7 @@ Numbered (found.Bad n) = n < 10 ^ width
 Numbered found.Over = Unit {0}
 Numbered found.End = ⊥
 
-numbered-line : (n : ℕ) (l : Line) → Numbered (lineIn n l)
+numbered-line : (n : ℕ) (l : Line) → Numbered (lineIn width n l)
 unfolding lineIn
 numbered-line n l = cases Numbered (leb mostLines n) (λ _. tt) (λ e. go l (leb-false _ _ e))
   where
@@ -102,13 +102,13 @@ numbered-taken : (s : Scanner) (l : Line) → Numbered (takenOf s l .found)
 unfolding takenOf
 numbered-taken s l = cases (λ (k : Scan). Numbered (k .found)) (s .ended) (λ _. tt) (λ _. numbered-line (s .line) l)
 
-numbered-byte : (s : Scanner) (c : ℕ) → Numbered (scannedByte s c .found)
+pub numbered-byte : (s : Scanner) (c : ℕ) → Numbered (scannedByte s c .found)
 unfolding scannedByte
 numbered-byte s c =
     let P : Scan → Type 0 = λ k. Numbered (k .found) in
     cases P (eqb c newline) (λ _. numbered-taken s (saidBy (unfinished s))) (λ _. cases P (leb 5 (s .count)) (λ _. numbered-taken s line.Bad) (λ _. tt))
 
-numbered-closed : (s : Scanner) → Numbered (closedOf s .found)
+pub numbered-closed : (s : Scanner) → Numbered (closedOf s .found)
 unfolding closedOf
 numbered-closed s = cases (λ (k : Scan). Numbered (k .found)) (eqb (s .count) 0) (λ _. tt) (λ _. numbered-taken s (saidBy (unfinished s)))
 
@@ -121,7 +121,7 @@ short-gave r (found.Word n w) h = go (stepOf r w .answer) (small-step r w)
     go : (a : Answer) → Small a → ShortGiven (answerGiven (r .format) n a)
     go answer.Nothing k = tt
     go (answer.Report p) k = (h, (k .0, (k .1, tt)))
-    go (answer.Dropped b) k = (h, (k, tt))
+    go (answer.Dropped b) k = (h, (k .1, tt))
 short-gave r (found.Bad n) h = (h, tt)
 short-gave r found.Over h = tt
 short-gave r found.End h = absurd h
@@ -131,7 +131,7 @@ unfolding frontOf lineOf decimalOf placesOf sizeIn digitsOf
 few-front m = cases (λ (l : List ℕ). length l ≤ 4) (unopened (m .scanner)) (λ _. omega arith) (λ _. omega arith)
 
 -- what the end gives to a reader that keeps few bytes
-few-end : (r : Reader) (t u : Bool) → r .count < 5 → length (allBytes width (itemsIn (gaveOf r (cond t found.Nothing (cond u (found.Bad 1) found.End)) .given))) ≤ 8
+few-end : (r : Reader) (t u : Bool) → r .count < 5 → length (allBytes width (itemsIn (gaveOf r (cond t found.Nothing (cond u (found.Bad 1) found.End)) .given))) ≤ 10
 unfolding gaveOf
 few-end r true u h = omega arith
 few-end r false true h = omega (arith, few-form (formOf (item.E 1)) (omega arith, tt), length-append (lineOf width (formOf (item.E 1))) [])
@@ -156,5 +156,5 @@ few-last m ok =
     let f = closedOf (m .scanner) .found in
     let a = allBytes width (itemsOf m (closedOf (m .scanner))) in
     let e = allBytes width (itemsOf (closed m) (endOf (closed m .scanner))) in
-    let few : length e ≤ 8 = few-end (closed m .reader) (closed m .scanner .ended) (eqb (closed m .scanner .line) 0) (few-kept (closed m .reader) (closed-reads m ok)) in
+    let few : length e ≤ 10 = few-end (closed m .reader) (closed m .scanner .ended) (eqb (closed m .scanner .line) 0) (few-kept (closed m .reader) (closed-reads m ok)) in
     omega (arith, few-front m, few-given (gaveOf (m .reader) f .given) (short-gave (m .reader) f (numbered-closed (m .scanner))), few, length-append (frontOf m) a, length-append (frontOf m ++ a) e)

@@ -17,7 +17,7 @@ use Rattle.reader.specs.declared.Reader.{Reader}
 use Rattle.reader.proofs.Goodness as read
 use Rattle.listing.specs.Lines.{newline, saidBy}
 use Rattle.listing.specs.Scanning as scanner
-use Rattle.listing.specs.Scanning.{mostLines, lineIn, ends, unfinished, takenOf, scannedByte, closedOf, endOf}
+use Rattle.listing.specs.Scanning.{width, mostLines, lineIn, ends, unfinished, takenOf, scannedByte, closedOf, endOf}
 use Rattle.listing.specs.Items.{gaveOf}
 use Rattle.listing.specs.Feeding.{Feed, fresh, closed, fedByte, lastOf, feeds, feedIn, finishIn, good}
 use Rattle.listing.specs.declared.Line.{Line}
@@ -42,7 +42,7 @@ made s h = rw (le-leb (s .line) mostLines (h .0), le-leb (s .count) 5 (h .1))
 -- and stays so
 line-within : (s : Scanner) (l : Line) → Within s → Within (takenOf s l .next)
 unfolding takenOf
-line-within s l h = cases (λ (k : Scan). Within (k .next)) (s .ended) (λ _. (h .0, omega arith)) (λ _. go (ends (lineIn (s .line) l)) (goes-on (s .line) l))
+line-within s l h = cases (λ (k : Scan). Within (k .next)) (s .ended) (λ _. (h .0, omega arith)) (λ _. go (ends (lineIn width (s .line) l)) (goes-on (s .line) l))
   where
     go : (t : Bool) → (t ≡ false → s .line < mostLines) → (cond t (s .line) (s .line + 1) ≤ mostLines) × (0 ≤ 5)
     go true k = (h .0, omega arith)

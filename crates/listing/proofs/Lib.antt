@@ -1,5 +1,5 @@
 -- Laws of the listing: what is scanned is the recording (Scanned), and the text is that of the definitions (Whole), whatever the cuts (Pieces, Calls), with
--- calls worked out (Worked); listers stay good (Keeps) and end (Ended); two permitted answers are equal (Answers), and what a refusal leaves
+-- calls worked out (Worked); its items go up line by line to an end (Ordered); listers stay good (Keeps) and end (Ended); two permitted answers are equal (Answers), and what a refusal leaves
 -- (Refusals); and what the functions' proofs share.
 pub mod Answers
 pub mod Calls
@@ -11,10 +11,13 @@ pub mod Fronts
 pub mod Grown
 pub mod Keeps
 pub mod Long
+pub mod Ordered
 pub mod Parse
 pub mod Pieces
 pub mod Refusals
 pub mod Scanned
 pub mod Small
+pub mod Viewed
 pub mod Whole
+pub mod Widths
 pub mod Worked

@@ -11,7 +11,7 @@ use lib.Seq.{take-suc-set, take-all}
 use borrow.Author.Tests.{eqb-true, eqb-false, leb-true, leb-false}
 use Rattle.numbers.proofs.Choices.{cases}
 use Rattle.listing.specs.Lines.{newline, front, linesIn, saidBy}
-use Rattle.listing.specs.Scanning.{mostLines, onLine, lineIn, ends, endIn, foundIn, recordingOf, scan, unfed, unfinished, passing, takenOf, scannedByte, closedOf, endOf}
+use Rattle.listing.specs.Scanning.{width, mostLines, onLine, lineIn, ends, endIn, foundIn, recordingOf, scan, unfed, unfinished, passing, takenOf, scannedByte, closedOf, endOf}
 use Rattle.listing.specs.declared.Line.{Line}
 use Rattle.listing.specs.declared.Line.the-variants as line
 use Rattle.listing.specs.declared.Found.{Found}
@@ -36,13 +36,13 @@ told (Over ∷ fs) = Over ∷ told fs
 told (End ∷ fs) = End ∷ told fs
 
 -- where a line goes on, there may be one more
-pub goes-on : (n : ℕ) (l : Line) → ends (lineIn n l) ≡ false → n < mostLines
+pub goes-on : (n : ℕ) (l : Line) → ends (lineIn width n l) ≡ false → n < mostLines
 unfolding lineIn
 goes-on n l =
     cases (λ (f : Found). ends f ≡ false → n < mostLines) (leb mostLines n) (λ _ h. absurd (true≢false h)) (λ e _. leb-false _ _ e)
 
 -- a bad line is the end
-bad-last : (n : ℕ) → ends (lineIn n line.Bad) ≡ true
+bad-last : (n : ℕ) → ends (lineIn width n line.Bad) ≡ true
 unfolding lineIn
 bad-last n = cases (λ (f : Found). ends f ≡ true) (leb mostLines n) (λ _. refl) (λ _. refl)
 
@@ -60,7 +60,7 @@ module _ (n : ℕ) (fs : List Found) where
   tell-on (line.Format f) = cases Tells (eqb n 0) (λ _. refl) (λ _. refl)
   tell-on (line.Word w) = cases Tells (eqb n 0) (λ _. refl) (λ _. refl)
 
-  tell-line : (l : Line) → Tells (lineIn n l)
+  tell-line : (l : Line) → Tells (lineIn width n l)
   unfolding lineIn
   tell-line l = cases Tells (leb mostLines n) (λ _. refl) (λ _. tell-on l)
 
@@ -86,11 +86,11 @@ ahead-more (d ∷ p) c ls = ap (front d) (ahead-more p c ls)
 
 -- what is found from a scanner on, if these are the lines behind the start of its own
 abbrev Rest : Scanner → List (List ℕ) → List Found
-Rest s ls = cond (s .ended) [] (foundIn (s .line) ls)
+Rest s ls = cond (s .ended) [] (foundIn width (s .line) ls)
 
 -- a line, if what is found later is this
 line-told : (s : Scanner) (l : Line) (ls : List (List ℕ)) (later : List Found) → told later ≡ Rest (takenOf s l .next) ls
-    → told (takenOf s l .found ∷ later) ≡ cond (s .ended) [] (lineIn (s .line) l ∷ cond (ends (lineIn (s .line) l)) [] (foundIn (s .line + 1) ls))
+    → told (takenOf s l .found ∷ later) ≡ cond (s .ended) [] (lineIn width (s .line) l ∷ cond (ends (lineIn width (s .line) l)) [] (foundIn width (s .line + 1) ls))
 unfolding takenOf
 line-told s l ls later = go (s .ended)
   where
@@ -98,14 +98,14 @@ line-told s l ls later = go (s .ended)
     n = s .line
 
     f : Found
-    f = lineIn n l
+    f = lineIn width n l
 
-    passes : (t : Bool) → cond t [] (foundIn (cond t n (n + 1)) ls) ≡ cond t [] (foundIn (n + 1) ls)
+    passes : (t : Bool) → cond t [] (foundIn width (cond t n (n + 1)) ls) ≡ cond t [] (foundIn width (n + 1) ls)
     passes true = refl
     passes false = refl
 
     go : (t : Bool) → let k = cond t (scan n true Nothing) (passing n f) in told later ≡ Rest (k .next) ls
-        → told (k .found ∷ later) ≡ cond t [] (f ∷ cond (ends f) [] (foundIn (n + 1) ls))
+        → told (k .found ∷ later) ≡ cond t [] (f ∷ cond (ends f) [] (foundIn width (n + 1) ls))
     go true h = h
     go false h = tell-line n later l ∙ ap (λ (fs : List Found). f ∷ fs) (h ∙ passes (ends f))
 
@@ -118,7 +118,7 @@ end-told s = go (s .ended)
     go false = tell-end (s .line) []
 
 -- a line whose first five bytes are followed by more
-long : (n : ℕ) (l : List ℕ) (c : ℕ) (ls : List (List ℕ)) → length l ≡ 5 → foundIn n (ahead l (front c ls)) ≡ lineIn n line.Bad ∷ []
+long : (n : ℕ) (l : List ℕ) (c : ℕ) (ls : List (List ℕ)) → length l ≡ 5 → foundIn width n (ahead l (front c ls)) ≡ lineIn width n line.Bad ∷ []
 unfolding foundIn
 long n (a ∷ b ∷ d ∷ e ∷ f ∷ []) c [] h = rw (long-bad a b d e f c [], bad-last n)
 long n (a ∷ b ∷ d ∷ e ∷ f ∷ []) c (l ∷ ls) h = rw (long-bad a b d e f c l, bad-last n)
@@ -163,7 +163,7 @@ by-bytes [] s five = at-end s five
 by-bytes (c ∷ cs) s five = go (by-bytes cs) (eqb c newline) refl (leb 5 (s .count)) refl
   where
     taken : Through cs → (l : Line) → told (takenOf s l .found ∷ allFound (takenOf s l .next) cs)
-        ≡ cond (s .ended) [] (lineIn (s .line) l ∷ cond (ends (lineIn (s .line) l)) [] (foundIn (s .line + 1) (linesIn cs)))
+        ≡ cond (s .ended) [] (lineIn width (s .line) l ∷ cond (ends (lineIn width (s .line) l)) [] (foundIn width (s .line + 1) (linesIn cs)))
     taken ih l =
         let next = takenOf s l .next in line-told s l (linesIn cs) (allFound next cs) (ih next (starts s l .0) ∙ rw (starts s l .1))
 
@@ -178,5 +178,5 @@ by-bytes (c ∷ cs) s five = go (by-bytes cs) (eqb c newline) refl (leb 5 (s .co
         rw (e, eu) (ih _ (length-set (s .held) (s .count) c ∙ five) ∙ rw (more, ahead-more (unfinished s) c (linesIn cs)))
 
 -- SCANNED: what is found in an input, byte by byte, is its recording
-pub scanned : (input : List ℕ) → told (allFound unfed input) ≡ recordingOf input
+pub scanned : (input : List ℕ) → told (allFound unfed input) ≡ recordingOf width input
 scanned input = by-bytes input unfed refl

@@ -1,4 +1,4 @@
--- What a reader hands out is small: a sum of two movements has four digits at most, and no more bytes are dropped than a report has.
+-- What a reader hands out is small: a sum of two movements has four digits at most, and of bytes one is dropped at least and no more than a report has.
 use Prim.Native.Nat.{ℕ, zero, suc, _+_, _-_, _<_, _≤_, _^_}
 use mathlib.Core.Path.{_≡_, refl}
 use mathlib.Core.Bool.{Bool, true, false}
@@ -7,7 +7,7 @@ use native.Mathlib.Omega.{arith}
 use lib.Dec.{ltb, eqb}
 use lib.IntN.{ℤ, pos, negsuc, negℤ, _+ℤ_, natAbs}
 use lib.ListN.{length-append}
-use borrow.Author.Tests.{ltb-true, ltb-false}
+use borrow.Author.Tests.{ltb-true, ltb-false, eqb-false}
 use mir.Syntax.{w16, w64}
 use mir.Val.{SFits}
 use Rattle.numbers.specs.Bits.{number, bits, bit}
@@ -98,12 +98,12 @@ near-report Hexadecimal bs = one-pair _ _ _ (byte-near (pair (at 1 bs) (at 2 bs)
 abbrev pub Small : Answer → Type 0
 Small answer.Nothing = Unit {0}
 Small (answer.Report p) = (natAbs (p .x1 +ℤ p .x2) < 10 ^ 4) × (natAbs (p .y1 +ℤ p .y2) < 10 ^ 4)
-Small (answer.Dropped k) = k < 10 ^ 4
+Small (answer.Dropped k) = (1 ≤ k) × (k < 10 ^ 4)
 
 near-small : (p : Report) → Near p → Small (answer.Report p)
 near-small p h = (omega (arith, abs-sum (p .x1) (p .x2), h .x1, h .x2), omega (arith, abs-sum (p .y1) (p .y2), h .y1, h .y2))
 
-small-report : (letter : ℕ) (bs : List ℕ) → Small (answer.Report (reportBy letter bs))
+pub small-report : (letter : ℕ) (bs : List ℕ) → Small (answer.Report (reportBy letter bs))
 unfolding reportBy
 small-report letter bs = go (namedBy letter)
   where
@@ -117,7 +117,7 @@ module _ (r : Reader) (few : r .count < 5) where
 
   small-drop : Small (dropping (r .count))
   unfolding dropping
-  small-drop = cases Small (eqb (r .count) 0) (λ _. tt) (λ _. omega arith)
+  small-drop = cases Small (eqb (r .count) 0) (λ _. tt) (λ e. (omega (arith, eqb-false (r .count) 0 e), omega arith))
 
   small-keep : (b : ℕ) → P (keep r b)
   unfolding keep
@@ -126,11 +126,11 @@ module _ (r : Reader) (few : r .count < 5) where
   small-byte : (b : ℕ) → P (byteOf r b)
   unfolding byteOf start stray lose
   small-byte b =
-      cases P (r .awaiting) (λ _. omega arith)
+      cases P (r .awaiting) (λ _. (omega arith, omega arith))
       (λ _. cases P (fitting r b) (λ _. small-keep b)
       (λ _. cases P (starting r b) (λ _. small-drop)
-      (λ _. cases P (straying r b) (λ _. omega arith)
-      (λ _. omega arith))))
+      (λ _. cases P (straying r b) (λ _. (omega arith, omega arith))
+      (λ _. (omega arith, omega arith)))))
 
   small-word : (w : ℕ) → P (wordOf r w)
   unfolding wordOf breakOf silenceOf

@@ -46,7 +46,7 @@ opened m h = rw h
 
 line-opened : (s : Scanner) (l : Line) → unopened (takenOf s l .next) ≡ false
 unfolding takenOf
-line-opened s l = cases (λ (k : Scan). unopened (k .next) ≡ false) (s .ended) (λ _. both-no (eqb (s .line) 0) true) (λ _. go (ends (lineIn (s .line) l)))
+line-opened s l = cases (λ (k : Scan). unopened (k .next) ≡ false) (s .ended) (λ _. both-no (eqb (s .line) 0) true) (λ _. go (ends (lineIn width (s .line) l)))
   where
     go : (t : Bool) → eqb (cond t (s .line) (s .line + 1)) 0 && true && not t ≡ false
     go true = both-no (eqb (s .line) 0) true

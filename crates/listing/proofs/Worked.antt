@@ -73,12 +73,12 @@ in-three-calls =
     let end = finishOf after-three (replicate 40 0) in
     in-calls three (replicate 40 0) (end .out) (end .listed) (refl, (refl, (refl, tt))) refl room ∙ ap listingOf all-taken
 
--- B 5/ as the first line, whatever comes behind it: L 4/E 0001/
-pub bad-at-once : (rest : List ℕ) → 76 ∷ 9 ∷ 52 ∷ 10 ∷ 69 ∷ 9 ∷ 48 ∷ 48 ∷ 48 ∷ 49 ∷ 10 ∷ [] ≡ listingOf (66 ∷ 9 ∷ 53 ∷ 10 ∷ rest)
+-- B 5/ as the first line, whatever comes behind it: L 6/E 000001/
+pub bad-at-once : (rest : List ℕ) → 76 ∷ 9 ∷ 54 ∷ 10 ∷ 69 ∷ 9 ∷ 48 ∷ 48 ∷ 48 ∷ 48 ∷ 48 ∷ 49 ∷ 10 ∷ [] ≡ listingOf (66 ∷ 9 ∷ 53 ∷ 10 ∷ rest)
 unfolding computing
 bad-at-once rest = ended-early (call fresh (66 ∷ 9 ∷ 53 ∷ 10 ∷ []) 40 ∷ []) rest (refl, tt) refl
 
--- n bytes c, where n is sixty thousand or more, with room for each
+-- n bytes c, where n is six million or more, with room for each
 pub long-ended : (n c : ℕ) → mostBytes ≤ n → call fresh (replicate n c) (enough * n) .answer .next .scanner .ended ≡ true
 long-ended n c h =
     let piece : List ℕ = replicate n c in

@@ -15,7 +15,7 @@ use Rattle.listing.specs.Lines.{linesIn, markIn, formatIn, saidBy}
 use Rattle.listing.specs.Scanning.{lineIn, foundIn}
 use Rattle.listing.specs.Items.{gaveOf, itemsFrom}
 use Rattle.listing.specs.Printing.{lineOf}
-use Rattle.listing.specs.Listing.{listingOf}
+use Rattle.listing.specs.Listing.{listingAt, listingOf}
 
 -- an input and the whole output
 pub record Example : Type 0 where
@@ -135,6 +135,19 @@ examples =
     paper ∷ empty ∷ no-format ∷ format-only ∷ second-format ∷ blank
     ∷ too-big ∷ leading-zero ∷ no-digits ∷ summed ∷ kept ∷ dropped ∷ []
 
-pub computed : map (λ e. listingOf (e .input)) examples ≡ map (λ e. e .output) examples
-unfolding listingOf linesIn markIn formatIn saidBy lineIn foundIn gaveOf itemsFrom lineOf digitsOf sizeIn placesOf decimalOf readable plusIn numberIn freshOf stepOf wordOf byteOf keep start stray lose breakOf silenceOf dropping entered good known placed namedBy sizeBy markedBy fitsBy fitsAt fitsFirst fitsLater like reportBy readV readU bit bits number untwos signed
+-- what they compute with
+unfoldable computing : Unit {0}
+unfolding linesIn markIn formatIn saidBy lineIn foundIn gaveOf itemsFrom lineOf digitsOf sizeIn placesOf decimalOf readable plusIn numberIn freshOf stepOf wordOf byteOf keep start stray lose breakOf silenceOf dropping entered good known placed namedBy sizeBy markedBy fitsBy fitsAt fitsFirst fitsLater like reportBy readV readU bit bits number untwos signed
+computing = tt
+
+-- at the width of these
+pub computed : map (λ e. listingAt 4 (e .input)) examples ≡ map (λ e. e .output) examples
+unfolding computing
 computed = refl
+
+-- and two of them at the width of new listings: L 6/D 000002 1/R 000005 L?- 5 3/H 0/, and L 6/E 000001/
+pub at-six : map listingOf (paper .input ∷ empty .input ∷ []) ≡
+    (76 ∷ 9 ∷ 54 ∷ 10 ∷ 68 ∷ 9 ∷ 48 ∷ 48 ∷ 48 ∷ 48 ∷ 48 ∷ 50 ∷ 9 ∷ 49 ∷ 10 ∷ 82 ∷ 9 ∷ 48 ∷ 48 ∷ 48 ∷ 48 ∷ 48 ∷ 53 ∷ 9 ∷ 76 ∷ 63 ∷ 45 ∷ 9 ∷ 53 ∷ 9 ∷ 51 ∷ 10 ∷ 72 ∷ 9 ∷ 48 ∷ 10 ∷ [])
+    ∷ (76 ∷ 9 ∷ 54 ∷ 10 ∷ 69 ∷ 9 ∷ 48 ∷ 48 ∷ 48 ∷ 48 ∷ 48 ∷ 49 ∷ 10 ∷ []) ∷ []
+unfolding listingOf computing
+at-six = refl

@@ -28,10 +28,14 @@ unfoldable pub linesIn : List ℕ → List (List ℕ)
 linesIn [] = []
 linesIn (c ∷ cs) = cond (eqb c newline) ([] ∷ linesIn cs) (front c (linesIn cs))
 
--- the bytes in front of the first newline, or all where there is none
+-- the bytes in front of the first that is this one, or all where none is
+abbrev pub lengthTo : ℕ → List ℕ → ℕ
+lengthTo b [] = 0
+lengthTo b (c ∷ cs) = cond (eqb c b) 0 (suc (lengthTo b cs))
+
+-- in front of the first newline
 abbrev pub lengthIn : List ℕ → ℕ
-lengthIn [] = 0
-lengthIn (c ∷ cs) = cond (eqb c newline) 0 (suc (lengthIn cs))
+lengthIn = lengthTo newline
 
 -- "`B` decimal byte"; "Decimals have no leading zeros"
 abbrev pub byteOf : Number → Line

@@ -10,6 +10,8 @@ use Rattle.listing.specs.declared.Middle.the-variants.{Up, Down, Unknown
 use Rattle.listing.specs.declared.Buttons.{Buttons}
 use Rattle.listing.specs.declared.Item.{Item}
 use Rattle.listing.specs.declared.Item.the-variants as item
+use Rattle.listing.specs.declared.Given.{Given}
+use Rattle.listing.specs.declared.Given.the-variants.{Nothing, One}
 use Rattle.listing.specs.declared.Field.{Field}
 use Rattle.listing.specs.declared.Field.the-variants as field
 
@@ -51,18 +53,34 @@ pub record Form : Type 0 where
 abbrev pub form : ℕ → List Field → Form
 form letter fields = record { letter = letter; fields = fields }
 
+-- the letters
+abbrev pub letterL : ℕ
+letterL = 0x4C
+
+abbrev pub letterD : ℕ
+letterD = 0x44
+
+abbrev pub letterR : ℕ
+letterR = 0x52
+
+abbrev pub letterH : ℕ
+letterH = 0x48
+
+abbrev pub letterE : ℕ
+letterE = 0x45
+
 -- "then `D`, line of the word so answered, bytes dropped (when not 0); `R`, line of the last byte, buttons [..], x and y [..]; at the end `H` and
--- bytes kept. A bad line gives `E` and its number [..]; line 10,000 gives `E` and `over`"
+-- bytes kept. A bad line gives `E` and its number [..]; line 1,000,000 gives `E` and `over`"
 abbrev pub formOf : Item → Form
-formOf (item.D n k) = form 0x44 (field.Line n ∷ field.Number (pos k) ∷ [])
-formOf (item.R n b x y) = form 0x52 (field.Line n ∷ field.Pressed b ∷ field.Number x ∷ field.Number y ∷ [])
-formOf (item.H k) = form 0x48 (field.Number (pos k) ∷ [])
-formOf (item.E n) = form 0x45 (field.Line n ∷ [])
-formOf item.Over = form 0x45 (field.Over ∷ [])
+formOf (item.D n k) = form letterD (field.Line n ∷ field.Number (pos k) ∷ [])
+formOf (item.R n b x y) = form letterR (field.Line n ∷ field.Pressed b ∷ field.Number x ∷ field.Number y ∷ [])
+formOf (item.H k) = form letterH (field.Number (pos k) ∷ [])
+formOf (item.E n) = form letterE (field.Line n ∷ [])
+formOf item.Over = form letterE (field.Over ∷ [])
 
 -- "It always prints first `L` and the width of line numbers"
 abbrev pub opening : ℕ → Form
-opening w = form 0x4C (field.Number (pos w) ∷ [])
+opening w = form letterL (field.Number (pos w) ∷ [])
 
 -- the bytes of a line
 abbrev pub headOf : ℕ → Form → List ℕ
@@ -71,7 +89,16 @@ headOf w f = f .letter ∷ fieldsOf w (f .fields)
 unfoldable pub lineOf : ℕ → Form → List ℕ
 lineOf w f = headOf w f ++ newline ∷ []
 
+-- the first line where nothing is given, or an item's
+abbrev pub lineAt : ℕ → Given → List ℕ
+lineAt w Nothing = lineOf w (opening w)
+lineAt w (One i) = lineOf w (formOf i)
+
 -- one line after the other
 abbrev pub allBytes : ℕ → List Item → List ℕ
 allBytes w [] = []
 allBytes w (i ∷ is) = lineOf w (formOf i) ++ allBytes w is
+
+-- "its listing begins with `S` instead of `L`"
+abbrev pub openingS : ℕ → Form
+openingS w = form 0x53 (field.Number (pos w) ∷ [])

@@ -12,12 +12,16 @@ use Rattle.listing.specs.declared.Found.the-variants.{Nothing, Format, W
 use Rattle.listing.specs.declared.Scan.{Scan}
 use Rattle.listing.specs.declared.Scanner.{Scanner}
 
--- "the width of line numbers", and with it the most lines: "at most 9,999 lines"
+-- the most lines at a width of line numbers: "at most 9,999 lines" at 4, and "Raise the limit to 999,999"
+abbrev pub mostAt : ℕ → ℕ
+mostAt w = 10 ^ w - 1
+
+-- "New listings begin with width 6 and print six-digit line numbers"
 abbrev pub width : ℕ
-width = 4
+width = 6
 
 abbrev pub mostLines : ℕ
-mostLines = 10 ^ width - 1
+mostLines = mostAt width
 
 -- what is found on the line behind n others: "`F` letter first, then `B` decimal byte, `X` (256), `Q` (257)"
 abbrev pub onLine : ℕ → Line → Found
@@ -25,9 +29,9 @@ onLine n line.Bad = Bad (n + 1)
 onLine n (line.Format f) = cond (eqb n 0) (Format f) (Bad (n + 1))
 onLine n (line.Word w) = cond (eqb n 0) (Bad (n + 1)) (Word (n + 1) w)
 
--- "line 10,000 gives `E` and `over`"
-unfoldable pub lineIn : ℕ → Line → Found
-lineIn n l = cond (leb mostLines n) Over (onLine n l)
+-- "line 1,000,000 gives `E` and `over`", and at any width the first whose number it has no place for
+unfoldable pub lineIn : ℕ → ℕ → Line → Found
+lineIn w n l = cond (leb (mostAt w) n) Over (onLine n l)
 
 -- "A bad line gives `E` and its number and ends"
 abbrev pub ends : Found → Bool
@@ -43,13 +47,13 @@ abbrev pub endIn : ℕ → Found
 endIn n = cond (eqb n 0) (Bad 1) End
 
 -- what is found on the lines behind n others, as far as it goes
-unfoldable pub foundIn : ℕ → List (List ℕ) → List Found
-foundIn n [] = endIn n ∷ []
-foundIn n (l ∷ ls) = lineIn n (saidBy l) ∷ cond (ends (lineIn n (saidBy l))) [] (foundIn (n + 1) ls)
+unfoldable pub foundIn : ℕ → ℕ → List (List ℕ) → List Found
+foundIn w n [] = endIn n ∷ []
+foundIn w n (l ∷ ls) = lineIn w n (saidBy l) ∷ cond (ends (lineIn w n (saidBy l))) [] (foundIn w (n + 1) ls)
 
 -- what is found in an input: its format, numbered words, and how it ends
-abbrev pub recordingOf : List ℕ → List Found
-recordingOf input = foundIn 0 (linesIn input)
+abbrev pub recordingOf : ℕ → List ℕ → List Found
+recordingOf w input = foundIn w 0 (linesIn input)
 
 -- a scanner at the start of a line, behind n others, and what it found
 abbrev pub scan : ℕ → Bool → Found → Scan
@@ -69,7 +73,7 @@ passing n f = scan (cond (ends f) n (n + 1)) (ends f) f
 
 -- a whole line: nothing is found after the end
 unfoldable pub takenOf : Scanner → Line → Scan
-takenOf s l = cond (s .ended) (scan (s .line) true Nothing) (passing (s .line) (lineIn (s .line) l))
+takenOf s l = cond (s .ended) (scan (s .line) true Nothing) (passing (s .line) (lineIn width (s .line) l))
 
 -- a byte more of the unfinished line
 abbrev pub more : Scanner → ℕ → Scan

@@ -11,6 +11,7 @@ use crate::Lister;
 use crate::Scan;
 use crate::Scanner;
 use crate::Turn;
+use crate::WIDTH;
 use crate::items;
 use crate::lines;
 use crate::printing;
@@ -141,7 +142,7 @@ impl Lister {
     {
         let scanner = self.scanner;
         if (scanner.line == 0) & (scanner.count == 0) & !scanner.ended {
-            return printing::opening();
+            return printing::opening(WIDTH);
         }
         Text::none()
     }
@@ -161,7 +162,7 @@ impl Lister {
                 scanner: scanner,
                 reader: next,
             },
-            text: printing::printed(front, given),
+            text: printing::printed(front, WIDTH, given),
         }
     }
 

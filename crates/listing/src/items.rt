@@ -42,7 +42,7 @@ fn sum(a: i16, b: i16) -> i64
     a as i64 + b as i64
 }
 
-fn report(letter: u8, n: u32, p: Report) -> Item
+pub(crate) fn report(letter: u8, n: u32, p: Report) -> Item
     ensures { λ r. ⌜ r ≡ reportItem letter n p ⌝ }
 {
     let x1 = p.x1;

@@ -1,5 +1,6 @@
 // The listing of a recording: a lister that is fed the input in pieces of any size. The scanner finds numbered words in the input (lines, scanning),
 // the reader makes items of them (items), and the items are printed (printing).
+ghost use Rattle.listing.specs.Promises.{SalvagePromise};
 use reader::Reader;
 use text::Text;
 
@@ -8,9 +9,10 @@ mod items;
 mod lines;
 mod printing;
 mod scanning;
+mod shown;
 
 // The width of line numbers.
-pub(crate) const WIDTH: usize = 4;
+pub(crate) const WIDTH: u8 = 6;
 
 // What a line says.
 pub(crate) enum Line {
@@ -28,7 +30,7 @@ pub struct Scanner {
 }
 
 // What is found in a recording: its format; the number of a line and its word; the number of a bad line; a line too many; and its end.
-pub(crate) enum Found {
+pub enum Found {
     Nothing,
     Format(u8),
     Word(u32, u16),
@@ -38,19 +40,19 @@ pub(crate) enum Found {
 }
 
 // A scanner, and what it found.
-pub(crate) struct Scan {
+pub struct Scan {
     pub next: Scanner,
     pub found: Found,
 }
 
 // The middle button, which is not known in V.
-pub(crate) enum Middle {
+pub enum Middle {
     Up,
     Down,
     Unknown,
 }
 
-pub(crate) struct Buttons {
+pub struct Buttons {
     pub left: bool,
     pub middle: Middle,
     pub right: bool,
@@ -58,7 +60,7 @@ pub(crate) struct Buttons {
 
 // What a line of the listing shows, by its letter: D, a line and the bytes dropped; R, a line, the buttons, x and y; H, the bytes kept; E, a bad
 // line or `over`.
-pub(crate) enum Item {
+pub enum Item {
     D(u32, u16),
     R(u32, Buttons, i64, i64),
     H(u16),
@@ -67,7 +69,7 @@ pub(crate) enum Item {
 }
 
 // What is given: nothing, or an item.
-pub(crate) enum Given {
+pub enum Given {
     Nothing,
     One(Item),
 }
@@ -79,7 +81,7 @@ pub(crate) struct Gave {
 }
 
 // A field of a line: the number of a line, a number, buttons, or `over`.
-pub(crate) enum Field {
+pub enum Field {
     Line(u32),
     Number(i64),
     Pressed(Buttons),
@@ -111,4 +113,11 @@ pub(crate) struct Turn {
 pub(crate) struct Front {
     pub taken: usize,
     pub turn: Turn,
+}
+
+// The first line of a salvage: `S` and the width of line numbers.
+pub fn salvage_opening() -> Text
+    ensures { λ r. ⌜ SalvagePromise r ⌝ }
+{
+    printing::opening_s()
 }

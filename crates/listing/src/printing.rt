@@ -5,7 +5,8 @@ ghost use Rattle.text.specs.Growth.{grownBy, textOf};
 ghost use Rattle.listing.specs.Lines.{tab};
 ghost use Rattle.listing.specs.Scanning.{width};
 ghost use Rattle.listing.specs.Items.{itemsIn};
-ghost use Rattle.listing.specs.Printing.{pressed, middle, three, over, fieldOf, formOf, headOf, lineOf, opening, allBytes};
+ghost use Rattle.listing.specs.Promises.{LinePromise};
+ghost use Rattle.listing.specs.Printing.{pressed, middle, three, over, fieldOf, formOf, headOf, lineOf, opening, openingS, allBytes};
 use crate::Buttons;
 use crate::Field;
 use crate::Given;
@@ -50,13 +51,13 @@ fn over(front: Text) -> Text
     front.with(b'o').with(b'v').with(b'e').with(b'r')
 }
 
-// A field behind a tab.
-fn field(front: Text, field: Field) -> Text
+// A field behind a tab, line numbers at a width.
+fn field(front: Text, width: u8, field: Field) -> Text
     ensures { λ r. ⌜ r ≡ grownBy front (tab ∷ fieldOf width field) ⌝ }
 {
     let behind = front.with(b'\t');
     match field {
-        Field::Line(n) => behind.decimal(WIDTH, n as i64),
+        Field::Line(n) => behind.decimal(width as usize, n as i64),
         Field::Number(x) => behind.decimal(PLAIN, x),
         Field::Pressed(buttons) => three(behind, buttons),
         Field::Over => over(behind),
@@ -64,41 +65,72 @@ fn field(front: Text, field: Field) -> Text
 }
 
 // A letter and the first field of its line.
-fn letter(front: Text, letter: u8, first: Field) -> Text
+fn letter(front: Text, width: u8, letter: u8, first: Field) -> Text
     ensures { λ r. ⌜ r ≡ grownBy front (letter ∷ tab ∷ fieldOf width first) ⌝ }
 {
-    field(front.with(letter), first)
+    field(front.with(letter), width, first)
 }
 
 // The letter and the fields of an item.
-fn fields(front: Text, item: Item) -> Text
+fn fields(front: Text, width: u8, item: Item) -> Text
     ensures { λ r. ⌜ r ≡ grownBy front (headOf width (formOf item)) ⌝ }
 {
     match item {
-        Item::D(n, k) => field(letter(front, b'D', Field::Line(n)), Field::Number(k as i64)),
+        Item::D(n, k) => field(
+            letter(front, width, b'D', Field::Line(n)),
+            width,
+            Field::Number(k as i64),
+        ),
         Item::R(n, buttons, x, y) => {
-            let pressed = field(letter(front, b'R', Field::Line(n)), Field::Pressed(buttons));
-            field(field(pressed, Field::Number(x)), Field::Number(y))
+            let pressed = field(
+                letter(front, width, b'R', Field::Line(n)),
+                width,
+                Field::Pressed(buttons),
+            );
+            field(
+                field(pressed, width, Field::Number(x)),
+                width,
+                Field::Number(y),
+            )
         }
-        Item::H(k) => letter(front, b'H', Field::Number(k as i64)),
-        Item::E(n) => letter(front, b'E', Field::Line(n)),
-        Item::Over => letter(front, b'E', Field::Over),
+        Item::H(k) => letter(front, width, b'H', Field::Number(k as i64)),
+        Item::E(n) => letter(front, width, b'E', Field::Line(n)),
+        Item::Over => letter(front, width, b'E', Field::Over),
     }
 }
 
 // The line of what is given, if anything.
-pub(crate) fn printed(front: Text, given: Given) -> Text
+pub(crate) fn printed(front: Text, width: u8, given: Given) -> Text
     ensures { λ r. ⌜ r ≡ grownBy front (allBytes width (itemsIn given)) ⌝ }
 {
     match given {
         Given::Nothing => front,
-        Given::One(item) => fields(front, item).with(b'\n'),
+        Given::One(item) => fields(front, width, item).with(b'\n'),
     }
 }
 
 // The line that is always printed first.
-pub(crate) fn opening() -> Text
+pub(crate) fn opening(width: u8) -> Text
     ensures { λ r. ⌜ r ≡ textOf (lineOf width (opening width)) ⌝ }
 {
-    letter(Text::none(), b'L', Field::Number(WIDTH as i64)).with(b'\n')
+    letter(Text::none(), width, b'L', Field::Number(width as i64)).with(b'\n')
+}
+
+impl Given {
+    // A line of a listing at a width: the first where nothing is given, or an item's.
+    pub fn line(self, width: u8) -> Text
+        ensures { λ r. ⌜ LinePromise self width r ⌝ }
+    {
+        match self {
+            Given::Nothing => opening(width),
+            Given::One(item) => fields(Text::none(), width, item).with(b'\n'),
+        }
+    }
+}
+
+// The first line of a salvage.
+pub(crate) fn opening_s() -> Text
+    ensures { λ r. ⌜ r ≡ textOf (lineOf width (openingS width)) ⌝ }
+{
+    letter(Text::none(), WIDTH, b'S', Field::Number(WIDTH as i64)).with(b'\n')
 }

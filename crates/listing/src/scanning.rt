@@ -2,7 +2,8 @@
 ghost use mathlib.Core.Path.{_≡_};
 ghost use Prim.Native.Nat.{_<_};
 ghost use Rattle.listing.specs.Lines.{saidBy};
-ghost use Rattle.listing.specs.Scanning.{mostLines, ends, onLine, lineIn, scan, unfinished, takenOf, scannedByte, closedOf, endOf, good};
+ghost use Rattle.listing.specs.Scanning.{width, mostLines, ends, onLine, lineIn, scan, unfinished, takenOf, good};
+ghost use Rattle.listing.specs.Promises.{ByteScanPromise, ClosedScanPromise, EndScanPromise};
 use crate::Found;
 use crate::Line;
 use crate::Scan;
@@ -15,7 +16,7 @@ fn most_lines() -> u32
     ensures { λ r. ⌜ r ≡ mostLines ⌝ }
 {
     let tens = [1u32, 10, 100, 1_000, 10_000, 100_000, 1_000_000];
-    tens[WIDTH] - 1
+    tens[WIDTH as usize] - 1
 }
 
 // Whether nothing is found behind it.
@@ -54,7 +55,7 @@ fn on_line(n: u32, line: Line) -> Found
 
 // The same, and no line too many.
 fn line_in(n: u32, line: Line) -> Found
-    ensures { λ r. ⌜ r ≡ lineIn n line ⌝ }
+    ensures { λ r. ⌜ r ≡ lineIn width n line ⌝ }
 {
     if n >= most_lines() {
         return Found::Over;
@@ -108,8 +109,8 @@ impl Scanner {
     }
 
     // One byte: a newline ends the line, and a sixth byte makes it bad.
-    pub(crate) fn byte(self, b: u8) -> Scan
-        ensures { λ r. ⌜ r ≡ scannedByte self b ⌝ }
+    pub fn byte(self, b: u8) -> Scan
+        ensures { λ r. ⌜ ByteScanPromise self b r ⌝ }
     {
         if b == b'\n' {
             return self.taken(self.says());
@@ -132,8 +133,8 @@ impl Scanner {
     }
 
     // The last line, which may lack its newline.
-    pub(crate) fn closed(self) -> Scan
-        ensures { λ r. ⌜ r ≡ closedOf self ⌝ }
+    pub fn closed(self) -> Scan
+        ensures { λ r. ⌜ ClosedScanPromise self r ⌝ }
     {
         if self.count == 0 {
             return Scan {
@@ -145,8 +146,8 @@ impl Scanner {
     }
 
     // The end of the input.
-    pub(crate) fn end(self) -> Scan
-        ensures { λ r. ⌜ r ≡ endOf self ⌝ }
+    pub fn end(self) -> Scan
+        ensures { λ r. ⌜ EndScanPromise self r ⌝ }
     {
         if self.ended {
             return at_line(self.line, true, Found::Nothing);

@@ -14,6 +14,7 @@ use Rattle.numbers.proofs.Tested.{holds}
 use Rattle.wire.specs.Line.{namedBy, sizeOf, sizeBy, known}
 use Rattle.wire.specs.Places.{fitsAt, fitsBy, valid}
 use Rattle.wire.specs.Reading.{reportOf, reportBy, settledBy}
+use Rattle.wire.specs.Holds.{accepted}
 use Rattle.wire.specs.Numbers.{success}
 use Rattle.wire.specs.Encoder.{Encoding, refusalOf, lengthOf, encodeIn}
 use Rattle.wire.specs.Promises.{EncodePromise}
@@ -107,6 +108,21 @@ module _ (r : Reader) (b : ℕ) (p : Report) (f : Format) (g : good r ≡ true) 
   unfolding settledBy
   encodes buffer h =
       rw report-is (accepts f (reportOf f bytes) buffer (codec.read-accepted f bytes bytes-valid) h ∙ rw (named, codec.back f bytes bytes-valid))
+
+-- a report that a good reader hands out is that of valid bytes, and so one that the format holds
+pub record Reported (f : Format) (p : Report) : Type 0 where
+  pub of-bytes : List ℕ
+  pub fit : valid f of-bytes ≡ true
+  pub stands-for : p ≡ reportOf f of-bytes
+
+pub reported : (r : Reader) (w : ℕ) (p : Report) (f : Format) → good r ≡ true → namedBy (r .format) ≡ Known f → wordOf r w .answer ≡ answer.Report p → Reported f p
+reported r w p f g named a =
+    let b = entered (r .format) w in
+    let d = finished r w p a in
+    record { of-bytes = bytes r b p f g named d; fit = bytes-valid r b p f g named d; stands-for = report-is r b p f g named d }
+
+pub reported-accepted : {f : Format} {p : Report} → Reported f p → accepted f p ≡ true
+reported-accepted {f} h = rw (h .stands-for) (codec.read-accepted f (h .of-bytes) (h .fit))
 
 pub back : (r : Reader) (w : ℕ) (s : Read) (p : Report) (before after : List ℕ) (e : Encoded)
     → good r ≡ true

@@ -24,7 +24,8 @@ pub record Within (r : Reader) (words : List ℕ) (out : List ℤ) (a : Reading)
   pub room : 5 * a .reports ≤ length out
   pub few : a .dropped + a .next .count ≤ a .taken + r .count
 
-one-byte : (w : ℕ) → byteIn w ≤ 1
+-- a word brings one byte at most
+pub one-byte : (w : ℕ) → byteIn w ≤ 1
 one-byte w = cases (λ n. n ≤ 1) (isByte w) (λ _. omega arith) (λ _. omega arith)
 
 pub line-within : (words : List ℕ) (r : Reader) (out : List ℤ) → Within r words out (lineOf r words out .reading)

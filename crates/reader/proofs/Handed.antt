@@ -48,7 +48,7 @@ same-reports (frame.report p ∷ l) = ap (λ (x : List Report). p ∷ x) (same-r
 same-reports (frame.dropped k ∷ l) = same-reports l
 
 -- an answer that is a report stands behind the reports of the answers before it
-found-at : (l : List Answer) (i : ℕ) (p : Report) → getD l i answer.Nothing ≡ answer.Report p → handedOut l ≡ handedOut (take i l) ++ (p ∷ handedOut (drop (suc i) l))
+pub found-at : (l : List Answer) (i : ℕ) (p : Report) → getD l i answer.Nothing ≡ answer.Report p → handedOut l ≡ handedOut (take i l) ++ (p ∷ handedOut (drop (suc i) l))
 found-at [] i p e = cc
 found-at (a ∷ l) zero p e = rw e
 found-at (answer.Nothing ∷ l) (suc i) p e = found-at l i p e
@@ -56,15 +56,15 @@ found-at (answer.Report q ∷ l) (suc i) p e = ap (λ (x : List Report). q ∷ x
 found-at (answer.Dropped k ∷ l) (suc i) p e = found-at l i p e
 
 -- and so do its numbers
-numbers-length : (l : List Report) → length (numbers l) ≡ 5 * length l
+pub numbers-length : (l : List Report) → length (numbers l) ≡ 5 * length l
 numbers-length [] = refl
 numbers-length (p ∷ l) = omega (arith, numbers-length l)
 
-numbers-append : (l m : List Report) → numbers (l ++ m) ≡ numbers l ++ numbers m
+pub numbers-append : (l m : List Report) → numbers (l ++ m) ≡ numbers l ++ numbers m
 numbers-append [] m = refl
 numbers-append (p ∷ l) m = ap (λ (x : List ℤ). fiveOf p ++ x) (numbers-append l m)
 
-numbers-at : (l : List Report) (p : Report) (m : List Report) (rest : List ℤ) → take 5 (drop (5 * length l) (numbers (l ++ (p ∷ m)) ++ rest)) ≡ fiveOf p
+pub numbers-at : (l : List Report) (p : Report) (m : List Report) (rest : List ℤ) → take 5 (drop (5 * length l) (numbers (l ++ (p ∷ m)) ++ rest)) ≡ fiveOf p
 numbers-at l p m rest =
     rw (numbers-append l (p ∷ m), append-assoc (numbers l), drop-at (numbers l) (fiveOf p ++ (numbers m ++ rest)) (5 * length l) (numbers-length l))
 

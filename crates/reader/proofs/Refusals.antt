@@ -45,7 +45,7 @@ unfolding readOf
 bad-state-read r words out a after g e = rw (e, g)
 
 -- 4: a line word above 257, to a good reader
-above : (r : Reader) (w : ℕ) → silence < w → wordOf r w ≡ refusing badWord r
+pub above : (r : Reader) (w : ℕ) → silence < w → wordOf r w ≡ refusing badWord r
 unfolding wordOf
 above r w h =
     simp

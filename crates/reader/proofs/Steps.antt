@@ -69,7 +69,7 @@ word-by-word r words out written steps a g l p room e =
     rw (i, ← numbers-written all, ← five-each all, ← length-map (stepsOf r words) (λ (s : Read). s .answer)) (e ∙ read-line r words out g ∙ ap (λ (f : Ran Reader Answer). counted f out) (line-done words r (length out) g l (rw i at room)))
 
 -- a step for each word
-step-each : (r : Reader) (words : List ℕ) → length (stepsOf r words) ≡ length words
+pub step-each : (r : Reader) (words : List ℕ) → length (stepsOf r words) ≡ length words
 unfolding stepsOf
 step-each r [] = refl
 step-each r (w ∷ words) = ap suc (step-each _ words)

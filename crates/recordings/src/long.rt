@@ -1,41 +1,62 @@
-// Recordings of as many lines as there may be, and of more.
-ghost use Prim.Native.Nat.{_≤_};
-ghost use lib.ListN.{length};
-use crate::cuts::case;
+// Recordings of as many lines as there may be, and of more. All but the last lines are fed in blocks, once.
+use crate::cuts::case_behind;
 use crate::making::append;
+use libc::STDOUT_FILENO;
+use listing::Lister;
 
-// The number of the last line but one.
-const BEFORE_LAST: u32 = 9998;
+// The 999,997 silences between the first line and line 999,999: so many blocks of so many.
+const BLOCKS: usize = 757;
 
-// A format, and silences up to the last line but one.
-fn silences(out: &mut [u8]) -> usize
-    ensures { λ r. ⌜ r ≤ length (now (out .exit)) ⌝ }
-{
-    let mut n = append(out, 0, b"F\tS\n");
-    let mut line: u32 = 1;
-    while line < BEFORE_LAST {
+const BLOCK: usize = 1321;
+
+// A block of silences.
+fn silences(out: &mut [u8]) {
+    let mut n = 0;
+    let mut i: usize = 0;
+    while i < BLOCK {
         n = append(out, n, b"Q\n");
-        line += 1;
+        i += 1;
     }
-    n
 }
 
-// A case whose recording ends in these bytes, of which the first are line 9,999.
-fn ending(title: &[u8], last: &[u8]) {
-    let mut recording = [0u8; 20480];
-    let n = silences(&mut recording);
-    let end = append(&mut recording, n, last);
-    case(title, &recording[..end]);
+// The lister behind a piece.
+fn fed(lister: Lister, piece: &[u8]) -> Lister {
+    let mut out = [0u8; 40];
+    let listed = lister.feed(piece, &mut out);
+    listed.next
+}
+
+// The lister behind a format and silences up to the last line but one.
+fn up_to_last() -> Lister {
+    let mut block = [0u8; 2 * BLOCK];
+    silences(&mut block);
+    let mut lister = fed(Lister::fresh(), b"F\tS\n");
+    let mut i: usize = 0;
+    while i < BLOCKS {
+        lister = fed(lister, &block);
+        i += 1;
+    }
+    lister
 }
 
 // The last line that there may be, and the one behind it.
 pub(crate) fn last_lines() {
-    ending(b"9,999 lines", b"B\t5\n");
-    ending(b"9,999 lines, the last without its newline", b"B\t5");
-    ending(b"line 9,999 is bad", b"Z\n");
-    ending(b"line 9,999 is bad, and there is a line 10,000", b"Z\nQ\n");
-    ending(b"line 10,000 is good", b"B\t5\nQ\n");
-    ending(b"line 10,000 is good and has no newline", b"B\t5\nQ");
-    ending(b"line 10,000 is blank", b"B\t5\n\n");
-    ending(b"line 10,000 is bad", b"B\t5\nZ\n");
+    io::write_all(STDOUT_FILENO, b"# 999,998 lines, and then\n");
+    let lister = up_to_last();
+    case_behind(b"line 999,999", lister, b"B\t5\n");
+    case_behind(b"line 999,999 without its newline", lister, b"B\t5");
+    case_behind(b"line 999,999 is bad", lister, b"Z\n");
+    case_behind(
+        b"line 999,999 is bad, and there is a line 1,000,000",
+        lister,
+        b"Z\nQ\n",
+    );
+    case_behind(b"line 1,000,000 is good", lister, b"B\t5\nQ\n");
+    case_behind(
+        b"line 1,000,000 is good and has no newline",
+        lister,
+        b"B\t5\nQ",
+    );
+    case_behind(b"line 1,000,000 is blank", lister, b"B\t5\n\n");
+    case_behind(b"line 1,000,000 is bad", lister, b"B\t5\nZ\n");
 }

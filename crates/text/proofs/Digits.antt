@@ -33,7 +33,7 @@ unfolding digitsOf
 one-digit t r s zero n d h e f g = absurd (h refl)
 one-digit t r s (suc places) n d h e f g = let z : suc places - 1 ≡ places = omega arith in g ∙ rw (e, z, f) (both t (digitsOf places (n / 10)) (digitOf n ∷ []))
 
-digits-long : (places n : ℕ) → length (digitsOf places n) ≡ places
+pub digits-long : (places n : ℕ) → length (digitsOf places n) ≡ places
 unfolding digitsOf
 digits-long zero n = refl
 digits-long (suc places) n = length-append (digitsOf places (n / 10)) _ ∙ omega (arith, digits-long places (n / 10))
@@ -143,7 +143,7 @@ unfolding digitsOf
 digits-back ds h = rw zero-add at (digits-value ds 0 0 h)
 
 -- at a width there are places enough, and no more than the width or than the number needs
-places-hold : (width n : ℕ) → n < 10 ^ placesOf width n
+pub places-hold : (width n : ℕ) → n < 10 ^ placesOf width n
 unfolding placesOf
 places-hold width n =
     cases (λ (q : ℕ). n < 10 ^ q) (ltb (sizeOf n) width) (λ e. size-holds n width n (omega arith) (omega (arith, ltb-true (sizeOf n) width e)))
@@ -172,7 +172,7 @@ first-byte [] h = absurd (h refl)
 first-byte (c ∷ ds) h = refl
 
 -- digits are digits, and none is a minus
-all-digits : (p n : ℕ) → allDigits (digitsOf p n) ≡ true
+pub all-digits : (p n : ℕ) → allDigits (digitsOf p n) ≡ true
 unfolding digitsOf
 all-digits zero n = refl
 all-digits (suc p) n = and-digit (digitsOf p (n / 10)) (all-digits p (n / 10)) (rw (le-leb 48 (digitOf n) (omega arith), le-leb (digitOf n) 57 (omega arith)))

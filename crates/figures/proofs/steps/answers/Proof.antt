@@ -6,10 +6,10 @@ use Rattle.figures.proofs.steps.answers.Statement.{statement}
 use Rattle.figures.proofs.steps.answers.Tie as tie
 
 abbrev Inv-loop : tie.InvT-loop
-Inv-loop letter words next₀ i₀ t6 t7 next i = i ≤ length words
+Inv-loop letter words next₀ i₀ t6 next i = i ≤ length words
 
 abbrev μ-loop : tie.MeasureT-loop
-μ-loop letter words next₀ i₀ t6 t7 next i = length words - i
+μ-loop letter words next₀ i₀ t6 next i = length words - i
 
 fresh-requires : tie.Need-fresh-requires Inv-loop μ-loop
 fresh-requires c κs = search needs
@@ -44,11 +44,8 @@ say-requires c κs = search needs
 small-requires : tie.Need-small-requires Inv-loop μ-loop
 small-requires c κs = search needs
 
-slice-aggregate-say-2 : tie.Need-slice-aggregate-say-2 Inv-loop μ-loop
-slice-aggregate-say-2 c = search needs
-
-say-requires-2 : tie.Need-say-requires-2 Inv-loop μ-loop
-say-requires-2 c κs = search needs
+judged-requires : tie.Need-judged-requires Inv-loop μ-loop
+judged-requires c κs = search needs
 
 returns : tie.Need-returns Inv-loop μ-loop
 returns c = search needs
@@ -70,6 +67,5 @@ answers-spec =
     slice-aggregate-say
     say-requires
     small-requires
-    slice-aggregate-say-2
-    say-requires-2
+    judged-requires
     returns)

@@ -1,5 +1,8 @@
 -- The line that is always printed first.
 use borrow.Author.Needs.{needs}
+use native.Mathlib.Omega.{arith}
+use mir.Syntax.{w64}
+use mir.Facts.{toZ-pos}
 use Rattle.listing.specs.Printing.{lineOf}
 use Rattle.listing.proofs.Grown.{grown-append}
 use Rattle.listing.proofs.printing.opening.Statement.{statement}
@@ -7,7 +10,8 @@ use Rattle.listing.proofs.printing.opening.Tie as tie
 
 returns : tie.Need-returns
 unfolding lineOf
-returns c = simp (grown-append, c .with .ensures, c .before .letter .ensures, c .before .before .none .ensures)
+returns c = let s = c .before .before .before in
+    simp (grown-append, toZ-pos w64 {n = s .args .width} (omega arith), c .with .ensures, c .before .letter .ensures, c .before .before .none .ensures)
 
 pub opening-spec : {M : Type 1} → statement M
 opening-spec =

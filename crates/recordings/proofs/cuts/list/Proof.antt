@@ -15,9 +15,6 @@ Inv-loop recording cut out₀ places lister₀ taken₀ written₀ out lister ta
 abbrev μ-loop : tie.MeasureT-loop
 μ-loop recording cut out₀ places lister₀ taken₀ written₀ out lister taken written = length recording - taken
 
-fresh-requires : tie.Need-fresh-requires Inv-loop μ-loop
-fresh-requires c κs = search needs
-
 loop-holds : tie.Need-loop-holds Inv-loop μ-loop
 loop-holds c = search needs
 
@@ -49,10 +46,10 @@ returns : tie.Need-returns Inv-loop μ-loop
 returns c = counts _ _ (search needs)
 
 add-taken : tie.Need-add-taken Inv-loop μ-loop
-add-taken c = omega (arith, c .before .before .before .before .before .before .before .before .before .before .before .before .before .before .good)
+add-taken c = omega (arith, c .before .before .before .before .before .before .before .before .before .before .before .before .before .good)
 
 add-written : tie.Need-add-written Inv-loop μ-loop
-add-written c = omega (arith, c .before .before .before .before .before .before .before .before .before .before .before .before .before .before .before .good)
+add-written c = omega (arith, c .before .before .before .before .before .before .before .before .before .before .before .before .before .before .good)
 
 loop-less : tie.Need-loop-less Inv-loop μ-loop
 loop-less c = search needs
@@ -87,7 +84,6 @@ list-spec =
     (tie.spec
     Inv-loop
     μ-loop
-    fresh-requires
     loop-holds
     sub-feed
     part-feed-start

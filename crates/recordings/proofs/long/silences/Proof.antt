@@ -1,4 +1,4 @@
--- The lines left fall with each silence.
+-- The silences left fall with each one.
 use Prim.Native.Nat.{_-_, _≤_}
 use mathlib.Core.Path.{_≡_}
 use borrow.Author.Needs.{needs}
@@ -7,10 +7,10 @@ use Rattle.recordings.proofs.long.silences.Statement.{statement}
 use Rattle.recordings.proofs.long.silences.Tie as tie
 
 abbrev Inv-loop : tie.InvT-loop
-Inv-loop out₀ n₀ line₀ t5 out n line = (length out ≡ length out₀) × (n ≤ length out)
+Inv-loop out₀ n₀ i₀ t4 out n i = (length out ≡ length out₀) × (n ≤ length out)
 
 abbrev μ-loop : tie.MeasureT-loop
-μ-loop out₀ n₀ line₀ t5 out n line = 9998 - line
+μ-loop out₀ n₀ i₀ t4 out n i = 1321 - i
 
 slice-aggregate-append : tie.Need-slice-aggregate-append Inv-loop μ-loop
 slice-aggregate-append c = search needs
@@ -21,14 +21,8 @@ append-requires c κs = search needs
 loop-holds : tie.Need-loop-holds Inv-loop μ-loop
 loop-holds c = search needs
 
-slice-aggregate-append-2 : tie.Need-slice-aggregate-append-2 Inv-loop μ-loop
-slice-aggregate-append-2 c = search needs
-
-append-requires-2 : tie.Need-append-requires-2 Inv-loop μ-loop
-append-requires-2 c κs = search needs
-
-add-line : tie.Need-add-line Inv-loop μ-loop
-add-line c = search needs
+add-i : tie.Need-add-i Inv-loop μ-loop
+add-i c = search needs
 
 loop-less : tie.Need-loop-less Inv-loop μ-loop
 loop-less c = search needs
@@ -48,12 +42,10 @@ silences-spec =
     (tie.spec
     Inv-loop
     μ-loop
+    loop-holds
     slice-aggregate-append
     append-requires
-    loop-holds
-    slice-aggregate-append-2
-    append-requires-2
-    add-line
+    add-i
     loop-less
     loop-again
     same-length

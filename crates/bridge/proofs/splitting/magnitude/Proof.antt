@@ -1,0 +1,35 @@
+-- Either sign's arm gives the distance from zero.
+use borrow.Author.Needs.{needs}
+use lib.IntN.{pos, natAbs, negℤ, _-ℤ_}
+use mathlib.Core.Path.{_≡_, ap, _∙_}
+use mir.Facts.{toZ-ofZ}
+use mir.Syntax.{w32}
+use mir.Val.{toZ, ofZ}
+use native.Mathlib.Omega.{arith}
+use Rattle.numbers.proofs.Machine.{minus-fits, minus-kept}
+use Rattle.numbers.proofs.Tested.{holds}
+use Rattle.numbers.proofs.Twos.{neg-magnitude, below-neg, above-nonNeg, magnitude-near}
+use Rattle.bridge.proofs.splitting.magnitude.Statement.{statement}
+use Rattle.bridge.proofs.splitting.magnitude.Tie as tie
+
+-- the negated movement, as the machine has it
+negated : (c : tie.Then1) → toZ w32 (ofZ w32 (pos 0 -ℤ toZ w32 (ofZ w32 (c .before .args .d)))) ≡ negℤ (c .before .args .d)
+negated c = rw (toZ-ofZ (c .before .fits .d)) (minus-kept w32 (c .before .args .d) (omega arith))
+
+sub-result : tie.Need-sub-result
+sub-result c = rw (toZ-ofZ (c .before .fits .d)) (minus-fits w32 (c .before .args .d) (omega arith))
+
+cast-result : tie.Need-cast-result
+cast-result c = rw (negated c) (holds (below-neg (c .before .args .d) (rw (toZ-ofZ (c .before .fits .d)) at (c .if1 .taken))), record { fits = rw neg-magnitude (omega (arith, magnitude-near (c .before .args .d))) })
+
+cast-result-2 : tie.Need-cast-result-2
+cast-result-2 c = rw (toZ-ofZ (c .before .fits .d)) (holds (above-nonNeg (c .before .args .d) (rw (toZ-ofZ (c .before .fits .d)) at (c .if1 .left))), record { fits = omega (arith, magnitude-near (c .before .args .d)) })
+
+returns : tie.Need-returns
+returns c = ap natAbs (negated c) ∙ neg-magnitude (c .before .args .d)
+
+returns-2 : tie.Need-returns-2
+returns-2 c = search needs
+
+pub magnitude-spec : {M : Type 1} → statement M
+magnitude-spec = tie.close (tie.spec sub-result cast-result cast-result-2 returns returns-2)

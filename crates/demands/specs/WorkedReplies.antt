@@ -1,0 +1,104 @@
+-- Worked runs with replies: the widened demand 3 at small runs of the box, with the items, the passages and the replies computed. Lines on which a reply is broken, told
+-- again or loses a byte stand in crates/replies/proofs/Examples.antt.
+use mathlib.Core.Path.{_≡_, refl}
+use mathlib.Core.Bool.{true, false}
+use mathlib.Core.List.{List, [], _∷_, _++_}
+use native.Mathlib.Omega.{arith}
+use lib.IntN.{pos}
+use Rattle.numbers.specs.Signed.{minus}
+use Rattle.frames.specs.Passages.{Passage, silent, finished, nothing, none, gone}
+use Rattle.wire.specs.Line.{letterOf}
+use Rattle.wire.specs.Messages.{Message, reply, latchedIn, showingIn}
+use Rattle.wire.specs.declared.Format.{Format}
+use Rattle.wire.specs.declared.Format.the-variants.{Mm, FiveByte}
+use Rattle.ballbox.specs.Box.{freshBox}
+use Rattle.ballbox.specs.Commands.{letterf, lettert}
+use Rattle.ballbox.specs.declared.Event.{Event}
+use Rattle.ballbox.specs.declared.Event.the-variants.{Motion, Buttons, Host}
+use Rattle.history.specs.Runs.{answersTo}
+use Rattle.history.proofs.Permitted.{answer-permitted, answers-permitted}
+use Rattle.tellings.specs.Items.{Item, telling, asItems}
+use Rattle.tellings.specs.Lines.{HandsOut, HandsOutAt, TellsReplies, in-finished}
+use Rattle.tellings.specs.Runs.{onlyAsksOrTells, itemsGiven}
+use Rattle.replies.specs.declared.Asked.the-variants.{Command}
+use Rattle.replies.specs.declared.Reply.the-variants as told
+use Rattle.tellings.proofs.Computing as replies
+use Rattle.demands.specs.Computing.{computing}
+use Rattle.demands.specs.Demand3.{sent, stillGoing, from-then-on}
+use Rattle.demands.specs.Worked.{slots, setTo, moved, press, fast}
+use Rattle.demands.specs.Replies.{Run, replies-as-sent, exactly, unmarked}
+
+-- over events with commands that have a reply a fresh box set to f sends these items, which are these passages, and nothing is going at the end
+pub record Sends (f : Format) (events : List Event) (items : List Item) (passages : List (Passage Message)) : Type 0 where
+  pub asked : onlyAsksOrTells events ≡ true
+  pub line : itemsGiven events (answersTo (setTo f .next) events) ≡ items
+  pub is : sent (setTo f) events ≡ passages
+  pub ends : stillGoing (setTo f) events ≡ nothing
+
+run-of : {f : Format} {events : List Event} {items : List Item} {passages : List (Passage Message)}
+    → Sends f events items passages
+    → Run f freshBox (setTo f) events (answersTo (setTo f .next) events)
+unfolding computing
+run-of {f} {events} sends =
+    record {
+      good = refl;
+      awake = refl;
+      set = answer-permitted freshBox (Host (letterOf f));
+      asked = sends .asked;
+      permitted = answers-permitted (setTo f .next) events;
+    }
+
+-- U: `t` in the middle of a stream. A fast move, a character's time with nothing to send, `t` and its reply, and a press of the left button.
+abbrev eventsU : List Event
+eventsU = Motion (minus 123) (pos 0) ∷ slots 3 (Motion (minus 123) (pos 0) ∷ slots 3 (Host lettert ∷ slots 2 (Buttons 4 ∷ slots 5 [])))
+
+abbrev lettersU : Message
+lettersU = reply (0x55 ∷ 0x4F ∷ [])
+
+pub in-U : Sends FiveByte eventsU
+    (asItems (0x87 ∷ 0x85 ∷ 0x00 ∷ 0x85 ∷ 0x00 ∷ 257 ∷ []) ++ (telling (Command lettert) ∷ asItems (0x55 ∷ 0x4F ∷ 0x83 ∷ 0x00 ∷ 0x00 ∷ 0x00 ∷ 0x00 ∷ [])))
+    (finished (latchedIn FiveByte fast) ∷ silent ∷ finished lettersU ∷ finished (showingIn FiveByte press) ∷ [])
+unfolding computing replies.computing
+in-U = record { asked = refl; line = refl; is = refl; ends = refl }
+
+-- The first word is lost, so that the reader joins the report halfway; behind the silence it is told of `t`. The press is the answer to word 11, and the reply is told.
+abbrev behindU : List Item
+behindU = asItems (0x85 ∷ 0x00 ∷ 0x85 ∷ 0x00 ∷ 257 ∷ []) ++ (telling (Command lettert) ∷ asItems (0x55 ∷ 0x4F ∷ 0x83 ∷ 0x00 ∷ 0x00 ∷ 0x00 ∷ 0x00 ∷ []))
+
+pub unmarked-U : HandsOutAt FiveByte behindU 11 press
+unfolding computing replies.computing
+unmarked-U =
+    unmarked (run-of in-U) from-then-on [] (0x87 ∷ []) [] behindU (in-U .line) refl refl
+    (finished (latchedIn FiveByte fast) ∷ silent ∷ finished lettersU ∷ []) (record { format = FiveByte; report = press; shows = true }) [] (in-U .is) 11 refl
+    (finished lettersU ∷ []) (finished (latchedIn FiveByte fast) ∷ []) refl tt (omega arith)
+
+pub letters-U : TellsReplies FiveByte behindU (told.Letters 0x55 0x4F ∷ [])
+unfolding computing replies.computing
+letters-U = replies-as-sent (run-of in-U) from-then-on [] (0x87 ∷ []) [] behindU (in-U .line) refl refl
+
+-- S: a movement, `f` and its reply, and a press. The movement's report loses its second byte: the press is handed out, and the format is told.
+abbrev eventsS : List Event
+eventsS = Motion (pos 5) (minus 3) ∷ slots 3 (Host letterf ∷ slots 1 (Buttons 4 ∷ slots 3 []))
+
+abbrev codeS : Message
+codeS = reply (0x1A ∷ [])
+
+abbrev behindS : List Item
+behindS = asItems (0x03 ∷ []) ++ (telling (Command letterf) ∷ asItems (0x1A ∷ 0x9C ∷ 0x00 ∷ 0x00 ∷ []))
+
+pub in-S : Sends Mm eventsS
+    (asItems (0x90 ∷ 0x05 ∷ []) ++ behindS)
+    (finished (latchedIn Mm moved) ∷ finished codeS ∷ finished (showingIn Mm press) ∷ [])
+unfolding computing replies.computing
+in-S = record { asked = refl; line = refl; is = refl; ends = refl }
+
+pub exactly-S : HandsOut Mm (asItems (0x90 ∷ []) ++ behindS) (press ∷ [])
+unfolding computing replies.computing
+exactly-S =
+    exactly (run-of in-S) from-then-on (asItems (0x90 ∷ [])) (0x05 ∷ []) [] behindS (in-S .line) refl refl refl
+    (in-finished [] (finished codeS ∷ finished (showingIn Mm press) ∷ []) nothing (record { format = Mm; report = moved; shows = false }) (omega arith) (omega arith))
+    (gone none) (omega arith)
+
+pub code-S : TellsReplies Mm (asItems (0x90 ∷ []) ++ behindS) (told.Format 0x53 ∷ [])
+unfolding computing replies.computing
+code-S = replies-as-sent (run-of in-S) from-then-on (asItems (0x90 ∷ [])) (0x05 ∷ []) [] behindS (in-S .line) refl refl

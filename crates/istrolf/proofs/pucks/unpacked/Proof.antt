@@ -1,0 +1,10 @@
+-- The box unpacked.
+use borrow.Author.Needs.{needs}
+use Rattle.istrolf.proofs.pucks.unpacked.Statement.{statement}
+use Rattle.istrolf.proofs.pucks.unpacked.Tie as tie
+
+returns : tie.Need-returns
+returns c = rw (c .before .unpacked .ensures)
+
+pub unpacked-spec : {M : Type 1} → statement M
+unpacked-spec = tie.close (tie.spec (λ c κs. search needs) returns)

@@ -1,0 +1,14 @@
+-- The mark as a number.
+use borrow.Author.Needs.{needs}
+use Rattle.istrolf.proofs.Marks.{as-number}
+use Rattle.istrolf.proofs.salvages.packed.Statement.{statement}
+use Rattle.istrolf.proofs.salvages.packed.Tie as tie
+
+cast-t2 : tie.Need-cast-t2
+cast-t2 c = search needs
+
+returns : tie.Need-returns
+returns c = simp (as-number (c .before .args .told .whole))
+
+pub packed-spec : {M : Type 1} → statement M
+packed-spec = tie.close (tie.spec cast-t2 returns)

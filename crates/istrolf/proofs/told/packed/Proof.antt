@@ -1,0 +1,16 @@
+-- The report reader packed, and the number of the reply.
+use borrow.Author.Needs.{needs}
+use Rattle.istrolf.proofs.told.packed.Statement.{statement}
+use Rattle.istrolf.proofs.told.packed.Tie as tie
+
+packed-requires : tie.Need-packed-requires
+packed-requires c κs = search needs
+
+kind-number-requires : tie.Need-kind-number-requires
+kind-number-requires c κs = search needs
+
+returns : tie.Need-returns
+returns c = rw (c .before .packed .ensures, c .kind-number .ensures)
+
+pub packed-spec : {M : Type 1} → statement M
+packed-spec = tie.close (tie.spec packed-requires kind-number-requires returns)

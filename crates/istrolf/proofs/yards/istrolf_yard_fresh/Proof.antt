@@ -1,0 +1,16 @@
+-- The fresh check packed.
+use borrow.Author.Needs.{needs}
+use Rattle.istrolf.proofs.yards.istrolf_yard_fresh.Statement.{statement}
+use Rattle.istrolf.proofs.yards.istrolf_yard_fresh.Tie as tie
+
+fresh-requires : tie.Need-fresh-requires
+fresh-requires c κs = search needs
+
+packed-requires : tie.Need-packed-requires
+packed-requires c κs = search needs
+
+returns : tie.Need-returns
+returns c = rw (c .packed .ensures, c .before .fresh .ensures)
+
+pub istrolf-yard-fresh-spec : {M : Type 1} → statement M
+istrolf-yard-fresh-spec = tie.close (tie.spec fresh-requires packed-requires returns)

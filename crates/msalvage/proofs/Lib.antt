@@ -1,0 +1,2 @@
+-- What the proofs of the parts share.
+pub mod Shown

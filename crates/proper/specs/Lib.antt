@@ -1,0 +1,2 @@
+-- What a box of ours can send (Sends).
+pub mod Sends

@@ -1,0 +1,3 @@
+-- The device's runs (Runs) and their history (History).
+pub mod Runs
+pub mod History

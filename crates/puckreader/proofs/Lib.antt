@@ -1,0 +1,15 @@
+-- The laws of the reader of the VSXXX: what it keeps (Kept), what a word does (Word), what is counted (Counting), the long read's loop (Loop), its one answer (Permitted), good readers
+-- (Goodness), refusals (Refusals), long reads joined (Joining), what the reader of the frame does (Framed), there and back (There), what is handed out of a line (Handed) and wrong answers (Wrong).
+pub mod Kept
+pub mod Word
+pub mod Counting
+pub mod Loop
+pub mod Permitted
+pub mod Goodness
+pub mod Refusals
+pub mod Joining
+pub mod Framed
+pub mod Handed
+pub mod There
+pub mod Counts
+pub mod Wrong

@@ -1,0 +1,76 @@
+-- "Over many words": a line of words, word by word, and a lent slice; what is counted.
+use Prim.Native.Nat.{ℕ, _+_, _*_}
+use mathlib.Core.Path.{_≡_}
+use mathlib.Core.Bool.{true, cond}
+use mathlib.Core.List.{List, [], _∷_, _++_}
+use lib.ListN.{length}
+use lib.IntN.{ℤ}
+use Rattle.frames.specs.Words.{isByte}
+use Rattle.fold.specs.Fold.{Machine, ran, run}
+use Rattle.fold.specs.Counting.{Long, Counter, longRead, Stands}
+use Rattle.vsxxx.specs.Reports.{PuckReport, movement, self-test, sixOf, sizeOfReport}
+use Rattle.puckreader.specs.Rules.{wordOf}
+use Rattle.puckreader.specs.Good.{good}
+use Rattle.puckreader.specs.declared.PuckReader.{PuckReader}
+use Rattle.puckreader.specs.declared.PuckReading.{PuckReading}
+use Rattle.puckreader.specs.declared.PuckAnswer.{PuckAnswer}
+use Rattle.puckreader.specs.declared.PuckAnswer.the-variants.{Nothing, Movement, Test, Dropped}
+
+-- the reports of an answer, one or none, and of answers, one after the other
+abbrev pub reportOf : PuckAnswer → List PuckReport
+reportOf Nothing = []
+reportOf (Movement r) = movement r ∷ []
+reportOf (Test t) = self-test t ∷ []
+reportOf (Dropped k) = []
+
+abbrev pub handedOut : List PuckAnswer → List PuckReport
+handedOut [] = []
+handedOut (a ∷ answers) = reportOf a ++ handedOut answers
+
+-- "six numbers each"
+abbrev pub numbers : List PuckReport → List ℤ
+numbers [] = []
+numbers (p ∷ reports) = sixOf p ++ numbers reports
+
+-- what an answer counts: its reports, their bytes, and the bytes dropped
+abbrev pub reportsIn : PuckAnswer → ℕ
+reportsIn a = length (reportOf a)
+
+abbrev pub bytesReported : List PuckReport → ℕ
+bytesReported [] = 0
+bytesReported (p ∷ reports) = sizeOfReport p + bytesReported reports
+
+abbrev pub droppedIn : PuckAnswer → ℕ
+droppedIn Nothing = 0
+droppedIn (Movement r) = 0
+droppedIn (Test t) = 0
+droppedIn (Dropped k) = k
+
+-- "256 and 257 are never counted as bytes."
+abbrev pub byteIn : ℕ → ℕ
+byteIn w = cond (isByte w) 1 0
+
+unfoldable pub bytesIn : List ℕ → ℕ
+bytesIn [] = 0
+bytesIn (w ∷ words) = byteIn w + bytesIn words
+
+-- the reader as a machine over the words of a line, which counts reports, each of six numbers, and dropped bytes
+abbrev pub reads : Machine PuckReader PuckAnswer ℤ
+reads = record { refusal = λ r w. wordOf r w .refusal; next = λ r w. wordOf r w .next; answer = λ r w. wordOf r w .answer; writes = λ a. numbers (reportOf a) }
+
+abbrev pub counts : Counter PuckReader PuckAnswer ℤ
+counts = record { machine = reads; found = reportsIn; lost = droppedIn; width = 6 }
+
+-- what a long read gives back ("words taken, reports written, bytes dropped"), and every number of the lent slice after it
+abbrev pub whole : PuckReading → List ℤ → Long PuckReader ℤ
+whole a out = record { refusal = a .refusal; next = a .next; taken = a .taken; reports = a .reports; dropped = a .dropped; out = out }
+
+-- "It stops, with answer 0, before a word that would finish a report when fewer than" six "places are left."
+abbrev pub lineOf : PuckReader → List ℕ → List ℤ → Long PuckReader ℤ
+lineOf r words out = longRead counts r words out
+
+-- what is given back for words at the front of a line, by a reader that stays good; where no word is taken the line ends there
+pub record Begins (r : PuckReader) (words : List ℕ) (before : List ℤ) (t : PuckReading) (after : List ℤ) : Type 0 where
+  pub stands : Stands counts r words before (t .next) (t .taken) (6 * t .reports) (t .reports) (t .dropped) after
+  pub stops : t .taken ≡ 0 → run reads r words (length before) ≡ ran (t .refusal) r []
+  pub sound : good (t .next) ≡ true

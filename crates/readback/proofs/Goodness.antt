@@ -1,0 +1,136 @@
+-- Good readers: what one has, and that every line leaves it so.
+use Prim.Native.Nat.{ℕ, _+_, _≤_}
+use mathlib.Core.Path.{_≡_, refl, sym, _∙_, ap, subst}
+use mathlib.Core.Bool.{Bool, true, false, not, cond, _&&_, true≢false}
+use mathlib.Core.Logic.{_⊎_, inl, inr, ⊎-elim}
+use mathlib.Core.List.{List}
+use native.Mathlib.Omega.{arith}
+use lib.Dec.{ltb, leb, eqb}
+use borrow.Author.Tests.{ltb-true, leb-true, eqb-true, eqb-false, le-leb, eq-eqb, ne-eqb}
+use Rattle.numbers.proofs.Choices.{cases, both}
+use Rattle.numbers.proofs.Tested.{left, right}
+use Rattle.listing.specs.Scanning.{width, mostLines}
+use Rattle.listing.specs.declared.Item.{Item}
+use Rattle.listing.specs.declared.Item.the-variants as item
+use Rattle.listing.specs.declared.Given.{Given}
+use Rattle.listing.specs.declared.Given.the-variants.{Nothing, One}
+use Rattle.readback.specs.Items.{Small, itemIn, widthIn}
+use Rattle.readback.specs.Steps.{oldWidth, widthKnown, openedAt, passedBy, lastBehind, above, closes, faulty, opens, passes, said, stepOf, besides, fresh, good}
+use Rattle.readback.specs.declared.Readback.{Readback}
+use Rattle.readback.specs.declared.Step.{Step}
+use Rattle.readback.proofs.Values.{SmallGiven, small-item}
+
+-- the widths that are known: four, or six
+pub known-is : (w : ℕ) → widthKnown w ≡ true → (w ≡ oldWidth) ⊎ (w ≡ width)
+known-is w k = go (eqb w oldWidth) refl
+  where
+    go : (t : Bool) → eqb w oldWidth ≡ t → (w ≡ oldWidth) ⊎ (w ≡ width)
+    go true e = inl (eqb-true w oldWidth e)
+    go false e = inr (eqb-true w width (rw e at k))
+
+pub known-few : (w : ℕ) → widthKnown w ≡ true → w ≤ width
+known-few w k = ⊎-elim (λ e. omega (arith, e)) (λ e. omega (arith, e)) (known-is w k)
+
+pub known-some : (w : ℕ) → widthKnown w ≡ true → oldWidth ≤ w
+known-some w k = ⊎-elim (λ e. omega (arith, e)) (λ e. omega (arith, e)) (known-is w k)
+
+-- a good reader behind its first line
+pub record Begun (r : Readback) : Type 0 where
+  pub last : r .last ≤ mostLines
+  pub width : widthKnown (r .width) ≡ true
+  pub some : besides (r .ended) ≤ r .lines
+  pub few : r .lines ≤ r .last + besides (r .ended)
+
+module _ (r : Readback) where
+  abbrev tests : Bool
+  tests = widthKnown (r .width) && leb (besides (r .ended)) (r .lines) && leb (r .lines) (r .last + besides (r .ended))
+
+  pub begun : good r ≡ true → (r .lines ≡ 0 → ⊥) → Begun r
+  unfolding good
+  begun g n =
+      let all = rw (ne-eqb (r .lines) 0 n) at g in
+      let later = right (leb (r .last) mostLines) tests all in
+      let two = left (widthKnown (r .width) && leb (besides (r .ended)) (r .lines)) (leb (r .lines) (r .last + besides (r .ended))) later in
+      record {
+        last = leb-true _ _ (left (leb (r .last) mostLines) tests all);
+        width = left (widthKnown (r .width)) (leb (besides (r .ended)) (r .lines)) two;
+        some = leb-true _ _ (right (widthKnown (r .width)) (leb (besides (r .ended)) (r .lines)) two);
+        few = leb-true _ _ (right (widthKnown (r .width) && leb (besides (r .ended)) (r .lines)) (leb (r .lines) (r .last + besides (r .ended))) later);
+      }
+
+  pub good-begun : (r .lines ≡ 0 → ⊥) → Begun r → good r ≡ true
+  unfolding good
+  good-begun n b =
+      rw (ne-eqb (r .lines) 0 n)
+      (both (leb (r .last) mostLines) tests (le-leb _ _ (b .last))
+      (both (widthKnown (r .width) && leb (besides (r .ended)) (r .lines)) (leb (r .lines) (r .last + besides (r .ended)))
+      (both (widthKnown (r .width)) (leb (besides (r .ended)) (r .lines)) (b .width) (le-leb _ _ (b .some))) (le-leb _ _ (b .few))))
+
+pub besides-most : (t : Bool) → besides t ≤ 2
+besides-most true = omega arith
+besides-most false = omega arith
+
+-- no more lines than this
+pub few-lines : (r : Readback) → good r ≡ true → r .lines ≤ mostLines + 2
+few-lines r g = go (eqb (r .lines) 0) refl
+  where
+    go : (t : Bool) → eqb (r .lines) 0 ≡ t → r .lines ≤ mostLines + 2
+    go true e = omega (arith, eqb-true (r .lines) 0 e)
+    go false e = let b = begun r g (eqb-false (r .lines) 0 e) in omega (arith, b .last, b .few, besides-most (r .ended))
+
+-- what a line does, by where it stands
+module _ (r : Readback) (line : List ℕ) where
+  pub step-ended : r .ended ≡ true → stepOf r line ≡ faulty r
+  unfolding stepOf
+  step-ended e = ap (λ (t : Bool). cond t (faulty r) (cond (eqb (r .lines) 0) (opens r (widthIn line)) (said r (itemIn (r .width) line)))) e
+
+  pub step-first : r .ended ≡ false → r .lines ≡ 0 → stepOf r line ≡ opens r (widthIn line)
+  unfolding stepOf
+  step-first e z =
+      ap (λ (t : Bool). cond t (faulty r) (cond (eqb (r .lines) 0) (opens r (widthIn line)) (said r (itemIn (r .width) line)))) e
+      ∙ ap (λ (t : Bool). cond t (opens r (widthIn line)) (said r (itemIn (r .width) line))) (eq-eqb (r .lines) 0 z)
+
+  pub step-item : r .ended ≡ false → (r .lines ≡ 0 → ⊥) → stepOf r line ≡ said r (itemIn (r .width) line)
+  unfolding stepOf
+  step-item e n =
+      ap (λ (t : Bool). cond t (faulty r) (cond (eqb (r .lines) 0) (opens r (widthIn line)) (said r (itemIn (r .width) line)))) e
+      ∙ ap (λ (t : Bool). cond t (opens r (widthIn line)) (said r (itemIn (r .width) line))) (ne-eqb (r .lines) 0 n)
+
+-- FRESH IS GOOD, and every line of a good reader leaves it good
+pub fresh-is-good : good fresh ≡ true
+unfolding good
+fresh-is-good = refl
+
+opened-good : (w : ℕ) → widthKnown w ≡ true → good (openedAt w) ≡ true
+opened-good w h = good-begun (openedAt w) (λ z. omega arith) (record { last = omega arith; width = h; some = omega arith; few = omega arith })
+
+passed-good : (r : Readback) (i : Item) → good r ≡ true → (r .lines ≡ 0 → ⊥) → r .ended ≡ false → Small i → above (r .last) i ≡ true → good (passedBy r i) ≡ true
+passed-good r i g n e s a =
+    let b = begun r g n in
+    let few = ap besides e in
+    good-begun (passedBy r i) (λ z. omega arith) (go i s a b few)
+  where
+    go : (i : Item) → Small i → above (r .last) i ≡ true → Begun r → besides (r .ended) ≡ 1 → Begun (passedBy r i)
+    go (item.R m p x y) s a b few = record { last = s .0; width = b .width; some = omega arith; few = omega (arith, b .few, few, ltb-true (r .last) m a) }
+    go (item.D m k) s a b few = record { last = s .0; width = b .width; some = omega arith; few = omega (arith, b .few, few, ltb-true (r .last) m a) }
+    go (item.H k) s a b few = record { last = b .last; width = b .width; some = omega (arith, b .some, few); few = omega (arith, b .few, few) }
+    go (item.E m) s a b few = record { last = s; width = b .width; some = omega (arith, b .some, few); few = omega (arith, b .few, few, ltb-true (r .last) m a) }
+    go item.Over s a b few = record { last = b .last; width = b .width; some = omega (arith, b .some, few); few = omega (arith, b .few, few) }
+
+-- what a line leaves: a good reader, and an item that is small
+abbrev Leaves : Step → Type 0
+Leaves s = (good (s .next) ≡ true) × SmallGiven (s .given)
+
+said-good : (r : Readback) (g : Given) → good r ≡ true → (r .lines ≡ 0 → ⊥) → r .ended ≡ false → SmallGiven g → Leaves (said r g)
+said-good r Nothing h n e s = (h, tt)
+said-good r (One i) h n e s = cases Leaves (above (r .last) i) (λ a. (passed-good r i h n e s a, s)) (λ _. (h, tt))
+
+pub step-leaves : (r : Readback) (line : List ℕ) → good r ≡ true → Leaves (stepOf r line)
+step-leaves r line h = go (r .ended) refl (eqb (r .lines) 0) refl
+  where
+    go : (t : Bool) → r .ended ≡ t → (u : Bool) → eqb (r .lines) 0 ≡ u → Leaves (stepOf r line)
+    go true e u z = subst Leaves (sym (step-ended r line e)) (h, tt)
+    go false e true z =
+        subst Leaves (sym (step-first r line e (eqb-true _ _ z))) (cases Leaves (widthKnown (widthIn line)) (λ k. (opened-good (widthIn line) k, tt)) (λ _. (h, tt)))
+    go false e false z =
+        subst Leaves (sym (step-item r line e (eqb-false _ _ z))) (said-good r (itemIn (r .width) line) h (eqb-false _ _ z) e (small-item (r .width) line))

@@ -1,0 +1,53 @@
+-- An end that is one, or is not.
+use borrow.Author.Needs.{needs}
+use mathlib.Core.Path.{_≡_, sym, _∙_}
+use native.Mathlib.Omega.{arith}
+use borrow.Author.Tests.{not-true, not-false}
+use Rattle.readback.specs.Promises.{finishOf}
+use Rattle.readback.proofs.Goodness.{few-lines}
+use Rattle.readback.proofs.Readback.finish.Statement.{statement}
+use Rattle.readback.proofs.Readback.finish.Tie as tie
+use Rattle.readback.proofs.Readback.finish.Reads as reads
+use Rattle.readback.proofs.Readback.finish.Lts as lts
+use Rattle.readback.proofs.Readback.good.Reads as good-reads
+use Rattle.readback.proofs.pieces.back.Reads as back-reads
+
+good-requires : tie.Need-good-requires
+good-requires c κs = search needs
+
+back-requires : tie.Need-back-requires
+back-requires c κs = search needs
+
+returns : tie.Need-returns
+unfolding finishOf
+returns c = rw (sym (c .before .before .good2 .ensures) ∙ not-true _ (c .before .if1 .taken)) (c .back .ensures)
+
+back-requires-2 : tie.Need-back-requires-2
+back-requires-2 c κs = search needs
+
+returns-2 : tie.Need-returns-2
+unfolding finishOf
+returns-2 c = rw (sym (c .before .before .before .before .good2 .ensures) ∙ not-false _ (c .before .before .before .if1 .left), c .before .if2 .taken) (c .back2 .ensures)
+
+add-back : tie.Need-add-back
+add-back c = record { fits = omega (arith, few-lines (c .before .before .before .before .before .args .self) (sym (c .before .before .before .before .good2 .ensures) ∙ not-false _ (c .before .before .before .if1 .left))) }
+
+back-requires-3 : tie.Need-back-requires-3
+back-requires-3 c κs = search needs
+
+returns-3 : tie.Need-returns-3
+unfolding finishOf
+returns-3 c = rw (sym (c .before .before .before .before .before .good2 .ensures) ∙ not-false _ (c .before .before .before .before .if1 .left), c .before .before .if2 .left) (c .back3 .ensures)
+
+pub finish-spec : {M : Type 1} → statement M
+finish-spec =
+    tie.close
+    (tie.spec
+    good-requires
+    back-requires
+    returns
+    back-requires-2
+    returns-2
+    add-back
+    back-requires-3
+    returns-3)

@@ -1,0 +1,32 @@
+-- A known width, or not.
+use borrow.Author.Needs.{needs}
+use mathlib.Core.Path.{_≡_, sym, _∙_}
+use mathlib.Core.Bool.{true}
+use native.Mathlib.Omega.{arith}
+use borrow.Author.Tests.{not-true, not-false}
+use Rattle.readback.specs.Steps.{widthKnown}
+use Rattle.readback.proofs.Goodness.{known-few}
+use Rattle.readback.proofs.Readback.opens.Statement.{statement}
+use Rattle.readback.proofs.Readback.opens.Tie as tie
+use Rattle.readback.proofs.Readback.opens.Reads as reads
+use Rattle.readback.proofs.Readback.opens.Lts as lts
+use Rattle.readback.proofs.Readback.faulty.Reads as faulty-reads
+use Rattle.readback.proofs.steps.width_known.Reads as width-known-reads
+
+width-known-requires : tie.Need-width-known-requires
+width-known-requires c κs = search needs
+
+faulty-requires : tie.Need-faulty-requires
+faulty-requires c κs = search needs
+
+returns : tie.Need-returns
+returns c = rw (sym (c .before .before .width-known .ensures) ∙ not-true _ (c .before .if1 .taken)) (c .faulty .ensures)
+
+cast-t5 : tie.Need-cast-t5
+cast-t5 c = record { fits = omega (arith, known-few (c .before .before .args .width) (sym (c .before .width-known .ensures) ∙ not-false _ (c .if1 .left))) }
+
+returns-2 : tie.Need-returns-2
+returns-2 c = rw (sym (c .before .width-known .ensures) ∙ not-false _ (c .if1 .left))
+
+pub opens-spec : {M : Type 1} → statement M
+opens-spec = tie.close (tie.spec width-known-requires faulty-requires returns cast-t5 returns-2)

@@ -1,0 +1,47 @@
+-- A number above the last, or not.
+use borrow.Author.Needs.{needs}
+use mathlib.Core.Path.{_≡_, sym, _∙_}
+use native.Mathlib.Omega.{arith}
+use borrow.Author.Tests.{not-true, not-false}
+use Rattle.readback.proofs.Goodness.{few-lines}
+use Rattle.readback.proofs.Readback.passes.Statement.{statement}
+use Rattle.readback.proofs.Readback.passes.Tie as tie
+use Rattle.readback.proofs.Readback.passes.Reads as reads
+use Rattle.readback.proofs.Readback.passes.Lts as lts
+use Rattle.readback.proofs.Readback.faulty.Reads as faulty-reads
+use Rattle.readback.proofs.steps.above.Reads as above-reads
+use Rattle.readback.proofs.steps.closes.Reads as closes-reads
+use Rattle.readback.proofs.steps.last_behind.Reads as last-behind-reads
+
+above-requires : tie.Need-above-requires
+above-requires c κs = search needs
+
+faulty-requires : tie.Need-faulty-requires
+faulty-requires c κs = search needs
+
+returns : tie.Need-returns
+returns c = rw (sym (c .before .before .above .ensures) ∙ not-true _ (c .before .if1 .taken)) (c .faulty .ensures)
+
+last-behind-requires : tie.Need-last-behind-requires
+last-behind-requires c κs = search needs
+
+add-t6 : tie.Need-add-t6
+add-t6 c = record { fits = omega (arith, few-lines (c .before .before .before .before .args .self) (c .before .before .before .before .pre)) }
+
+closes-requires : tie.Need-closes-requires
+closes-requires c κs = search needs
+
+returns-2 : tie.Need-returns-2
+returns-2 c = rw (sym (c .before .before .before .before .above .ensures) ∙ not-false _ (c .before .before .before .if1 .left), c .before .before .last-behind .ensures, c .closes .ensures)
+
+pub passes-spec : {M : Type 1} → statement M
+passes-spec =
+    tie.close
+    (tie.spec
+    above-requires
+    faulty-requires
+    returns
+    last-behind-requires
+    add-t6
+    closes-requires
+    returns-2)

@@ -1,0 +1,38 @@
+-- A good reader, or one that is refused.
+use borrow.Author.Needs.{needs}
+use mathlib.Core.Path.{_≡_, sym, _∙_, ap}
+use borrow.Author.Tests.{not-true, not-false}
+use Rattle.readback.specs.Pieces.{whole}
+use Rattle.readback.specs.Promises.{readOf}
+use Rattle.readback.specs.declared.Back.{Back}
+use Rattle.readback.proofs.Readback.read.Statement.{statement}
+use Rattle.readback.proofs.Readback.read.Tie as tie
+use Rattle.readback.proofs.Readback.read.Reads as reads
+use Rattle.readback.proofs.Readback.read.Lts as lts
+use Rattle.readback.proofs.Readback.good.Reads as good-reads
+use Rattle.readback.proofs.Readback.lines.Reads as lines-reads
+use Rattle.readback.proofs.pieces.back.Reads as back-reads
+
+good-requires : tie.Need-good-requires
+good-requires c κs = search needs
+
+back-requires : tie.Need-back-requires
+back-requires c κs = search needs
+
+returns : tie.Need-returns
+unfolding readOf
+returns c = rw (sym (c .before .before .good2 .ensures) ∙ not-true _ (c .before .if1 .taken)) (ap (λ (b : Back). whole b (c .before .before .before .before .args .out .now)) (c .back .ensures))
+
+lines-requires : tie.Need-lines-requires
+lines-requires c κs = sym (c .before .before .good2 .ensures) ∙ not-false _ (c .before .if1 .left)
+
+same-length : tie.Need-same-length
+same-length c = search needs
+
+returns-2 : tie.Need-returns-2
+unfolding readOf
+returns-2 c = rw (sym (c .before .before .before .before .good2 .ensures) ∙ not-false _ (c .before .before .before .if1 .left)) (c .before .lines .ensures)
+
+pub read-spec : {M : Type 1} → statement M
+read-spec =
+    tie.close (tie.spec good-requires back-requires returns lines-requires same-length returns-2)

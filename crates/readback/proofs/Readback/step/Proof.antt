@@ -1,0 +1,71 @@
+-- By where the line stands.
+use borrow.Author.Needs.{needs}
+use mathlib.Core.Path.{_≡_, sym, _∙_, ap}
+use Rattle.readback.specs.Steps.{opens, said}
+use Rattle.readback.proofs.Goodness.{step-ended, step-first, step-item}
+use Rattle.readback.proofs.Readback.step.Statement.{statement}
+use Rattle.readback.proofs.Readback.step.Tie as tie
+use Rattle.readback.proofs.Readback.step.Reads as reads
+use Rattle.readback.proofs.Readback.step.Lts as lts
+use Rattle.readback.proofs.Readback.faulty.Reads as faulty-reads
+use Rattle.readback.proofs.Readback.opens.Reads as opens-reads
+use Rattle.readback.proofs.Readback.passes.Reads as passes-reads
+use Rattle.readback.proofs.items.item.Reads as item-reads
+use Rattle.readback.proofs.items.width.Reads as width-reads
+
+faulty-requires : tie.Need-faulty-requires
+faulty-requires c κs = search needs
+
+returns : tie.Need-returns
+returns c = c .faulty .ensures ∙ sym (step-ended (c .before .before .before .args .self) (c .before .before .before .args .line .now) (c .before .if1 .taken))
+
+width-requires : tie.Need-width-requires
+width-requires c κs = search needs
+
+opens-requires : tie.Need-opens-requires
+opens-requires c κs = search needs
+
+returns-2 : tie.Need-returns-2
+returns-2 c = c .opens .ensures ∙ ap (opens (c .before .before .before .before .before .before .args .self)) (c .before .width .ensures) ∙ sym (step-first (c .before .before .before .before .before .before .args .self) (c .before .before .before .before .before .before .args .line .now) (c .before .before .before .before .if1 .left) (c .before .before .if2 .taken))
+
+cast-item : tie.Need-cast-item
+cast-item c = search needs
+
+item-requires : tie.Need-item-requires
+item-requires c κs = search needs
+
+enum-told : tie.Need-enum-told
+enum-told c = search needs
+
+faulty-requires-2 : tie.Need-faulty-requires-2
+faulty-requires-2 c κs = search needs
+
+enum-known-given : tie.Need-enum-known-given
+enum-known-given c = search needs
+
+passes-requires : tie.Need-passes-requires
+passes-requires c κs = search needs
+
+returns-3 : tie.Need-returns-3
+returns-3 c = c .faulty2 .ensures ∙ ap (said (c .before .before .before .before .before .before .before .before .before .args .self)) (sym (c .before .enum-told .given .1) ∙ c .before .before .before .item .ensures) ∙ sym (step-item (c .before .before .before .before .before .before .before .before .before .args .self) (c .before .before .before .before .before .before .before .before .before .args .line .now) (c .before .before .before .before .before .before .before .if1 .left) (c .before .before .before .before .before .if2 .left))
+
+returns-4 : tie.Need-returns-4
+returns-4 c = c .passes .ensures ∙ ap (said (c .before .before .before .before .before .before .before .before .before .before .args .self)) (sym (c .before .before .given .given .1) ∙ c .before .before .before .before .item .ensures) ∙ sym (step-item (c .before .before .before .before .before .before .before .before .before .before .args .self) (c .before .before .before .before .before .before .before .before .before .before .args .line .now) (c .before .before .before .before .before .before .before .before .if1 .left) (c .before .before .before .before .before .before .if2 .left))
+
+pub step-spec : {M : Type 1} → statement M
+step-spec =
+    tie.close
+    (tie.spec
+    faulty-requires
+    returns
+    width-requires
+    opens-requires
+    returns-2
+    cast-item
+    item-requires
+    enum-told
+    faulty-requires-2
+    enum-known-given
+    passes-requires
+    returns-3
+    returns-4)

@@ -1,0 +1,70 @@
+-- What a reader of listings refuses: 6 for one that breaks its rules, which is handed back with an unchanged slice, and 7 for a faulty line, which leaves all as it
+-- stands before that line; a good one is refused for nothing else, and no other is ever made.
+use Prim.Native.Nat.{ℕ}
+use mathlib.Core.Path.{_≡_, refl, sym, _∙_, ap}
+use mathlib.Core.Bool.{Bool, true, false, cond, _&&_}
+use mathlib.Core.Logic.{_⊎_, inl, inr, ⊎-elim}
+use mathlib.Core.List.{List, [], append-nil}
+use native.Mathlib.Omega.{arith}
+use lib.Dec.{eqb}
+use lib.IntN.{ℤ}
+use lib.ListN.{length, take, drop}
+use lib.Seq.{take-all}
+use Rattle.numbers.proofs.Choices.{cases}
+use Rattle.fold.specs.Fold.{Ran, ran, run}
+use Rattle.fold.proofs.Laws.{up-to, within}
+use Rattle.wire.specs.Numbers.{success, badState}
+use Rattle.listing.specs.declared.Given.{Given}
+use Rattle.readback.specs.Steps.{good}
+use Rattle.readback.specs.Pieces.{cutIn, bytesIn, faultyLine, reads, linesOf, back, Whole, whole, counted}
+use Rattle.readback.specs.Promises.{refused, readOf, finishOf, FreshPromise, ReadPromise, FinishPromise}
+use Rattle.readback.specs.declared.Readback.{Readback}
+use Rattle.readback.specs.declared.Back.{Back}
+use Rattle.readback.proofs.Goodness as goodness
+use Rattle.readback.proofs.Calls.{is, number-of, call-refusal, call-bytes}
+use Rattle.readback.proofs.Wholes.{taken-whole, taken-long, lines-wholes}
+
+pub bad-state-read : (r : Readback) (piece : List ℕ) (before after : List ℤ) (a : Back) → good r ≡ false → ReadPromise r piece before a after → whole a after ≡ whole (refused r) before
+unfolding readOf
+bad-state-read r piece before after a g p = rw g at p
+
+pub bad-state-finish : (r : Readback) (left : ℕ) (a : Back) → good r ≡ false → FinishPromise r left a → a ≡ refused r
+unfolding finishOf
+bad-state-finish r left a g p = rw g at p
+
+-- a good reader
+pub good-read : (r : Readback) (piece : List ℕ) (before after : List ℤ) (a : Back) → good r ≡ true → ReadPromise r piece before a after → (a .refusal ≡ success) ⊎ (a .refusal ≡ faultyLine)
+good-read r piece before after a g p =
+    ⊎-elim (λ e. inl (call-refusal r piece before after a g p ∙ e)) (λ e. inr (call-refusal r piece before after a g p ∙ e)) (number-of (linesOf piece) r (length before))
+
+pub good-finish : (r : Readback) (left : ℕ) (a : Back) → good r ≡ true → FinishPromise r left a → (a .refusal ≡ success) ⊎ (a .refusal ≡ faultyLine)
+unfolding finishOf
+good-finish r left a g p =
+    let P : Back → Type 0 = λ b. (b .refusal ≡ success) ⊎ (b .refusal ≡ faultyLine) in
+    rw (rw g at p) (cases P (r .ended && eqb left 0) (λ _. inl refl) (λ _. inr refl))
+
+pub fresh-is-good : (r : Readback) → FreshPromise r → good r ≡ true
+fresh-is-good r p = ap good p ∙ goodness.fresh-is-good
+
+pub finish-stays-good : (r : Readback) (left : ℕ) (a : Back) → good r ≡ true → FinishPromise r left a → good (a .next) ≡ true
+unfolding finishOf
+finish-stays-good r left a g p =
+    rw (rw g at p) (cases (λ (b : Back). good (b .next) ≡ true) (r .ended && eqb left 0) (λ _. g) (λ _. g))
+
+-- AS IT STANDS: with a fault, a call gives what a call of the bytes taken gives, but for the number and the line
+abbrev pub faultless : Whole → Whole
+faultless w = whole (back success (w .back .next) (w .back .taken) (w .back .items) 0) (w .out)
+
+no-lines : linesOf [] ≡ []
+unfolding linesOf cutIn
+no-lines = refl
+
+pub as-before : (r : Readback) (piece : List ℕ) (before after rest : List ℤ) (a b : Back) → good r ≡ true → ReadPromise r piece before a after → ReadPromise r (take (a .taken) piece) before b rest
+    → whole b rest ≡ faultless (whole a after)
+as-before r piece before after rest a b g p q =
+    let f = run reads r (linesOf piece) (length before) in
+    let ws = take (length (f .answers)) (linesOf piece) in
+    let lines : linesOf (take (a .taken) piece) ≡ ws = ap linesOf (call-bytes r piece before after a g p ∙ sym (append-nil (bytesIn ws))) ∙ lines-wholes ws [] (taken-whole r piece (length before)) ∙ rw no-lines (append-nil ws) in
+    is r (take (a .taken) piece) before rest b g q ∙ ap (λ (ls : List (List ℕ)). counted (run reads r ls (length before)) ls before) lines
+    ∙ ap (λ (k : Ran Readback Given). counted k ws before) (up-to reads (linesOf piece) r (length before))
+    ∙ rw (take-all (length (f .answers)) ws (omega (arith, taken-long r piece (length before)))) refl ∙ ap faultless (sym (is r piece before after a g p))

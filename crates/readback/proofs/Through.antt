@@ -1,0 +1,55 @@
+-- THROUGH BOTH: whatever the lister writes of an input, in whatever calls, comes back as it was through whatever calls of the reader.
+use Prim.Native.Nat.{ℕ}
+use mathlib.Core.Path.{_≡_, refl, sym, _∙_, ap}
+use mathlib.Core.Bool.{true}
+use mathlib.Core.List.{List, [], _++_, append-nil}
+use mathlib.Core.Logic.{_⊎_, ⊎-elim}
+use native.Mathlib.Omega.{arith}
+use lib.IntN.{ℤ}
+use lib.ListN.{length, take}
+use Rattle.wire.specs.Numbers.{success}
+use Rattle.listing.specs.Scanning.{width}
+use Rattle.listing.specs.Listing.{itemsAt, listingOf}
+use Rattle.listing.specs.Feeding as lister
+use Rattle.listing.specs.Promises.{FinishPromise as EndPromise}
+use Rattle.listing.specs.Calls as lister-calls
+use Rattle.listing.specs.declared.Listed.{Listed}
+use Rattle.listing.proofs.Calls as listing
+use Rattle.readback.specs.Items.{allNumbers}
+use Rattle.readback.specs.Steps.{fresh}
+use Rattle.readback.specs.Pieces.{faultyLine}
+use Rattle.readback.specs.Promises.{ReadPromise, FinishPromise}
+use Rattle.readback.specs.Calls.{Call, Permitted, readerAfter, takenBy, writtenBy}
+use Rattle.readback.specs.Whole.{Reading, readingOf}
+use Rattle.readback.specs.declared.Back.{Back}
+use Rattle.readback.proofs.AsItWas.{as-it-was}
+use Rattle.readback.proofs.Calls.{in-calls, no-fault, after-good}
+use Rattle.readback.proofs.Goodness.{fresh-is-good}
+use Rattle.readback.proofs.Refusals.{good-read}
+
+-- the lister's calls, with its end
+module _ (ls : List lister-calls.Call) (before after : List ℕ) (e : Listed) (p : lister-calls.Permitted lister.fresh ls)
+    (end : EndPromise (lister-calls.listerAfter lister.fresh ls) before e after) (ended : e .ended ≡ true) where
+  abbrev listing-bytes : List ℕ
+  listing-bytes = lister-calls.writtenBy ls ++ take (e .written) after
+
+  abbrev input : List ℕ
+  input = lister-calls.takenBy ls
+
+  is-listing : listing-bytes ≡ listingOf input
+  is-listing = listing.in-calls ls before after e p end ended
+
+  -- where the reader's calls took all that was written, they wrote the numbers of the listing's items, and its end tells no fault
+  pub comes-back : (ks : List Call) (a : Back) → Permitted fresh ks → takenBy ks ≡ listing-bytes → FinishPromise (readerAfter fresh ks) 0 a
+      → (writtenBy ks ≡ allNumbers (itemsAt width input)) × (a .line ≡ 0)
+  comes-back ks a h all f =
+      let said : readingOf (takenBy ks ++ []) ≡ _ = ap readingOf (append-nil (takenBy ks) ∙ all ∙ is-listing) ∙ as-it-was input in
+      let c = in-calls ks [] a h refl f in
+      (c .0 ∙ ap (λ (k : Reading). allNumbers (k .items)) said, c .1 ∙ ap (λ (k : Reading). k .fault) said)
+
+  -- and on the way no call is refused
+  pub none-refused : (ks : List Call) (piece rest : List ℕ) (out left : List ℤ) (a : Back) → Permitted fresh ks → ReadPromise (readerAfter fresh ks) piece out a left
+      → takenBy ks ++ (piece ++ rest) ≡ listing-bytes → a .refusal ≡ success
+  none-refused ks piece rest out left a h r all =
+      ⊎-elim (λ z. z) (λ seven. absurd (no-fault ks piece rest out left a h r (ap (λ (l : List ℕ). readingOf l .fault) (all ∙ is-listing) ∙ ap (λ (k : Reading). k .fault) (as-it-was input)) seven))
+      (good-read (readerAfter fresh ks) piece out left a (after-good ks fresh fresh-is-good h) r)

@@ -1,0 +1,136 @@
+-- Whole lines in front of more bytes: they are cut off as they were, and what they gave comes in front.
+use Prim.Native.Nat.{ℕ, zero, suc, _+_, _-_, _*_, _<_, _≤_}
+use mathlib.Core.Path.{_≡_, refl, sym, _∙_, ap}
+use mathlib.Core.Bool.{Bool, true, false, not, cond, _&&_, true≢false}
+use mathlib.Core.List.{List, [], _∷_, _++_, append-assoc, append-nil}
+use native.Mathlib.Omega.{arith}
+use lib.Dec.{ltb, leb, eqb}
+use lib.IntN.{ℤ}
+use lib.ListN.{length, take, drop, length-append, take-append-drop}
+use lib.Seq.{take-add, take-at, drop-at, length-take-le}
+use borrow.Author.Tests.{ltb-true, lt-ltb, eq-eqb}
+use Rattle.numbers.proofs.Choices.{cases}
+use Rattle.numbers.proofs.Tested.{left}
+use Rattle.fold.specs.Fold.{MachineOver, Ran, ran, behind, written, run}
+use Rattle.fold.proofs.Laws.{join, up-to, within, over-taken}
+use Rattle.wire.specs.Numbers.{success}
+use Rattle.listing.specs.Lines.{newline, lengthTo, front}
+use Rattle.listing.specs.Items.{itemsIn}
+use Rattle.listing.specs.declared.Item.{Item}
+use Rattle.listing.specs.declared.Given.{Given}
+use Rattle.readback.specs.Items.{allNumbers}
+use Rattle.readback.specs.Steps.{stepOf}
+use Rattle.readback.specs.Pieces.{cutIn, bytesIn, isWhole, bodyOf, faultyLine, reads, cutOff, handed, linesOf, itemsAmong}
+use Rattle.readback.specs.Whole.{Reading, reading, readingFrom}
+use Rattle.readback.specs.declared.Readback.{Readback}
+use Rattle.readback.proofs.Cuts.{bytes-cut}
+use Rattle.readback.proofs.Again.{Tidy, cut-tidy, not-refused}
+
+-- lines that are whole, and have no newline but their last byte
+abbrev pub Wholes : List (List ℕ) → Type 0
+Wholes [] = Unit {0}
+Wholes (l ∷ ls) = (isWhole l ≡ true) × (length l ≤ suc (lengthTo newline l)) × Wholes ls
+
+pub cut-whole : (l rest : List ℕ) → isWhole l ≡ true → length l ≤ suc (lengthTo newline l) → cutIn (l ++ rest) ≡ l ∷ cutIn rest
+unfolding cutIn
+cut-whole [] rest h k = absurd (omega (arith, ltb-true 0 0 h))
+cut-whole (c ∷ l) rest h k = go (eqb c newline) refl (cut-whole l rest) l refl
+  where
+    go : (t : Bool) → eqb c newline ≡ t → (isWhole l ≡ true → length l ≤ suc (lengthTo newline l) → cutIn (l ++ rest) ≡ l ∷ cutIn rest) → (m : List ℕ) → l ≡ m → cutIn (c ∷ l ++ rest) ≡ (c ∷ l) ∷ cutIn rest
+    go true e ih [] em = rw (e, em)
+    go true e ih (d ∷ m) em = absurd (omega (arith, rw e at k, ap length em))
+    go false e ih m em =
+        let there : suc (lengthTo newline l) < suc (length l) = ltb-true (suc (lengthTo newline l)) (suc (length l)) (rw e at h) in
+        let few : suc (length l) ≤ suc (suc (lengthTo newline l)) = rw e at k in
+        rw e (ap (front c) (ih (lt-ltb (lengthTo newline l) (length l) (omega arith)) (omega arith)))
+
+pub cut-wholes : (ls : List (List ℕ)) (rest : List ℕ) → Wholes ls → cutIn (bytesIn ls ++ rest) ≡ ls ++ cutIn rest
+cut-wholes [] rest h = refl
+cut-wholes (l ∷ ls) rest h =
+    ap cutIn (append-assoc l (bytesIn ls) rest) ∙ cut-whole l (bytesIn ls ++ rest) (h .0) (h .1) ∙ ap (λ (k : List (List ℕ)). l ∷ k) (cut-wholes ls rest (h .2))
+
+handed-wholes : (ls more : List (List ℕ)) → Wholes ls → handed (ls ++ more) ≡ ls ++ handed more
+handed-wholes [] more h = refl
+handed-wholes (l ∷ ls) more h = rw (h .0) (ap (λ (k : List (List ℕ)). l ∷ k) (handed-wholes ls more (h .2)))
+
+pub lines-wholes : (ls : List (List ℕ)) (rest : List ℕ) → Wholes ls → linesOf (bytesIn ls ++ rest) ≡ ls ++ linesOf rest
+unfolding linesOf
+lines-wholes ls rest h = ap handed (cut-wholes ls rest h) ∙ handed-wholes ls (cutIn rest) h
+
+-- the lines handed over stand at the front of the piece
+front-of : (ls : List (List ℕ)) (k : ℕ) → take (length (bytesIn (take k (handed ls)))) (bytesIn ls) ≡ bytesIn (take k (handed ls))
+front-of ls zero = refl
+front-of [] (suc k) = refl
+front-of (l ∷ ls) (suc k) = go (cutOff l) refl (front-of ls k)
+  where
+    go : (t : Bool) → cutOff l ≡ t → take (length (bytesIn (take k (handed ls)))) (bytesIn ls) ≡ bytesIn (take k (handed ls))
+        → take (length (bytesIn (take (suc k) (handed (l ∷ ls))))) (l ++ bytesIn ls) ≡ bytesIn (take (suc k) (handed (l ∷ ls)))
+    go true e ih = rw e
+    go false e ih =
+        let x = bytesIn (take k (handed ls)) in
+        rw (e, length-append l x, take-add (length l) (length x) (l ++ bytesIn ls), take-at l (bytesIn ls) (length l) refl, drop-at l (bytesIn ls) (length l) refl, ih)
+
+tidy-handed : (ls : List (List ℕ)) → Tidy ls → Tidy (handed ls)
+tidy-handed [] h = tt
+tidy-handed (l ∷ ls) h = cases Tidy (cutOff l) (λ _. tt) (λ _. (h .0, tidy-handed ls (h .1)))
+
+tidy-take : (ls : List (List ℕ)) (k : ℕ) → Tidy ls → Tidy (take k ls)
+tidy-take ls zero h = tt
+tidy-take [] (suc k) h = tt
+tidy-take (l ∷ ls) (suc k) h = (h .0, tidy-take ls k (h .1))
+
+-- so many lines stand at the front of the piece; and those that a machine took are whole, if it refuses all others
+pub lines-front : (piece : List ℕ) (k : ℕ) → take (length (bytesIn (take k (linesOf piece)))) piece ≡ bytesIn (take k (linesOf piece))
+unfolding linesOf
+lines-front piece k = ap (take (length (bytesIn (take k (linesOf piece))))) (sym (bytes-cut piece)) ∙ front-of (cutIn piece) k
+
+pub lines-whole : {A X : Type 0} (m : MachineOver (List ℕ) Readback A X) → ((r : Readback) (l : List ℕ) → m .refusal r l ≡ 0 → isWhole l ≡ true)
+    → (r : Readback) (piece : List ℕ) (room : ℕ) → Wholes (take (length (run m r (linesOf piece) room .answers)) (linesOf piece))
+unfolding linesOf
+lines-whole m whole r piece room =
+    over-taken m (λ r ls answers next. Tidy ls → Wholes ls) (λ r h. tt) (λ r l ls answers next z ih h. (whole r l z, h .0, ih (h .1))) (linesOf piece) r room
+    (tidy-take (linesOf piece) (length (run m r (linesOf piece) room .answers)) (tidy-handed (cutIn piece) (cut-tidy piece)))
+
+-- lines that a reader took
+module _ (r : Readback) (piece : List ℕ) (room : ℕ) where
+  abbrev f : Ran Readback Given
+  f = run reads r (linesOf piece) room
+
+  abbrev ws : List (List ℕ)
+  ws = take (length (f .answers)) (linesOf piece)
+
+  abbrev t : ℕ
+  t = length (bytesIn ws)
+
+  pub taken-front : take t piece ≡ bytesIn ws
+  taken-front = lines-front piece (length (f .answers))
+
+  pub taken-whole : Wholes ws
+  taken-whole = lines-whole reads (λ r l z. left (isWhole l) (stepOf r (bodyOf l) .good) (not-refused r l (eq-eqb (reads .refusal r l) success z))) r piece room
+
+  pub front-and-rest : (q : List ℕ) → piece ++ q ≡ bytesIn ws ++ (drop t piece ++ q)
+  front-and-rest q = ap (λ (l : List ℕ). l ++ q) (sym (take-append-drop t piece)) ∙ append-assoc (take t piece) (drop t piece) q ∙ ap (λ (l : List ℕ). l ++ (drop t piece ++ q)) taken-front
+
+  pub taken-long : length (f .answers) ≡ length ws
+  taken-long = sym (length-take-le (length (f .answers)) (linesOf piece) (within reads (linesOf piece) r room .0))
+
+  -- the lines of a piece and more are those taken, and then those of what was left and more
+  pub lines-both : (q : List ℕ) → linesOf (piece ++ q) ≡ ws ++ linesOf (drop t piece ++ q)
+  lines-both q = ap linesOf (front-and-rest q) ∙ lines-wholes ws (drop t piece ++ q) taken-whole
+
+  pub joins : (q : List ℕ) → run reads r (linesOf (piece ++ q)) room ≡ behind (f .answers) (run reads (f .next) (linesOf (drop t piece ++ q)) (room - length (written reads (f .answers))))
+  joins q =
+      let all = up-to reads (linesOf piece) r room in
+      let j = join reads (linesOf (drop t piece ++ q)) ws r room (ap (λ (f : Ran Readback Given). length (f .answers)) all ∙ taken-long) in
+      ap (λ (ls : List (List ℕ)). run reads r ls room) (lines-both q) ∙ j ∙ rw all
+
+-- what lines gave in front of what the rest says
+abbrev pub before : List Item → Reading → Reading
+before is k = reading (is ++ k .items) (k .fault)
+
+pub reading-taken : (r : Readback) (lines : List (List ℕ)) (room : ℕ) (more : List (List ℕ)) → let f = run reads r lines room in
+    readingFrom r (take (length (f .answers)) lines ++ more) ≡ before (itemsAmong (f .answers)) (readingFrom (f .next) more)
+unfolding readingFrom
+reading-taken r lines room more =
+    over-taken reads (λ r ls answers next. readingFrom r (ls ++ more) ≡ before (itemsAmong answers) (readingFrom next more)) (λ r. refl)
+    (λ r l ls answers next z ih. rw (eq-eqb (reads .refusal r l) success z, ih, append-assoc)) lines r room

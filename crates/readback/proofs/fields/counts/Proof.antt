@@ -1,0 +1,15 @@
+-- A letter that is this one, or another.
+use borrow.Author.Tests.{eq-eqb, ne-eqb}
+use Rattle.readback.proofs.fields.counts.Statement.{statement}
+use Rattle.readback.proofs.fields.counts.Tie as tie
+use Rattle.readback.proofs.fields.counts.Reads as reads
+use Rattle.readback.proofs.fields.counts.Lts as lts
+
+returns : tie.Need-returns
+returns c = rw (eq-eqb _ _ (c .if1 .taken))
+
+returns-2 : tie.Need-returns-2
+returns-2 c = rw (ne-eqb _ _ (c .if1 .left))
+
+pub counts-spec : {M : Type 1} → statement M
+counts-spec = tie.close (tie.spec returns returns-2)

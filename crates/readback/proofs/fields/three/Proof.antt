@@ -1,0 +1,66 @@
+-- The three letters, one by one.
+use borrow.Author.Needs.{needs}
+use native.Mathlib.Omega.{arith}
+use mir.Syntax.{w64}
+use mir.Facts.{toZ-pos}
+use Prim.Native.Nat.{_+_, _≤_}
+use Rattle.readback.proofs.Values.{counts-most}
+use Rattle.readback.proofs.fields.three.Statement.{statement}
+use Rattle.readback.proofs.fields.three.Tie as tie
+use Rattle.readback.proofs.fields.three.Reads as reads
+use Rattle.readback.proofs.fields.three.Lts as lts
+use Rattle.readback.proofs.fields.counts.Reads as counts-reads
+
+-- what the letters count, so far
+one : (c : tie.After-counts) → c .counts .result ≤ 4
+one c = rw (c .counts .ensures) (counts-most (c .before .args .a) 76 4)
+
+two : (c : tie.After-counts2) → c .counts2 .result ≤ 2
+two c = rw (c .counts2 .ensures) (counts-most (c .before .before .args .b) 77 2)
+
+three : (c : tie.After-counts3) → c .counts3 .result ≤ 8
+three c = rw (c .counts3 .ensures) (counts-most (c .before .before .before .args .b) 63 8)
+
+four : (c : tie.After-counts4) → c .counts4 .result ≤ 1
+four c = rw (c .counts4 .ensures) (counts-most (c .before .before .before .before .args .c) 82 1)
+
+counts-requires : tie.Need-counts-requires
+counts-requires c κs = search needs
+
+counts-requires-2 : tie.Need-counts-requires-2
+counts-requires-2 c κs = search needs
+
+add-value : tie.Need-add-value
+add-value c = record { fits = omega (arith, two c, one (c .before)) }
+
+counts-requires-3 : tie.Need-counts-requires-3
+counts-requires-3 c κs = search needs
+
+add-value-2 : tie.Need-add-value-2
+add-value-2 c = record { fits = omega (arith, three c, two (c .before), one (c .before .before)) }
+
+counts-requires-4 : tie.Need-counts-requires-4
+counts-requires-4 c κs = search needs
+
+add-value-3 : tie.Need-add-value-3
+add-value-3 c = record { fits = omega (arith, four c, three (c .before), two (c .before .before), one (c .before .before .before)) }
+
+cast-t18 : tie.Need-cast-t18
+cast-t18 c = search needs
+
+returns : tie.Need-returns
+returns c = rw (toZ-pos w64 {n = c .before .before .before .counts .result + c .before .before .counts2 .result + c .before .counts3 .result + c .counts4 .result} (omega (arith, four c, three (c .before), two (c .before .before), one (c .before .before .before))), c .counts4 .ensures, c .before .counts3 .ensures, c .before .before .counts2 .ensures, c .before .before .before .counts .ensures)
+
+pub three-spec : {M : Type 1} → statement M
+three-spec =
+    tie.close
+    (tie.spec
+    counts-requires
+    counts-requires-2
+    add-value
+    counts-requires-3
+    add-value-2
+    counts-requires-4
+    add-value-3
+    cast-t18
+    returns)

@@ -1,0 +1,33 @@
+-- A number, if it is one.
+use borrow.Author.Needs.{needs}
+use mathlib.Core.Path.{_≡_}
+use mir.Syntax.{w64}
+use mir.Val.{toZ, ofZ}
+use Rattle.readback.proofs.fields.within.Statement.{statement}
+use Rattle.readback.proofs.fields.within.Tie as tie
+use Rattle.readback.proofs.fields.within.Reads as reads
+use Rattle.readback.proofs.fields.within.Lts as lts
+use Rattle.readback.proofs.fields.none.Reads as none-reads
+
+enum-told : tie.Need-enum-told
+enum-told c = search needs
+
+none-requires : tie.Need-none-requires
+none-requires c κs = search needs
+
+enum-known-number : tie.Need-enum-known-number
+enum-known-number c = search needs
+
+returns : tie.Need-returns
+returns c = search needs
+
+returns-2 : tie.Need-returns-2
+returns-2 c = let x = c .before .number .given .0 .0 in
+    let a = c .before .before .before .args in
+    let is : toZ w64 (ofZ w64 x) ≡ x = search needs in
+    let from : toZ w64 (ofZ w64 (a .low)) ≡ a .low = search needs in
+    let to : toZ w64 (ofZ w64 (a .high)) ≡ a .high = search needs in
+    rw (is, from, to, c .before .number .given .1)
+
+pub within-spec : {M : Type 1} → statement M
+within-spec = tie.close (tie.spec enum-told none-requires enum-known-number returns returns-2)

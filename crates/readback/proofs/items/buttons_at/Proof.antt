@@ -1,0 +1,16 @@
+-- The three buttons, one by one.
+use borrow.Author.Needs.{needs}
+use Rattle.readback.proofs.items.buttons_at.Statement.{statement}
+use Rattle.readback.proofs.items.buttons_at.Tie as tie
+use Rattle.readback.proofs.items.buttons_at.Reads as reads
+use Rattle.readback.proofs.items.buttons_at.Lts as lts
+use Rattle.readback.proofs.items.middle_at.Reads as middle-at-reads
+
+middle-at-requires : tie.Need-middle-at-requires
+middle-at-requires c κs = search needs
+
+returns : tie.Need-returns
+returns c = rw (c .middle-at .ensures)
+
+pub buttons-at-spec : {M : Type 1} → statement M
+buttons-at-spec = tie.close (tie.spec middle-at-requires returns)

@@ -1,0 +1,49 @@
+-- Button by button.
+use borrow.Author.Needs.{needs}
+use Prim.Native.Nat.{_≤_}
+use native.Mathlib.Omega.{arith}
+use Rattle.readback.proofs.Values.{counted-most, middle-most}
+use Rattle.readback.proofs.items.pressed_number.Statement.{statement}
+use Rattle.readback.proofs.items.pressed_number.Tie as tie
+use Rattle.readback.proofs.items.pressed_number.Reads as reads
+use Rattle.readback.proofs.items.pressed_number.Lts as lts
+use Rattle.readback.proofs.items.counted.Reads as counted-reads
+use Rattle.readback.proofs.items.middle_number.Reads as middle-number-reads
+
+first : (c : tie.After-counted) → c .counted .result ≤ 4
+first c = rw (c .counted .ensures) (counted-most (c .before .args .buttons .left) 4)
+
+second : (c : tie.After-middle-number) → c .middle-number .result ≤ 8
+second c = rw (c .middle-number .ensures) (middle-most (c .before .before .args .buttons .middle))
+
+third : (c : tie.After-counted2) → c .counted2 .result ≤ 1
+third c = rw (c .counted2 .ensures) (counted-most (c .before .before .before .args .buttons .right) 1)
+
+counted-requires : tie.Need-counted-requires
+counted-requires c κs = search needs
+
+middle-number-requires : tie.Need-middle-number-requires
+middle-number-requires c κs = search needs
+
+add-result : tie.Need-add-result
+add-result c = record { fits = omega (arith, first (c .before), second c) }
+
+counted-requires-2 : tie.Need-counted-requires-2
+counted-requires-2 c κs = search needs
+
+add-result-2 : tie.Need-add-result-2
+add-result-2 c = record { fits = omega (arith, first (c .before .before), second (c .before), third c) }
+
+returns : tie.Need-returns
+returns c = search needs
+
+pub pressed-number-spec : {M : Type 1} → statement M
+pressed-number-spec =
+    tie.close
+    (tie.spec
+    counted-requires
+    middle-number-requires
+    add-result
+    counted-requires-2
+    add-result-2
+    returns)

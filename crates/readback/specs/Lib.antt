@@ -1,0 +1,13 @@
+-- Listings read back: the fields of a line (Fields), its item (Items), a line in its place (Steps), the lines of a piece (Pieces, Parts), what is promised
+-- (Promises), calls one after the other (Calls), and what the whole of a listing says (Whole), with examples.
+pub mod Fields
+pub mod Items
+pub mod Steps
+pub mod Pieces
+pub mod Rewriting
+pub mod Parts
+pub mod Promises
+pub mod Calls
+pub mod Rewrites
+pub mod Whole
+pub mod Examples

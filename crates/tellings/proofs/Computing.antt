@@ -1,0 +1,8 @@
+-- All that a worked line with tellings computes with.
+use Rattle.replies.proofs.Computing as replies
+use Rattle.tellings.specs.Items.{legalItems}
+use Rattle.tellings.proofs.Apart.{doneOf}
+
+unfoldable pub computing : Unit {0}
+unfolding replies.computing legalItems doneOf
+computing = tt

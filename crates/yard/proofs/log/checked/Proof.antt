@@ -1,0 +1,105 @@
+-- `checked`: what is told of the words behind those passed, with the count so far, is told of the log.
+use Prim.Native.Nat.{ℕ, suc, _+_, _-_, _<_, _≤_}
+use mathlib.Core.Path.{_≡_, sym, ap, _∙_}
+use mathlib.Core.Bool.{true}
+use mathlib.Core.List.{List, _∷_}
+use native.Mathlib.Omega.{arith}
+use lib.ListN.{length, drop, drop-of-length-le, getD}
+use lib.Seq.{drop-cons}
+use borrow.Author.Needs.{needs}
+use Rattle.numbers.specs.Bits.{value}
+use Rattle.numbers.proofs.Rows.{value-small}
+use Rattle.yard.specs.Good.{good}
+use Rattle.yard.specs.Rules.{wordOf}
+use Rattle.yard.specs.Log.{checkedOf}
+use Rattle.yard.specs.declared.Yard.{Yard}
+use Rattle.yard.specs.declared.Judged.{Judged}
+use Rattle.yard.proofs.Keeps.{below-size, word-good}
+use Rattle.yard.proofs.Logs.{is-word, no-word, rest, rest-start, rest-bad, rest-step, rest-end}
+use Rattle.yard.proofs.log.checked.Statement.{statement}
+use Rattle.yard.proofs.log.checked.Tie as tie
+
+-- the words from a place on, and a step among them
+here : (y₀ y : Yard) (at count sendable : ℕ) (words : List ℕ) → at < length words → checkedOf y₀ words ≡ rest y sendable count (drop at words) → checkedOf y₀ words ≡ rest y sendable count (getD words at 0 ∷ drop (at + 1) words)
+here y₀ y at count sendable words l e = let n : at + 1 ≡ suc at = omega arith in e ∙ rw (drop-cons words at 0 l, n)
+
+abbrev Inv-loop : tie.InvT-loop
+Inv-loop words y₀ at₀ sendable₀ y at sendable =
+    (checkedOf y₀ words ≡ rest y sendable (length words) (drop at words)) × (good y ≡ true) × (sendable ≤ at) × (at ≤ length words)
+
+abbrev μ-loop : tie.MeasureT-loop
+μ-loop words y₀ at₀ sendable₀ y at sendable = length words - at
+
+loop-holds : tie.Need-loop-holds Inv-loop μ-loop
+loop-holds c = (rest-start _ _, c .before .pre, omega arith, omega arith)
+
+mul-word : tie.Need-mul-word Inv-loop μ-loop
+mul-word c = omega arith
+
+shared-slice-read-word : tie.Need-shared-slice-read-word Inv-loop μ-loop
+shared-slice-read-word c = omega arith
+
+word-requires : tie.Need-word-requires Inv-loop μ-loop
+word-requires c κs = let l = c .before .before .loop in below-size (l .y) (l .inv .1)
+
+refused-requires : tie.Need-refused-requires Inv-loop μ-loop
+refused-requires c κs = search needs
+
+returns : tie.Need-returns Inv-loop μ-loop
+returns c = let l = c .before .before .before .before .before .before .loop in
+    let a = c .before .before .before .before .before .before .before .before .args in
+    let w = getD (a .words .now) (l .at) 0 in
+    let k = no-word (l .y) w (λ e. c .before .if1 .taken (ap (λ (j : Judged). j .refusal) (c .before .before .before .word .ensures) ∙ e)) in
+    c .refused .ensures ∙ sym (here (a .yard) (l .y) (l .at) _ (l .sendable) (a .words .now) (omega arith) (l .inv .0) ∙ rest-bad (l .y) (l .sendable) _ w _ k)
+
+one-requires : tie.Need-one-requires Inv-loop μ-loop
+one-requires c κs = search needs
+
+add-sendable : tie.Need-add-sendable Inv-loop μ-loop
+add-sendable c = let l = c .before .before .before .before .before .before .before .loop in
+    omega (arith, value-small (c .before .before .before .before .word .result .can), c .one .ensures, l .inv .2)
+
+add-at : tie.Need-add-at Inv-loop μ-loop
+add-at c = omega arith
+
+loop-less : tie.Need-loop-less Inv-loop μ-loop
+loop-less c = omega arith
+
+loop-again : tie.Need-loop-again Inv-loop μ-loop
+loop-again c = let l = c .before .before .before .before .before .before .before .loop in
+    let a = c .before .before .before .before .before .before .before .before .before .args in
+    let w = getD (a .words .now) (l .at) 0 in
+    let j = c .before .before .before .before .word .ensures in
+    let k = is-word (l .y) w (ap (λ (j : Judged). j .refusal) (sym j) ∙ c .before .before .if1 .left) in
+    let one : c .one .result ≡ value (wordOf (l .y) w .can) = c .one .ensures ∙ ap (λ (j : Judged). value (j .can)) j in
+    let next : c .before .before .before .before .word .result .next ≡ wordOf (l .y) w .next = ap (λ (j : Judged). j .next) j in (
+      here (a .yard) (l .y) (l .at) _ (l .sendable) (a .words .now) (omega arith) (l .inv .0) ∙ rest-step (l .y) (l .sendable) _ w _ k ∙ rw (one, next),
+      rw next (word-good (l .y) (l .inv .1) w),
+      omega (arith, one, value-small (wordOf (l .y) w .can)),
+      omega arith,
+    )
+
+returns-2 : tie.Need-returns-2 Inv-loop μ-loop
+returns-2 c = let l = c .before .loop in
+    let a = c .before .before .before .args in
+    let e : length (a .words .now) ≡ l .at = omega arith in
+    sym (l .inv .0 ∙ rw (drop-of-length-le (a .words .now) {i = l .at} (omega arith), rest-end (l .y) (l .sendable) (length (a .words .now)), e))
+
+pub checked-spec : {M : Type 1} → statement M
+checked-spec =
+    tie.close
+    (tie.spec
+    Inv-loop
+    μ-loop
+    loop-holds
+    mul-word
+    shared-slice-read-word
+    word-requires
+    refused-requires
+    returns
+    one-requires
+    add-sendable
+    add-at
+    loop-less
+    loop-again
+    returns-2)

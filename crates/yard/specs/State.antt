@@ -1,0 +1,15 @@
+-- What a check is: its format, the first and the last byte of the report that is going, how many have gone, and whether it has ended.
+use Prim.Native.Nat.{ℕ}
+use mathlib.Core.Bool.{Bool, true, false}
+use Rattle.yard.specs.declared.Yard.{Yard}
+
+abbrev pub yard : ℕ → ℕ → ℕ → ℕ → Bool → Yard
+yard letter first last count ended = record { format = letter; first = first; last = last; count = count; ended = ended }
+
+-- between reports: no byte of one has gone
+abbrev pub noneGone : ℕ → Yard
+noneGone letter = yard letter 0 0 0 false
+
+-- a word has come that no box could send
+abbrev pub over : ℕ → Yard
+over letter = yard letter 0 0 0 true

@@ -1,0 +1,95 @@
+// The yard check: whether a box of ours, set to a format and then asked only for reports, can send the words of a log. Here stand its parts, its
+// numbers, and what a user calls.
+ghost use Rattle.yard.specs.Promises.{FreshPromise, StepPromise, CheckPromise};
+use crate::rules::none_gone;
+use crate::rules::refusing;
+
+mod good;
+mod log;
+mod rules;
+mod stands;
+
+// The words that are no bytes.
+pub(crate) const BREAK: u16 = 256;
+
+pub(crate) const SILENCE: u16 = 257;
+
+// The numbers given back.
+pub(crate) const SUCCESS: u8 = 0;
+
+pub(crate) const BAD_LETTER: u8 = 1;
+
+pub(crate) const BAD_WORD: u8 = 4;
+
+pub(crate) const BAD_STATE: u8 = 6;
+
+// The letter of the five byte format.
+pub(crate) const FORMAT_U: u8 = b'U';
+
+// How far a log has been checked: the format by its letter; of the report that is going the first byte, the last byte and how many have gone; and
+// whether a word has come that no box could send.
+pub struct Yard {
+    pub format: u8,
+    pub first: u8,
+    pub last: u8,
+    pub count: u8,
+    pub ended: bool,
+}
+
+// A new check, or why there is none of this letter.
+pub struct NewYard {
+    pub refusal: u8,
+    pub yard: Yard,
+}
+
+// What a word gives back: whether a box can have sent it, with those before it.
+pub struct Judged {
+    pub refusal: u8,
+    pub next: Yard,
+    pub can: bool,
+}
+
+// What a log gives back: whether a box can send all of it, and how many of its words, from the first, it can.
+pub struct Checked {
+    pub refusal: u8,
+    pub proper: bool,
+    pub sendable: usize,
+}
+
+impl Yard {
+    // A check that has seen no word. A letter that is not in the table is refused with 1 and a check of U.
+    pub fn fresh(letter: u8) -> NewYard
+        ensures { λ r. ⌜ FreshPromise letter r ⌝ }
+    {
+        if !wire::known(letter) {
+            return NewYard {
+                refusal: BAD_LETTER,
+                yard: none_gone(FORMAT_U),
+            };
+        }
+        NewYard {
+            refusal: SUCCESS,
+            yard: none_gone(letter),
+        }
+    }
+
+    // One word. Behind a word that cannot be sent none can.
+    pub fn step(self, word: u16) -> Judged
+        ensures { λ r. ⌜ StepPromise self word r ⌝ }
+    {
+        if !self.good() {
+            return refusing(BAD_STATE, self);
+        }
+        self.word(word)
+    }
+}
+
+// A whole log. A word above 257 anywhere in it is refused with 4, behind one that cannot be sent too.
+pub fn check(letter: u8, words: &[u16]) -> Checked
+    ensures { λ r. ⌜ CheckPromise letter (now (words .entry)) r ⌝ }
+{
+    if !wire::known(letter) {
+        return log::refused(BAD_LETTER);
+    }
+    log::checked(none_gone(letter), words)
+}
