@@ -447,6 +447,63 @@ static void salvages(void) {
     line("istrolf_salvage_list", 0, all);
 }
 
+/* The reader of listings. */
+
+static const char listings[] = "L\t4\nD\t0002\t1\nR\t0005\tL?-\t5\t3\nR\t0009\t-M-\t-128\t0\nE\t0011\nS\t6\nR\t000006\tLMR\t6\t3\nD\t009999\t3\nR\t010000\t--R\t1\t-2\nH\t0\nX";
+
+typedef struct {
+    istrolf_readback reader;
+    size_t at;
+} placed_readback;
+
+static placed_readback chosen_readback(placed_readback last, uint64_t call) {
+    uint64_t kind = drawn(call, 217, 32);
+    if (kind > 2) return last;
+    placed_readback m = {istrolf_readback_fresh(), 53 * kind};
+    if (kind < 2) return m;
+    uint32_t line = (uint32_t)(999990 * drawn(call, 213, 2) + drawn(call, 214, 12)), more = (uint32_t)drawn(call, 215, 4);
+    m.reader.ended = mark(call, 210), m.reader.salvage = mark(call, 211), m.reader.width = (uint8_t)(2 * drawn(call, 212, 4));
+    m.reader.last = line, m.reader.lines = more == 0 ? 0 : line + more - 1, m.at = drawn(call, 216, 114);
+    return m;
+}
+
+static uint64_t mixed_readback(uint8_t refusal, uint32_t line, size_t taken, size_t count, istrolf_readback r) {
+    uint64_t h = mixed(mixed(mixed(mixed(0, refusal), line), taken), count);
+    return mixed(mixed(mixed(mixed(mixed(h, r.width), r.ended), r.salvage), r.last), r.lines);
+}
+
+static void readbacks(void) {
+    uint64_t all = 0, refused = 0;
+    placed_readback last = {istrolf_readback_fresh(), 0};
+    for (uint64_t call = 0; call < 100000; call++) {
+        placed_readback m = chosen_readback(last, call);
+        uint64_t kind = drawn(call, 222, 8), one;
+        uint8_t number;
+        size_t at = m.at < sizeof listings - 1 ? m.at : 0, most = drawn(call, 218, 40);
+        if (most > sizeof listings - 1 - at) most = sizeof listings - 1 - at;
+        if (m.reader.ended > 1 || m.reader.salvage > 1 || kind == 0) {
+            istrolf_read_lines a = istrolf_readback_finish(m.reader, drawn(call, 221, 2));
+            number = a.refusal, one = mixed_readback(a.refusal, a.line, a.taken, a.items, a.next), last.reader = a.next, last.at = m.at;
+        } else if (kind < 4) {
+            uint8_t out[60];
+            memset(out, 46, 60);
+            istrolf_rewritten a = istrolf_readback_rewrite(m.reader, (const uint8_t *)listings + at, most, out, drawn(call, 220, 61));
+            one = mixed_bytes(mixed_readback(a.refusal, a.line, a.taken, a.written, a.next), out, 60);
+            number = a.refusal, last.reader = a.next, last.at = at + a.taken;
+        } else {
+            int32_t out[12];
+            for (int i = 0; i < 12; i++) out[i] = 7;
+            istrolf_read_lines a = istrolf_readback_read(m.reader, (const uint8_t *)listings + at, most, out, drawn(call, 219, 13));
+            one = mixed_readback(a.refusal, a.line, a.taken, a.items, a.next);
+            for (int i = 0; i < 12; i++) one = mixed_signed(one, out[i]);
+            number = a.refusal, last.reader = a.next, last.at = at + a.taken;
+        }
+        all = mixed(all, one);
+        refused += number > 0;
+    }
+    line("istrolf_readback", refused, all);
+}
+
 int main(void) {
     readers_fresh();
     reader_steps();
@@ -462,5 +519,6 @@ int main(void) {
     told_turns();
     picks();
     salvages();
+    readbacks();
     return 0;
 }

@@ -355,9 +355,10 @@ static void bridge(void) {
     same_bridge(a.next, 1, 2, 700, 201, 302);
 }
 
-static void same_readback(istrolf_readback r, uint8_t width, uint8_t ended, uint32_t last, uint32_t lines) {
+static void same_readback(istrolf_readback r, uint8_t width, uint8_t ended, uint8_t salvage, uint32_t last, uint32_t lines) {
     same("readback.width", r.width, width);
     same("readback.ended", r.ended, ended);
+    same("readback.salvage", r.salvage, salvage);
     same("readback.last", r.last, last);
     same("readback.lines", r.lines, lines);
 }
@@ -365,10 +366,10 @@ static void same_readback(istrolf_readback r, uint8_t width, uint8_t ended, uint
 static void readback(void) {
     int32_t out[12];
     const char listing[] = "R\t0042\tL?-\t-5\t300\nH\t2\nX";
-    same_readback(istrolf_readback_fresh(), 0, 0, 0, 0);
+    same_readback(istrolf_readback_fresh(), 0, 0, 0, 0, 0);
 
     /* in: the width, the last line number and the lines passed decide what is taken; out: the same by their members */
-    const istrolf_readback made = {4, 0, 41, 17};
+    const istrolf_readback made = {4, 0, 1, 41, 17};
     for (int i = 0; i < 12; i++) out[i] = 700 + i;
     istrolf_read_lines a = istrolf_readback_read(made, (const uint8_t *)listing, sizeof listing - 1, out, 12);
     const int32_t numbers[12] = {ISTROLF_ITEM_R, 42, 12, -5, 300, ISTROLF_ITEM_H, 0, 2, 0, 0, 710, 711};
@@ -377,11 +378,11 @@ static void readback(void) {
     same("read_lines.taken", (long long)a.taken, (long long)sizeof listing - 2);
     same("read_lines.items", (long long)a.items, 2);
     for (int i = 0; i < 12; i++) same("out", out[i], numbers[i]);
-    same_readback(a.next, 4, 1, 42, 19);
+    same_readback(a.next, 4, 1, 1, 42, 19);
     a = istrolf_readback_finish(a.next, 1);
     same("read_lines.refusal", a.refusal, ISTROLF_BAD_LISTING);
     same("read_lines.line", a.line, 20);
-    same_readback(a.next, 4, 1, 42, 19);
+    same_readback(a.next, 4, 1, 1, 42, 19);
     same("read_lines.refusal", istrolf_readback_finish(a.next, 0).refusal, 0);
     istrolf_readback r = made;
     r.last = 42; /* which is no longer below the line's number */
@@ -392,7 +393,30 @@ static void readback(void) {
     r.ended = 2;
     a = istrolf_readback_read(r, (const uint8_t *)listing, sizeof listing - 1, out, 12);
     same("read_lines.refusal", a.refusal, ISTROLF_BAD_STATE);
-    same_readback(a.next, 4, 2, 42, 17);
+    same_readback(a.next, 4, 2, 1, 42, 17);
+    r = made, r.salvage = 2;
+    a = istrolf_readback_read(r, (const uint8_t *)listing, sizeof listing - 1, out, 12);
+    same("read_lines.refusal", a.refusal, ISTROLF_BAD_STATE);
+    same_readback(a.next, 4, 0, 2, 41, 17);
+    r = made, r.salvage = 0;
+    same("readback.salvage", istrolf_readback_finish(r, 0).next.salvage, 0);
+    a = istrolf_readback_read(istrolf_readback_fresh(), (const uint8_t *)"S\t6\nH\t0\n", 8, out, 12);
+    same_readback(a.next, 6, 1, 1, 0, 2);
+
+    /* rewritten, with two digits more */
+    const char other[] = "R\t000042\tL?-\t-5\t300\nH\t2\n..";
+    uint8_t text[sizeof other - 1];
+    for (size_t i = 0; i < sizeof text; i++) text[i] = '.';
+    istrolf_rewritten w = istrolf_readback_rewrite(made, (const uint8_t *)listing, sizeof listing - 1, text, sizeof text);
+    same("rewritten.refusal", w.refusal, 0);
+    same("rewritten.line", w.line, 0);
+    same("rewritten.taken", (long long)w.taken, (long long)sizeof listing - 2);
+    same("rewritten.written", (long long)w.written, (long long)sizeof text - 2);
+    for (size_t i = 0; i < sizeof text; i++) same("text", text[i], other[i]);
+    same_readback(w.next, 4, 1, 1, 42, 19);
+    w = istrolf_readback_rewrite(w.next, (const uint8_t *)"H\t0\n", 4, text, sizeof text);
+    same("rewritten.refusal", w.refusal, ISTROLF_BAD_LISTING);
+    same("rewritten.line", w.line, 20);
     r = made, r.width = 5;
     same("read_lines.refusal", istrolf_readback_finish(r, 0).refusal, ISTROLF_BAD_STATE);
 }

@@ -274,10 +274,11 @@ istrolf_converted istrolf_bridge_convert(istrolf_bridge bridge, const uint16_t *
 /* ---- The reader of listings: a listing in, its items out, in pieces of any size. */
 
 typedef struct {
-    uint8_t width;  /* of its line numbers; 0 before the first line */
-    uint8_t ended;  /* 1 once its last line, an H or an E, has come, and else 0 */
-    uint32_t last;  /* the last line number */
-    uint32_t lines; /* lines passed */
+    uint8_t width;   /* of its line numbers; 0 before the first line */
+    uint8_t ended;   /* 1 once its last line, an H or an E, has come, and else 0 */
+    uint8_t salvage; /* 1 once the first line said that it is a salvage's listing, S, and else 0 */
+    uint32_t last;   /* the last line number */
+    uint32_t lines;  /* lines passed */
 } istrolf_readback;
 
 typedef struct {
@@ -311,7 +312,7 @@ typedef struct {
     istrolf_readback next;
 } istrolf_rewritten;
 
-/* A piece of a listing, rewritten with line numbers of the other width, 4 or 6. Refusals: BAD_STATE; BAD_LISTING, before a faulty line; TOO_WIDE, before a line
+/* A piece of a listing, rewritten with line numbers of the other width, 4 or 6, and the same first letter. Refusals: BAD_STATE; BAD_LISTING, before a faulty line; TOO_WIDE, before a line
  * whose number does not fit; whichever of the two comes first, with all as it stands before it. */
 istrolf_rewritten istrolf_readback_rewrite(istrolf_readback reader, const uint8_t *input, size_t count, uint8_t *out, size_t room);
 

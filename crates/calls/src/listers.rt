@@ -123,14 +123,14 @@ fn listed(a: Listed, at: usize, out: &[u8; 60]) -> Turn {
 }
 
 // Behind the text it begins again.
-fn begun(at: usize, length: usize) -> usize
+pub(crate) fn begun(at: usize, length: usize) -> usize
     ensures { λ r. ⌜ r ≤ length ⌝ }
 {
     if at < length { at } else { 0 }
 }
 
 // So many bytes further, or the end of the text.
-fn further(at: usize, count: usize, length: usize) -> usize
+pub(crate) fn further(at: usize, count: usize, length: usize) -> usize
     requires { ⌜ at ≤ length ⌝ }
     ensures { λ r. ⌜ (at ≤ r) × (r ≤ length) ⌝ }
 {

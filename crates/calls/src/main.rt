@@ -7,6 +7,7 @@ mod encoder;
 mod listers;
 mod mixes;
 mod print;
+mod readbacks;
 mod readers;
 mod salvages;
 mod told;
@@ -25,4 +26,5 @@ fn main() {
     told::turns();
     salvages::picks();
     salvages::recordings();
+    readbacks::listings();
 }

@@ -168,13 +168,16 @@ told-stands s = both (readers.stands (readers.packed (s .reader))) (leb (told.ki
 
 -- a reader of listings
 pub readback-there : (r : Readback) → readbacks.unpacked (readbacks.packed r) ≡ r
-readback-there r = λ i. record { width = r .width; last = r .last; lines = r .lines; ended = mark-back (r .ended) i }
+readback-there r = λ i. record { salvage = mark-back (r .salvage) i; width = r .width; last = r .last; lines = r .lines; ended = mark-back (r .ended) i }
 
 pub readback-back : (h : HeldReadback) → readbacks.stands h ≡ true → readbacks.packed (readbacks.unpacked h) ≡ h
-readback-back h s = λ i. record { width = h .width; ended = mark-of (h .ended) s i; last = h .last; lines = h .lines }
+readback-back h s =
+    let e = left (isMark (h .ended)) (isMark (h .salvage)) s in
+    let k = right (isMark (h .ended)) (isMark (h .salvage)) s in
+    λ i. record { width = h .width; ended = mark-of (h .ended) e i; salvage = mark-of (h .salvage) k i; last = h .last; lines = h .lines }
 
 pub readback-stands : (r : Readback) → readbacks.stands (readbacks.packed r) ≡ true
-readback-stands r = rw (mark-stands (r .ended))
+readback-stands r = rw (mark-stands (r .ended), mark-stands (r .salvage))
 
 -- a puck
 pub puck-there : (p : Puck) → pucks.unpacked (pucks.packed p) ≡ p

@@ -1,6 +1,6 @@
--- A reader of listings as C holds it: the same fields, and a number for the mark; and what a call gives back.
+-- A reader of listings as C holds it: the same fields, and a number for each mark; and what a call gives back.
 use Prim.Native.Nat.{ℕ}
-use mathlib.Core.Bool.{Bool}
+use mathlib.Core.Bool.{Bool, _&&_}
 use mathlib.Core.List.{List}
 use lib.IntN.{ℤ}
 use Rattle.wire.specs.Numbers.{badState}
@@ -15,14 +15,14 @@ use Rattle.istrolf.specs.declared.ReadLines.{ReadLines}
 use Rattle.istrolf.specs.declared.RewrittenLines.{RewrittenLines}
 
 abbrev pub packed : Readback → HeldReadback
-packed r = record { width = r .width; ended = mark (r .ended); last = r .last; lines = r .lines }
+packed r = record { width = r .width; ended = mark (r .ended); salvage = mark (r .salvage); last = r .last; lines = r .lines }
 
 abbrev pub unpacked : HeldReadback → Readback
-unpacked h = record { width = h .width; last = h .last; lines = h .lines; ended = marked (h .ended) }
+unpacked h = record { salvage = marked (h .salvage); width = h .width; last = h .last; lines = h .lines; ended = marked (h .ended) }
 
 -- what stands for a reader of listings
 abbrev pub stands : HeldReadback → Bool
-stands h = isMark (h .ended)
+stands h = isMark (h .ended) && isMark (h .salvage)
 
 abbrev pub packedBack : Back → ReadLines
 packedBack a = record { refusal = a .refusal; line = a .line; taken = a .taken; items = a .items; next = packed (a .next) }

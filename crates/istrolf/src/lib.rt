@@ -286,11 +286,12 @@ pub struct ReadPuckWords {
     pub dropped: usize,
 }
 
-// A reader of listings as C holds it: whether its last line has come is 0 or 1.
+// A reader of listings as C holds it: whether its last line has come, and whether the listing is a salvage's, are 0 or 1.
 #[repr(C)]
 pub struct HeldReadback {
     pub width: u8,
     pub ended: u8,
+    pub salvage: u8,
     pub last: u32,
     pub lines: u32,
 }

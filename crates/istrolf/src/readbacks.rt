@@ -16,6 +16,7 @@ fn packed(reader: Readback) -> HeldReadback
     HeldReadback {
         width: reader.width,
         ended: reader.ended as u8,
+        salvage: reader.salvage as u8,
         last: reader.last,
         lines: reader.lines,
     }
@@ -25,6 +26,7 @@ fn unpacked(held: HeldReadback) -> Readback
     ensures { λ r. ⌜ r ≡ unpacked held ⌝ }
 {
     Readback {
+        salvage: held.salvage == 1,
         width: held.width,
         last: held.last,
         lines: held.lines,
@@ -36,7 +38,7 @@ fn unpacked(held: HeldReadback) -> Readback
 fn stands(held: HeldReadback) -> bool
     ensures { λ r. ⌜ r ≡ stands held ⌝ }
 {
-    held.ended <= 1
+    (held.ended <= 1) & (held.salvage <= 1)
 }
 
 fn packed_back(back: Back) -> ReadLines

@@ -1,6 +1,7 @@
 -- Two answers that meet a promise are equal, and so is every byte of the slice.
 use Prim.Native.Nat.{ℕ}
 use mathlib.Core.Path.{_≡_, sym, _∙_, ap}
+use mathlib.Core.Bool.{Bool}
 use mathlib.Core.List.{List}
 use Rattle.listing.specs.Promises.{Whole, whole, LinePromise, FreshPromise, FeedPromise, FinishPromise, ByteScanPromise, ClosedScanPromise, EndScanPromise, ReportedPromise, ItemLinePromise, SalvagePromise}
 use Rattle.listing.specs.declared.Scan.{Scan}
@@ -18,8 +19,8 @@ parts e = (ap (λ (w : Whole). w .listed) e, ap (λ (w : Whole). w .out) e)
 pub one-fresh : {a b : Lister} → FreshPromise a → FreshPromise b → a ≡ b
 one-fresh p q = p ∙ sym q
 
-pub one-line : (g : Given) (w : ℕ) {a b : Text} → LinePromise g w a → LinePromise g w b → a ≡ b
-one-line g w p q = p ∙ sym q
+pub one-line : (g : Given) (salvage : Bool) (w : ℕ) {a b : Text} → LinePromise g salvage w a → LinePromise g salvage w b → a ≡ b
+one-line g salvage w p q = p ∙ sym q
 
 pub one-feed : (m : Lister) (input before : List ℕ) {a b : Listed} {left right : List ℕ} → FeedPromise m input before a left → FeedPromise m input before b right
     → (a ≡ b) × (left ≡ right)

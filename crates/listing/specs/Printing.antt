@@ -1,6 +1,6 @@
 -- Items, to bytes at a width of line numbers: a line is a letter and its fields, each behind a tab.
 use Prim.Native.Nat.{ℕ}
-use mathlib.Core.Bool.{Bool, cond}
+use mathlib.Core.Bool.{Bool, true, false, cond}
 use mathlib.Core.List.{List, [], _∷_, _++_}
 use lib.IntN.{pos}
 use Rattle.text.specs.Decimals.{plain, decimalOf}
@@ -57,6 +57,9 @@ form letter fields = record { letter = letter; fields = fields }
 abbrev pub letterL : ℕ
 letterL = 0x4C
 
+abbrev pub letterS : ℕ
+letterS = 0x53
+
 abbrev pub letterD : ℕ
 letterD = 0x44
 
@@ -78,9 +81,18 @@ formOf (item.H k) = form letterH (field.Number (pos k) ∷ [])
 formOf (item.E n) = form letterE (field.Line n ∷ [])
 formOf item.Over = form letterE (field.Over ∷ [])
 
--- "It always prints first `L` and the width of line numbers"
+-- "It always prints first `L` and the width of line numbers"; of a salvage, "its listing begins with `S` instead of `L`"
+abbrev pub firstLetter : Bool → ℕ
+firstLetter salvage = cond salvage letterS letterL
+
+abbrev pub openingOf : Bool → ℕ → Form
+openingOf salvage w = form (firstLetter salvage) (field.Number (pos w) ∷ [])
+
 abbrev pub opening : ℕ → Form
-opening w = form letterL (field.Number (pos w) ∷ [])
+opening w = openingOf false w
+
+abbrev pub openingS : ℕ → Form
+openingS w = openingOf true w
 
 -- the bytes of a line
 abbrev pub headOf : ℕ → Form → List ℕ
@@ -90,15 +102,11 @@ unfoldable pub lineOf : ℕ → Form → List ℕ
 lineOf w f = headOf w f ++ newline ∷ []
 
 -- the first line where nothing is given, or an item's
-abbrev pub lineAt : ℕ → Given → List ℕ
-lineAt w Nothing = lineOf w (opening w)
-lineAt w (One i) = lineOf w (formOf i)
+abbrev pub lineAt : Bool → ℕ → Given → List ℕ
+lineAt salvage w Nothing = lineOf w (openingOf salvage w)
+lineAt salvage w (One i) = lineOf w (formOf i)
 
 -- one line after the other
 abbrev pub allBytes : ℕ → List Item → List ℕ
 allBytes w [] = []
 allBytes w (i ∷ is) = lineOf w (formOf i) ++ allBytes w is
-
--- "its listing begins with `S` instead of `L`"
-abbrev pub openingS : ℕ → Form
-openingS w = form 0x53 (field.Number (pos w) ∷ [])

@@ -1,7 +1,7 @@
 -- What is promised of `Lister::fresh`, `Lister::feed`, `Lister::finish` and `Given::line`: for every argument one answer, and every byte of the slice; and of the scanner.
 use Prim.Native.Nat.{ℕ}
 use mathlib.Core.Path.{_≡_}
-use mathlib.Core.Bool.{cond}
+use mathlib.Core.Bool.{Bool, cond}
 use mathlib.Core.List.{List, _++_}
 use lib.ListN.{length, drop}
 use Rattle.wire.specs.Numbers.{success, badState}
@@ -50,9 +50,9 @@ feedOf m input out = cond (good m) (written (feedIn m input (length out)) out) (
 unfoldable pub finishOf : Lister → List ℕ → Whole
 finishOf m out = cond (good m) (written (finishIn m (length out)) out) (refused m out)
 
--- `Given::line(self, width)`: the text of a line at a width
-abbrev pub LinePromise : Given → ℕ → Text → Type 0
-LinePromise g w answer = answer ≡ textOf (lineAt w g)
+-- `Given::line(self, salvage, width)`: the text of a line at a width
+abbrev pub LinePromise : Given → Bool → ℕ → Text → Type 0
+LinePromise g salvage w answer = answer ≡ textOf (lineAt salvage w g)
 
 -- `Lister::fresh()`
 abbrev pub FreshPromise : Lister → Type 0

@@ -142,7 +142,7 @@ impl Lister {
     {
         let scanner = self.scanner;
         if (scanner.line == 0) & (scanner.count == 0) & !scanner.ended {
-            return printing::opening(WIDTH);
+            return printing::opening(false, WIDTH);
         }
         Text::none()
     }

@@ -119,5 +119,5 @@ pub(crate) struct Front {
 pub fn salvage_opening() -> Text
     ensures { λ r. ⌜ SalvagePromise r ⌝ }
 {
-    printing::opening_s()
+    printing::opening(true, WIDTH)
 }

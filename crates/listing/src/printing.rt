@@ -3,16 +3,14 @@ ghost use mathlib.Core.Path.{_≡_};
 ghost use mathlib.Core.List.{_∷_};
 ghost use Rattle.text.specs.Growth.{grownBy, textOf};
 ghost use Rattle.listing.specs.Lines.{tab};
-ghost use Rattle.listing.specs.Scanning.{width};
 ghost use Rattle.listing.specs.Items.{itemsIn};
 ghost use Rattle.listing.specs.Promises.{LinePromise};
-ghost use Rattle.listing.specs.Printing.{pressed, middle, three, over, fieldOf, formOf, headOf, lineOf, opening, openingS, allBytes};
+ghost use Rattle.listing.specs.Printing.{pressed, middle, three, over, fieldOf, formOf, headOf, lineOf, firstLetter, openingOf, allBytes};
 use crate::Buttons;
 use crate::Field;
 use crate::Given;
 use crate::Item;
 use crate::Middle;
-use crate::WIDTH;
 use text::Text;
 
 // The width of other numbers: no leading zeros.
@@ -109,28 +107,33 @@ pub(crate) fn printed(front: Text, width: u8, given: Given) -> Text
     }
 }
 
-// The line that is always printed first.
-pub(crate) fn opening(width: u8) -> Text
-    ensures { λ r. ⌜ r ≡ textOf (lineOf width (opening width)) ⌝ }
+// The letter that a listing begins with, or a salvage's.
+fn first(salvage: bool) -> u8
+    ensures { λ r. ⌜ r ≡ firstLetter salvage ⌝ }
 {
-    letter(Text::none(), width, b'L', Field::Number(width as i64)).with(b'\n')
+    if salvage { b'S' } else { b'L' }
+}
+
+// The line that is always printed first.
+pub(crate) fn opening(salvage: bool, width: u8) -> Text
+    ensures { λ r. ⌜ r ≡ textOf (lineOf width (openingOf salvage width)) ⌝ }
+{
+    letter(
+        Text::none(),
+        width,
+        first(salvage),
+        Field::Number(width as i64),
+    ).with(b'\n')
 }
 
 impl Given {
-    // A line of a listing at a width: the first where nothing is given, or an item's.
-    pub fn line(self, width: u8) -> Text
-        ensures { λ r. ⌜ LinePromise self width r ⌝ }
+    // A line of a listing, or of a salvage's, at a width: the first where nothing is given, or an item's.
+    pub fn line(self, salvage: bool, width: u8) -> Text
+        ensures { λ r. ⌜ LinePromise self salvage width r ⌝ }
     {
         match self {
-            Given::Nothing => opening(width),
+            Given::Nothing => opening(salvage, width),
             Given::One(item) => fields(Text::none(), width, item).with(b'\n'),
         }
     }
-}
-
-// The first line of a salvage.
-pub(crate) fn opening_s() -> Text
-    ensures { λ r. ⌜ r ≡ textOf (lineOf width (openingS width)) ⌝ }
-{
-    letter(Text::none(), WIDTH, b'S', Field::Number(WIDTH as i64)).with(b'\n')
 }

@@ -1,5 +1,5 @@
-// mtable: a listing on standard input, as a table on standard output: comma separated, a head line, a row for each item, and a last row that tells the end or
-// a fault and its line.
+// mtable: a listing on standard input, as a table on standard output: comma separated, a head line, a first row that says so where the listing is a salvage's, a row
+// for each item, and a last row that tells the end or a fault and its line.
 ghost use Prim.Native.Nat.{_≤_};
 ghost use lib.ListN.{length};
 use libc::STDERR_FILENO;
@@ -151,6 +151,25 @@ fn rows(items: &[i32], count: usize) -> bool {
     well
 }
 
+// The row of a salvage.
+fn salvage() -> bool {
+    let is_shown = io::write_all(STDOUT_FILENO, b"salvage,,,,,,,\n");
+    if !is_shown {
+        os::fail(b"mtable: standard output");
+    }
+    is_shown
+}
+
+// What was read: the first row where it is a salvage's that begins, and the rows of its items.
+fn brought(begins: bool, items: &[i32], count: usize) -> bool {
+    if begins {
+        if !salvage() {
+            return false;
+        }
+    }
+    rows(items, count)
+}
+
 // What standard input brings; where it cannot be read, why, to standard error.
 fn more(part: &mut [u8]) -> Got
     ensures { λ r. ⌜ r .count ≤ length (now (part .exit)) ⌝ }
@@ -208,9 +227,10 @@ fn block(reader: Readback, held: usize, input: &mut [u8], items: &mut [i32]) -> 
             fault: 0,
         };
     }
+    let before = reader.salvage;
     let back = front(reader, input, all, items);
     let next = back.next;
-    let well = rows(items, back.items);
+    let well = brought(next.salvage & !before, items, back.items);
     let left = kept(input, back.taken, all);
     Went {
         next: next,

@@ -15,26 +15,26 @@ use Rattle.fold.proofs.Laws.{over-taken}
 use Rattle.wire.specs.Numbers.{success}
 use Rattle.listing.specs.Scanning.{mostAt, width}
 use Rattle.listing.specs.Items.{itemsIn}
-use Rattle.listing.specs.Printing.{formOf, lineOf, opening, lineAt}
+use Rattle.listing.specs.Printing.{formOf, lineOf, openingOf, lineAt}
 use Rattle.listing.specs.declared.Item.{Item}
 use Rattle.listing.specs.declared.Item.the-variants as item
 use Rattle.listing.specs.declared.Given.{Given}
 use Rattle.listing.specs.declared.Given.the-variants.{Nothing, One}
-use Rattle.readback.specs.Items.{Numbered, Proper, itemIn, widthIn}
+use Rattle.readback.specs.Items.{Numbered, Proper, itemIn, widthIn, salvageIn}
 use Rattle.readback.specs.Steps.{oldWidth, widthKnown, readback, fresh, openedAt, passedBy, above, faulty, opens, said, stepOf, good}
 use Rattle.readback.specs.Pieces.{cutIn, isWhole, bodyOf, faultyLine, reads}
 use Rattle.readback.specs.Rewriting.{otherWidth, tooWide, fitsAt, givenFits, rewrites}
 use Rattle.readback.specs.Whole.{Reading, reading, readingFrom}
 use Rattle.readback.specs.declared.Readback.{Readback}
 use Rattle.readback.specs.declared.Step.{Step}
-use Rattle.readback.proofs.Goodness.{begun, known-is, known-few, step-ended, step-first, step-item, step-leaves}
+use Rattle.readback.proofs.Goodness.{begun, unread, known-is, known-few, step-ended, step-first, step-item, step-leaves}
 use Rattle.readback.proofs.Grammar.{Reads, item-read}
-use Rattle.readback.proofs.AsItWas.{cut-first, line-whole, letter-plain, item-step, first-step}
+use Rattle.readback.proofs.AsItWas.{cut-first, line-whole, letter-plain, first-plain, item-step, first-step}
 use Rattle.readback.proofs.Rewrites.{other-known}
 
 -- the reader of the rewritten listing
 abbrev pub across : Readback → Readback
-across r = readback (cond (eqb (r .lines) 0) 0 (otherWidth (r .width))) (r .last) (r .lines) (r .ended)
+across r = readback (r .salvage) (cond (eqb (r .lines) 0) 0 (otherWidth (r .width))) (r .last) (r .lines) (r .ended)
 
 -- a proper item whose number fits the other width is proper there
 numbered : (w n : ℕ) → widthKnown w ≡ true → leb n (mostAt w) ≡ true → Numbered w n
@@ -52,9 +52,9 @@ proper-there w v item.Over k f h = tt
 
 -- what a line does at the other width
 pub record Same (r : Readback) (s : Step) : Type 0 where
-  pub whole : isWhole (lineAt (otherWidth (s .next .width)) (s .given)) ≡ true
-  pub step : stepOf (across r) (bodyOf (lineAt (otherWidth (s .next .width)) (s .given))) ≡ record { good = true; next = across (s .next); given = s .given }
-  pub cut : (rest : List ℕ) → cutIn (lineAt (otherWidth (s .next .width)) (s .given) ++ rest) ≡ lineAt (otherWidth (s .next .width)) (s .given) ∷ cutIn rest
+  pub whole : isWhole (lineAt (s .next .salvage) (otherWidth (s .next .width)) (s .given)) ≡ true
+  pub step : stepOf (across r) (bodyOf (lineAt (s .next .salvage) (otherWidth (s .next .width)) (s .given))) ≡ record { good = true; next = across (s .next); given = s .given }
+  pub cut : (rest : List ℕ) → cutIn (lineAt (s .next .salvage) (otherWidth (s .next .width)) (s .given) ++ rest) ≡ lineAt (s .next .salvage) (otherWidth (s .next .width)) (s .given) ∷ cutIn rest
 
 abbrev Goes : Readback → Step → Type 0
 Goes r s = s .good ≡ true → givenFits (otherWidth (s .next .width)) (s .given) ≡ true → Same r s
@@ -64,19 +64,16 @@ module _ (r : Readback) (g : good r ≡ true) where
   no-item y f = absurd (true≢false (sym y))
 
   -- the first line
-  first-goes : r .lines ≡ 0 → r .ended ≡ false → (w : ℕ) → widthKnown w ≡ true → Goes r (record { good = true; next = openedAt w; given = Nothing })
-  unfolding good
-  first-goes z on w k y f =
+  first-goes : r .lines ≡ 0 → r .ended ≡ false → (s : Bool) (w : ℕ) → widthKnown w ≡ true → Goes r (record { good = true; next = openedAt s w; given = Nothing })
+  first-goes z on s w k y f =
       let v = otherWidth w in
-      let is-fresh : across r ≡ fresh = rw (eq-eqb (r .lines) 0 z) (rw (z, on, last-zero) refl) in
+      let none = unread r g z in
+      let is-fresh : across r ≡ fresh = rw (eq-eqb (r .lines) 0 z) (rw (z, on, none .0, none .1) refl) in
       record {
-        whole = line-whole v (opening v) refl;
-        step = ap (λ (q : Readback). stepOf q (bodyOf (lineOf v (opening v)))) is-fresh ∙ first-step v (other-known w);
-        cut = cut-first v (opening v) refl;
+        whole = line-whole v (openingOf s v) (first-plain s);
+        step = ap (λ (q : Readback). stepOf q (bodyOf (lineOf v (openingOf s v)))) is-fresh ∙ first-step s v (other-known w);
+        cut = cut-first v (openingOf s v) (first-plain s);
       }
-    where
-      last-zero : r .last ≡ 0
-      last-zero = let t = rw (eq-eqb (r .lines) 0 z) at g in eqb-true (r .last) 0 (right (eqb (r .width) 0) (eqb (r .last) 0) (left (eqb (r .width) 0 && eqb (r .last) 0) _ t))
 
   -- an item's
   item-goes : (n : r .lines ≡ 0 → ⊥) → r .ended ≡ false → (i : Item) → Proper (r .width) i → above (r .last) i ≡ true → Goes r (record { good = true; next = passedBy r i; given = One i })
@@ -106,7 +103,7 @@ module _ (r : Readback) (g : good r ≡ true) where
       go true e u z = subst (Goes r) (sym (step-ended r line e)) no-item
       go false e true z =
           subst (Goes r) (sym (step-first r line e (eqb-true _ _ z)))
-          (cases (Goes r) (widthKnown (widthIn line)) (λ k. first-goes (eqb-true _ _ z) e (widthIn line) k) (λ _. no-item))
+          (cases (Goes r) (widthKnown (widthIn line)) (λ k. first-goes (eqb-true _ _ z) e (salvageIn line) (widthIn line) k) (λ _. no-item))
       go false e false z = subst (Goes r) (sym (step-item r line e (eqb-false _ _ z))) (said-goes (eqb-false _ _ z) e (itemIn (r .width) line) (item-read (r .width) line))
 
 -- a line that is rewritten is whole, and taken by the reader

@@ -12,12 +12,12 @@ use Rattle.numbers.proofs.Tested.{left, right}
 use Rattle.wire.specs.Numbers.{success}
 use Rattle.listing.specs.Lines.{newline, lengthTo, front}
 use Rattle.listing.specs.Items.{itemsIn}
-use Rattle.listing.specs.Printing.{formOf, headOf, lineOf, opening, allBytes}
+use Rattle.listing.specs.Printing.{formOf, headOf, lineOf, openingOf, allBytes}
 use Rattle.listing.specs.declared.Item.{Item}
 use Rattle.listing.specs.declared.Item.the-variants as item
 use Rattle.listing.specs.declared.Given.{Given}
 use Rattle.listing.specs.declared.Given.the-variants.{Nothing, One}
-use Rattle.readback.specs.Items.{Proper, itemIn, widthIn}
+use Rattle.readback.specs.Items.{Proper, itemIn, widthIn, salvageIn}
 use Rattle.readback.specs.Steps.{widthKnown, fresh, openedAt, passedBy, lastBehind, above, closes, faulty, opens, passes, said, stepOf}
 use Rattle.readback.specs.Pieces.{cutIn, bytesIn, isWhole, bodyOf, faultyLine, reads}
 use Rattle.readback.specs.Whole.{Reading, reading, readingFrom, readingOf, printed, Listed}
@@ -63,24 +63,25 @@ not-refused r l h = go (isWhole l && stepOf r (bodyOf l) .good) h
     go false h = absurd (true≢false (sym h))
 
 -- behind the end nothing more is accepted
-none-behind : (r : Readback) (ls : List (List ℕ)) → r .ended ≡ true → readingFrom r ls .fault ≡ 0 → (ls ≡ []) × (readingFrom r ls .items ≡ [])
+none-behind : (r : Readback) (ls : List (List ℕ)) → r .ended ≡ true → readingFrom r ls .fault ≡ 0 → (ls ≡ []) × (readingFrom r ls .items ≡ []) × (readingFrom r ls .salvage ≡ r .salvage)
 unfolding readingFrom
-none-behind r [] e h = (refl, refl)
+none-behind r [] e h = (refl, refl, refl)
 none-behind r (l ∷ ls) e h = go (eqb (reads .refusal r l) success) refl h
   where
     later : Reading
     later = readingFrom (reads .next r l) ls
 
-    go : (t : Bool) → eqb (reads .refusal r l) success ≡ t → cond t (reading (itemsIn (reads .answer r l) ++ later .items) (later .fault)) (reading [] (r .lines + 1)) .fault ≡ 0
-        → (l ∷ ls ≡ []) × (cond t (reading (itemsIn (reads .answer r l) ++ later .items) (later .fault)) (reading [] (r .lines + 1)) .items ≡ [])
+    go : (t : Bool) → eqb (reads .refusal r l) success ≡ t → cond t (reading (later .salvage) (itemsIn (reads .answer r l) ++ later .items) (later .fault)) (reading (r .salvage) [] (r .lines + 1)) .fault ≡ 0
+        → (l ∷ ls ≡ []) × (cond t (reading (later .salvage) (itemsIn (reads .answer r l) ++ later .items) (later .fault)) (reading (r .salvage) [] (r .lines + 1)) .items ≡ [])
+        × (cond t (reading (later .salvage) (itemsIn (reads .answer r l) ++ later .items) (later .fault)) (reading (r .salvage) [] (r .lines + 1)) .salvage ≡ r .salvage)
     go true t h =
         let g = right (isWhole l) (stepOf r (bodyOf l) .good) (not-refused r l t) in
         absurd (true≢false (sym g ∙ ap (λ (s : Step). s .good) (step-ended r (bodyOf l) e)))
     go false t h = absurd (omega (arith, h))
 
--- what was accepted from a reader on: the items of a listing, and their bytes
-abbrev Accepted : ℕ → ℕ → Reading → List ℕ → Type 0
-Accepted w last k bytes = Listed w last (k .items) × (allBytes w (k .items) ≡ bytes)
+-- what was accepted from a reader on: the items of a listing, and their bytes; and it is what the reader said it is
+abbrev Accepted : Bool → ℕ → ℕ → Reading → List ℕ → Type 0
+Accepted s w last k bytes = Listed w last (k .items) × (allBytes w (k .items) ≡ bytes) × (k .salvage ≡ s)
 
 -- an item in front
 module _ (w : ℕ) (i : Item) (is : List Item) (last : ℕ) (proper : Proper w i) (up : above last i ≡ true) where
@@ -126,23 +127,23 @@ line-of w i body e = ap (λ (k : List ℕ). k ++ newline ∷ []) e
 
 -- what is accepted behind a reader that has not ended
 abbrev Rest : List (List ℕ) → Type 0
-Rest ls = (r : Readback) → r .ended ≡ false → (r .lines ≡ 0 → ⊥) → Tidy ls → readingFrom r ls .fault ≡ 0 → Accepted (r .width) (r .last) (readingFrom r ls) (bytesIn ls)
+Rest ls = (r : Readback) → r .ended ≡ false → (r .lines ≡ 0 → ⊥) → Tidy ls → readingFrom r ls .fault ≡ 0 → Accepted (r .salvage) (r .width) (r .last) (readingFrom r ls) (bytesIn ls)
 
 item-front : (r : Readback) (i : Item) (l : List ℕ) (ls : List (List ℕ)) → lineOf (r .width) (formOf i) ≡ l → Proper (r .width) i → above (r .last) i ≡ true → Tidy ls
     → readingFrom (passedBy r i) ls .fault ≡ 0 → Rest ls → (c : Bool) → closes i ≡ c
-    → let later = readingFrom (passedBy r i) ls in Accepted (r .width) (r .last) (reading (i ∷ later .items) (later .fault)) (l ++ bytesIn ls)
+    → let later = readingFrom (passedBy r i) ls in Accepted (r .salvage) (r .width) (r .last) (reading (later .salvage) (i ∷ later .items) (later .fault)) (l ++ bytesIn ls)
 item-front r i l ls line p u t f ih true e =
     let n = none-behind (passedBy r i) ls e f in
-    (ends-it (r .width) i (readingFrom (passedBy r i) ls .items) (r .last) p u e (n .1), rw (line, n .1, n .0))
+    (ends-it (r .width) i (readingFrom (passedBy r i) ls .items) (r .last) p u e (n .1), rw (line, n .1, n .0), n .2)
 item-front r i l ls line p u t f ih false e =
     let a = ih (passedBy r i) e (λ z. omega arith) t f in
-    (goes-before (r .width) i (readingFrom (passedBy r i) ls .items) (r .last) p u e (a .0), rw (line, a .1))
+    (goes-before (r .width) i (readingFrom (passedBy r i) ls .items) (r .last) p u e (a .0), rw (line, a .1), a .2)
 
 module _ (l : List ℕ) (ls : List (List ℕ)) (r : Readback) (on : r .ended ≡ false) (b : r .lines ≡ 0 → ⊥) (t : Tidy (l ∷ ls)) (ih : Rest ls) where
   abbrev all : Bool → Reading
-  all u = let later = readingFrom (reads .next r l) ls in cond u (reading (itemsIn (reads .answer r l) ++ later .items) (later .fault)) (reading [] (r .lines + 1))
+  all u = let later = readingFrom (reads .next r l) ls in cond u (reading (later .salvage) (itemsIn (reads .answer r l) ++ later .items) (later .fault)) (reading (r .salvage) [] (r .lines + 1))
 
-  line-front : (u : Bool) → eqb (reads .refusal r l) success ≡ u → all u .fault ≡ 0 → Accepted (r .width) (r .last) (all u) (l ++ bytesIn ls)
+  line-front : (u : Bool) → eqb (reads .refusal r l) success ≡ u → all u .fault ≡ 0 → Accepted (r .salvage) (r .width) (r .last) (all u) (l ++ bytesIn ls)
   line-front false e h = absurd (omega (arith, h))
   line-front true e h =
       let both = not-refused r l e in
@@ -157,48 +158,49 @@ unfolding readingFrom
 accepted-from [] r on b t h = absurd (omega (arith, rw on at h))
 accepted-from (l ∷ ls) r on b t h = line-front l ls r on b t (accepted-from ls) (eqb (reads .refusal r l) success) refl h
 
--- ACCEPTED: bytes without a fault are the items of a listing, printed at a known width
-pub record Printed (bytes : List ℕ) (is : List Item) : Type 0 where
+-- ACCEPTED: bytes without a fault are the items of a listing, or of a salvage's, as the reading says, printed at a known width
+pub record Printed (bytes : List ℕ) (k : Reading) : Type 0 where
   pub width : ℕ
   pub known : widthKnown width ≡ true
-  pub listed : Listed width 0 is
-  pub again : printed width is ≡ bytes
+  pub listed : Listed width 0 (k .items)
+  pub again : printed (k .salvage) width (k .items) ≡ bytes
 
-opens-went : (w : ℕ) → opens fresh w .good ≡ true → (widthKnown w ≡ true) × (opens fresh w ≡ record { good = true; next = openedAt w; given = Nothing })
-opens-went w h = go (widthKnown w) refl h
+opens-went : (s : Bool) (w : ℕ) → opens fresh s w .good ≡ true → (widthKnown w ≡ true) × (opens fresh s w ≡ record { good = true; next = openedAt s w; given = Nothing })
+opens-went s w h = go (widthKnown w) refl h
   where
-    go : (t : Bool) → widthKnown w ≡ t → cond t (record { good = true; next = openedAt w; given = Nothing }) (faulty fresh) .good ≡ true
-        → (widthKnown w ≡ true) × (cond t (record { good = true; next = openedAt w; given = Nothing }) (faulty fresh) ≡ record { good = true; next = openedAt w; given = Nothing })
+    go : (t : Bool) → widthKnown w ≡ t → cond t (record { good = true; next = openedAt s w; given = Nothing }) (faulty fresh) .good ≡ true
+        → (widthKnown w ≡ true) × (cond t (record { good = true; next = openedAt s w; given = Nothing }) (faulty fresh) ≡ record { good = true; next = openedAt s w; given = Nothing })
     go true e h = (e, refl)
     go false e h = absurd (true≢false (sym h))
 
-first-line : (w : ℕ) (body : List ℕ) → body ≡ headOf w (opening w) → body ++ newline ∷ [] ≡ lineOf w (opening w)
+first-line : (s : Bool) (w : ℕ) (body : List ℕ) → body ≡ headOf w (openingOf s w) → body ++ newline ∷ [] ≡ lineOf w (openingOf s w)
 unfolding lineOf
-first-line w body e = ap (λ (k : List ℕ). k ++ newline ∷ []) e
+first-line s w body e = ap (λ (k : List ℕ). k ++ newline ∷ []) e
 
 module _ (bytes l : List ℕ) (ls : List (List ℕ)) (is : l ++ bytesIn ls ≡ bytes) (t : Tidy (l ∷ ls)) where
   abbrev both : Bool → Reading
-  both u = let later = readingFrom (reads .next fresh l) ls in cond u (reading (itemsIn (reads .answer fresh l) ++ later .items) (later .fault)) (reading [] (fresh .lines + 1))
+  both u = let later = readingFrom (reads .next fresh l) ls in cond u (reading (later .salvage) (itemsIn (reads .answer fresh l) ++ later .items) (later .fault)) (reading (fresh .salvage) [] (fresh .lines + 1))
 
-  first-front : (u : Bool) → eqb (reads .refusal fresh l) success ≡ u → both u .fault ≡ 0 → Printed bytes (both u .items)
+  first-front : (u : Bool) → eqb (reads .refusal fresh l) success ≡ u → both u .fault ≡ 0 → Printed bytes (both u)
   unfolding printed
   first-front false e h = absurd (omega (arith, h))
   first-front true e h =
       let two = not-refused fresh l e in
       let w = widthIn (bodyOf l) in
+      let s = salvageIn (bodyOf l) in
       let first = step-first fresh (bodyOf l) refl refl in
-      let went = opens-went w (sym (ap (λ (s : Step). s .good) first) ∙ right (isWhole l) (stepOf fresh (bodyOf l) .good) two) in
+      let went = opens-went s w (sym (ap (λ (s : Step). s .good) first) ∙ right (isWhole l) (stepOf fresh (bodyOf l) .good) two) in
       let step = first ∙ went .1 in
-      let fault : readingFrom (openedAt w) ls .fault ≡ 0 = rw step at h in
-      let a = accepted-from ls (openedAt w) refl (λ z. omega arith) (t .1) fault in
-      let line : l ≡ lineOf w (opening w) =
-      sym (whole-is l (left (isWhole l) (stepOf fresh (bodyOf l) .good) two) (t .0)) ∙ first-line w (bodyOf l) (width-read (bodyOf l) (λ z. omega (arith, z, known-some w (went .0)))) in
-      rw step (record { width = w; known = went .0; listed = a .0; again = rw (a .1, ← line) is })
+      let fault : readingFrom (openedAt s w) ls .fault ≡ 0 = rw step at h in
+      let a = accepted-from ls (openedAt s w) refl (λ z. omega arith) (t .1) fault in
+      let line : l ≡ lineOf w (openingOf s w) =
+      sym (whole-is l (left (isWhole l) (stepOf fresh (bodyOf l) .good) two) (t .0)) ∙ first-line s w (bodyOf l) (width-read (bodyOf l) (λ z. omega (arith, z, known-some w (went .0)))) in
+      rw step (record { width = w; known = went .0; listed = a .0; again = rw (a .1, a .2, ← line) is })
 
-pub accepted : (bytes : List ℕ) → readingOf bytes .fault ≡ 0 → Printed bytes (readingOf bytes .items)
+pub accepted : (bytes : List ℕ) → readingOf bytes .fault ≡ 0 → Printed bytes (readingOf bytes)
 unfolding readingOf readingFrom
 accepted bytes h = go (cutIn bytes) (bytes-cut bytes) (cut-tidy bytes) h
   where
-    go : (ls : List (List ℕ)) → bytesIn ls ≡ bytes → Tidy ls → readingFrom fresh ls .fault ≡ 0 → Printed bytes (readingFrom fresh ls .items)
+    go : (ls : List (List ℕ)) → bytesIn ls ≡ bytes → Tidy ls → readingFrom fresh ls .fault ≡ 0 → Printed bytes (readingFrom fresh ls)
     go [] e t h = absurd (omega (arith, h))
     go (l ∷ ls) e t h = first-front bytes l ls e t (eqb (reads .refusal fresh l) success) refl h

@@ -17,7 +17,7 @@ use Rattle.wire.specs.Numbers.{success}
 use Rattle.listing.specs.Lines.{newline, lengthTo, linesIn}
 use Rattle.listing.specs.Scanning.{mostAt, width}
 use Rattle.listing.specs.Items.{itemsIn, itemsFrom}
-use Rattle.listing.specs.Printing.{fieldsOf, fieldOf, Form, formOf, headOf, lineOf, opening, allBytes}
+use Rattle.listing.specs.Printing.{fieldsOf, fieldOf, Form, formOf, headOf, lineOf, firstLetter, openingOf, allBytes}
 use Rattle.listing.specs.Listing.{itemsAt, listingAt, listingOf}
 use Rattle.listing.specs.declared.Field.{Field}
 use Rattle.listing.specs.declared.Item.{Item}
@@ -35,7 +35,7 @@ use Rattle.readback.specs.declared.Readback.{Readback}
 use Rattle.readback.specs.declared.Step.{Step}
 use Rattle.readback.proofs.Cuts.{cut-line, bytes-cut}
 use Rattle.readback.proofs.Goodness.{known-few, step-first, step-item}
-use Rattle.readback.proofs.Grammar.{past, field-above, read-item, Reads, item-read, read-width, width-read}
+use Rattle.readback.proofs.Grammar.{past, field-above, read-item, Reads, item-read, read-width, read-kind, width-read}
 
 -- a line has no newline but its last byte
 fields-above : (w : ℕ) (fs : List Field) (b : List ℕ) → lengthTo newline (fieldsOf w fs ++ b) ≡ length (fieldsOf w fs) + lengthTo newline b
@@ -95,44 +95,49 @@ module _ (p : ℕ) (r : Readback) (at : r .width ≡ suc p) (on : r .ended ≡ f
       ∙ ap (said r) (ap (λ (w : ℕ). itemIn w (headOf (suc p) (formOf i))) at ∙ read-item p i proper)
       ∙ ap (λ (t : Bool). cond t (record { good = true; next = passedBy r i; given = One i }) (faulty r)) up
 
-  item-goes : (ls : List (List ℕ)) → let later = readingFrom (passedBy r i) ls in readingFrom r (lineOf (suc p) (formOf i) ∷ ls) ≡ reading (i ∷ later .items) (later .fault)
+  item-goes : (ls : List (List ℕ)) → let later = readingFrom (passedBy r i) ls in readingFrom r (lineOf (suc p) (formOf i) ∷ ls) ≡ reading (later .salvage) (i ∷ later .items) (later .fault)
   unfolding readingFrom
   item-goes ls = rw (line-whole (suc p) (formOf i) (letter-plain i), item-step)
 
 -- items one behind the other
 items-back : (p : ℕ) (is : List Item) (r : Readback) → r .width ≡ suc p → r .ended ≡ false → (r .lines ≡ 0 → ⊥) → Listed (suc p) (r .last) is
-    → readingFrom r (cutIn (allBytes (suc p) is)) ≡ reading is 0
+    → readingFrom r (cutIn (allBytes (suc p) is)) ≡ reading (r .salvage) is 0
 unfolding readingFrom cutIn
 items-back p [] r at on b h = absurd h
 items-back p (item.R n k x y ∷ is) r at on b h =
     let i = item.R n k x y in
     ap (readingFrom r) (cut-first (suc p) (formOf i) refl (allBytes (suc p) is)) ∙ item-goes p r at on b i (h .0) (lt-ltb (r .last) n (h .1)) (cutIn (allBytes (suc p) is))
-    ∙ ap (λ (k : Reading). reading (i ∷ k .items) (k .fault)) (items-back p is (passedBy r i) at refl (λ z. omega arith) (h .2))
+    ∙ ap (λ (k : Reading). reading (k .salvage) (i ∷ k .items) (k .fault)) (items-back p is (passedBy r i) at refl (λ z. omega arith) (h .2))
 items-back p (item.D n k ∷ is) r at on b h =
     let i = item.D n k in
     ap (readingFrom r) (cut-first (suc p) (formOf i) refl (allBytes (suc p) is)) ∙ item-goes p r at on b i (h .0) (lt-ltb (r .last) n (h .1)) (cutIn (allBytes (suc p) is))
-    ∙ ap (λ (k : Reading). reading (i ∷ k .items) (k .fault)) (items-back p is (passedBy r i) at refl (λ z. omega arith) (h .2))
+    ∙ ap (λ (k : Reading). reading (k .salvage) (i ∷ k .items) (k .fault)) (items-back p is (passedBy r i) at refl (λ z. omega arith) (h .2))
 items-back p (item.H k ∷ is) r at on b h = rw (h .1) (ap (readingFrom r) (cut-first (suc p) (formOf (item.H k)) refl []) ∙ item-goes p r at on b (item.H k) (h .0) refl [])
 items-back p (item.E n ∷ is) r at on b h = rw (h .2) (ap (readingFrom r) (cut-first (suc p) (formOf (item.E n)) refl []) ∙ item-goes p r at on b (item.E n) (h .0) (lt-ltb (r .last) n (h .1)) [])
 items-back p (item.Over ∷ is) r at on b h = rw h (ap (readingFrom r) (cut-first (suc p) (formOf item.Over) refl []) ∙ item-goes p r at on b item.Over tt refl [])
 
 -- the first line
-pub first-step : (w : ℕ) → widthKnown w ≡ true → stepOf fresh (bodyOf (lineOf w (opening w))) ≡ record { good = true; next = openedAt w; given = Nothing }
-first-step w h =
-    let few : w ≤ high = omega (arith, known-few w h) in
-    ap (stepOf fresh) (line-body w (opening w) refl) ∙ step-first fresh (headOf w (opening w)) refl refl ∙ ap (opens fresh) (read-width w few)
-    ∙ ap (λ (t : Bool). cond t (record { good = true; next = openedAt w; given = Nothing }) (faulty fresh)) h
+pub first-plain : (s : Bool) → eqb (firstLetter s) newline ≡ false
+first-plain true = refl
+first-plain false = refl
 
-first-goes : (w : ℕ) → widthKnown w ≡ true → (ls : List (List ℕ)) → readingFrom fresh (lineOf w (opening w) ∷ ls) ≡ readingFrom (openedAt w) ls
+pub first-step : (s : Bool) (w : ℕ) → widthKnown w ≡ true → stepOf fresh (bodyOf (lineOf w (openingOf s w))) ≡ record { good = true; next = openedAt s w; given = Nothing }
+first-step s w h =
+    let few : w ≤ high = omega (arith, known-few w h) in
+    ap (stepOf fresh) (line-body w (openingOf s w) (first-plain s)) ∙ step-first fresh (headOf w (openingOf s w)) refl refl
+    ∙ ap (λ (t : Bool). opens fresh t (widthIn (headOf w (openingOf s w)))) (read-kind s w) ∙ ap (opens fresh s) (read-width s w few)
+    ∙ ap (λ (t : Bool). cond t (record { good = true; next = openedAt s w; given = Nothing }) (faulty fresh)) h
+
+first-goes : (s : Bool) (w : ℕ) → widthKnown w ≡ true → (ls : List (List ℕ)) → readingFrom fresh (lineOf w (openingOf s w) ∷ ls) ≡ readingFrom (openedAt s w) ls
 unfolding readingFrom
-first-goes w h ls = rw (line-whole w (opening w) refl, first-step w h)
+first-goes s w h ls = rw (line-whole w (openingOf s w) (first-plain s), first-step s w h)
 
 -- PRINTED THEN READ: items of a listing, printed at a known width, come back as they were, without a fault
-pub printed-read : (p : ℕ) (is : List Item) → widthKnown (suc p) ≡ true → Listed (suc p) 0 is → readingOf (printed (suc p) is) ≡ reading is 0
+pub printed-read : (s : Bool) (p : ℕ) (is : List Item) → widthKnown (suc p) ≡ true → Listed (suc p) 0 is → readingOf (printed s (suc p) is) ≡ reading s is 0
 unfolding readingOf printed
-printed-read p is k h =
-    ap (readingFrom fresh) (cut-first (suc p) (opening (suc p)) refl (allBytes (suc p) is)) ∙ first-goes (suc p) k (cutIn (allBytes (suc p) is))
-    ∙ items-back p is (openedAt (suc p)) refl refl (λ z. omega arith) h
+printed-read s p is k h =
+    ap (readingFrom fresh) (cut-first (suc p) (openingOf s (suc p)) (first-plain s) (allBytes (suc p) is)) ∙ first-goes s (suc p) k (cutIn (allBytes (suc p) is))
+    ∙ items-back p is (openedAt s (suc p)) refl refl (λ z. omega arith) h
 
 -- the items of the lister are such
 four-digits : (x : ℤ) → natAbs x < 10 ^ 4 → Sixteen x
@@ -140,25 +145,25 @@ four-digits (pos n) h = le-ltb 32767 n (omega arith)
 four-digits (negsuc n) h = let e : ltb 32767 n ≡ false = le-ltb 32767 n (omega arith) in rw e
 
 module _ (w : ℕ) (bound : (n : ℕ) → n ≤ mostAt w → Numbered w n) where
-  lister-items : (is : List Item) (last : ℕ) → Ordered (mostAt w) last is → Listed w last is
-  lister-items [] last h = absurd h
-  lister-items (item.R n b x y ∷ is) last h = ((bound n (h .0 .1), four-digits x (h .1), four-digits y (h .2)), h .0 .0, lister-items is n (h .3))
-  lister-items (item.D n k ∷ is) last h = ((bound n (h .0 .1), h .1, omega (arith, h .2)), h .0 .0, lister-items is n (h .3))
-  lister-items (item.H k ∷ is) last h = (omega (arith, h .0), h .1)
-  lister-items (item.E n ∷ is) last h = (bound n (h .0 .1), h .0 .0, h .1)
-  lister-items (item.Over ∷ is) last h = h
+  pub ordered-listed : (is : List Item) (last : ℕ) → Ordered (mostAt w) last is → Listed w last is
+  ordered-listed [] last h = absurd h
+  ordered-listed (item.R n b x y ∷ is) last h = ((bound n (h .0 .1), four-digits x (h .1), four-digits y (h .2)), h .0 .0, ordered-listed is n (h .3))
+  ordered-listed (item.D n k ∷ is) last h = ((bound n (h .0 .1), h .1, omega (arith, h .2)), h .0 .0, ordered-listed is n (h .3))
+  ordered-listed (item.H k ∷ is) last h = (omega (arith, h .0), h .1)
+  ordered-listed (item.E n ∷ is) last h = (bound n (h .0 .1), h .0 .0, h .1)
+  ordered-listed (item.Over ∷ is) last h = h
 
 -- AS IT WAS: the listing of every input comes back as its items, without a fault, at either width; and so does what a lister writes
-pub as-it-was-at-four : (input : List ℕ) → readingOf (listingAt 4 input) ≡ reading (itemsAt 4 input) 0
+pub as-it-was-at-four : (input : List ℕ) → readingOf (listingAt 4 input) ≡ reading false (itemsAt 4 input) 0
 unfolding printed
-as-it-was-at-four input = printed-read 3 (itemsAt 4 input) refl (lister-items 4 (λ n h. (omega (arith, h), omega (arith, h))) (itemsAt 4 input) 0 (ordered 4 (omega arith) input))
+as-it-was-at-four input = printed-read false 3 (itemsAt 4 input) refl (ordered-listed 4 (λ n h. (omega (arith, h), omega (arith, h))) (itemsAt 4 input) 0 (ordered 4 (omega arith) input))
 
-pub as-it-was : (input : List ℕ) → readingOf (listingOf input) ≡ reading (itemsAt width input) 0
+pub as-it-was : (input : List ℕ) → readingOf (listingOf input) ≡ reading false (itemsAt width input) 0
 unfolding listingOf printed
 as-it-was input =
-    printed-read 5 (itemsAt width input) refl (lister-items width (λ n h. (omega (arith, h), omega (arith, h))) (itemsAt width input) 0 (ordered width (omega arith) input))
+    printed-read false 5 (itemsAt width input) refl (ordered-listed width (λ n h. (omega (arith, h), omega (arith, h))) (itemsAt width input) 0 (ordered width (omega arith) input))
 
 -- THE SAME ITEMS: the listings of an input of at most 9,999 lines at both widths say the same
 pub same-at-both : (input : List ℕ) → length (linesIn input) ≤ mostAt 4 → readingOf (listingAt 4 input) ≡ readingOf (listingAt 6 input)
 unfolding listingOf
-same-at-both input h = as-it-was-at-four input ∙ ap (λ (is : List Item). reading is 0) (same-at-four-and-six input h) ∙ sym (as-it-was input)
+same-at-both input h = as-it-was-at-four input ∙ ap (λ (is : List Item). reading false is 0) (same-at-four-and-six input h) ∙ sym (as-it-was input)

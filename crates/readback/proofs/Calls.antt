@@ -136,33 +136,34 @@ and-no true = refl
 and-no false = refl
 
 -- a line that is refused
-refused-here : (r : Readback) (l : List ℕ) (ls : List (List ℕ)) → reads .refusal r l ≡ faultyLine → readingFrom r (l ∷ ls) ≡ reading [] (r .lines + 1)
+refused-here : (r : Readback) (l : List ℕ) (ls : List (List ℕ)) → reads .refusal r l ≡ faultyLine → readingFrom r (l ∷ ls) ≡ reading (r .salvage) [] (r .lines + 1)
 unfolding readingFrom
 refused-here r l ls e = rw e
 
-no-newline : (r : Readback) (l : List ℕ) → 0 < length l → lengthTo newline l ≡ length l → readingFrom r (cutIn l) ≡ reading [] (r .lines + 1)
+no-newline : (r : Readback) (l : List ℕ) → 0 < length l → lengthTo newline l ≡ length l → readingFrom r (cutIn l) ≡ reading (r .salvage) [] (r .lines + 1)
 no-newline r l some none = ap (readingFrom r) (cut-none l some none) ∙ refused-here r l [] (rw (not-whole l some none))
 
 finish-says : (r : Readback) (left : List ℕ) (a : Back) → good r ≡ true → lengthTo newline left ≡ length left → FinishPromise r (length left) a
-    → readingFrom r (cutIn left) ≡ reading [] (a .line)
+    → readingFrom r (cutIn left) ≡ reading (r .salvage) [] (a .line)
 unfolding readingFrom cutIn
-finish-says r [] a g n p = ap (reading []) (sym (finish-line r 0 a g p ∙ ap (λ (t : Bool). cond t 0 (r .lines + 1)) (and-yes (r .ended))))
+finish-says r [] a g n p = ap (reading (r .salvage) []) (sym (finish-line r 0 a g p ∙ ap (λ (t : Bool). cond t 0 (r .lines + 1)) (and-yes (r .ended))))
 finish-says r (c ∷ l) a g n p =
     no-newline r (c ∷ l) (omega arith) n
-    ∙ ap (reading []) (sym (finish-line r (suc (length l)) a g p ∙ ap (λ (t : Bool). cond (r .ended && t) 0 (r .lines + 1)) (ne-eqb (suc (length l)) 0 (λ e. omega arith)) ∙ ap (λ (t : Bool). cond t 0 (r .lines + 1)) (and-no (r .ended))))
+    ∙ ap (reading (r .salvage) []) (sym (finish-line r (suc (length l)) a g p ∙ ap (λ (t : Bool). cond (r .ended && t) 0 (r .lines + 1)) (ne-eqb (suc (length l)) 0 (λ e. omega arith)) ∙ ap (λ (t : Bool). cond t 0 (r .lines + 1)) (and-no (r .ended))))
 
--- IN CALLS: what a fresh reader wrote is the numbers of the items that the listing says, and its end tells the listing's fault, if it has one
+-- IN CALLS: what a fresh reader wrote is the numbers of the items that the listing says, its end tells the listing's fault, if it has one, and it says which
+-- listing it read
 pub in-calls : (ks : List Call) (left : List ℕ) (a : Back) → Permitted fresh ks → lengthTo newline left ≡ length left → FinishPromise (readerAfter fresh ks) (length left) a
-    → let said = readingOf (takenBy ks ++ left) in (writtenBy ks ≡ allNumbers (said .items)) × (a .line ≡ said .fault)
+    → let said = readingOf (takenBy ks ++ left) in (writtenBy ks ≡ allNumbers (said .items)) × (a .line ≡ said .fault) × (readerAfter fresh ks .salvage ≡ said .salvage)
 unfolding readingOf
 in-calls ks left a h n p =
     let s = calls-say ks left fresh goodness.fresh-is-good h in
     let e = s .says ∙ ap (before (s .items)) (finish-says (readerAfter fresh ks) left a (after-good ks fresh goodness.fresh-is-good h) n p) in
-    (s .wrote ∙ ap allNumbers (sym (append-nil (s .items)) ∙ sym (ap (λ (k : Reading). k .items) e)), sym (ap (λ (k : Reading). k .fault) e))
+    (s .wrote ∙ ap allNumbers (sym (append-nil (s .items)) ∙ sym (ap (λ (k : Reading). k .items) e)), sym (ap (λ (k : Reading). k .fault) e), sym (ap (λ (k : Reading). k .salvage) e))
 
 -- a fault at the front of bytes is there whatever follows them
 module _ (r : Readback) (g : good r ≡ true) (d q : List ℕ) (room : ℕ) (no : run reads r (linesOf d) room .refusal ≡ faultyLine) (none : length (run reads r (linesOf d) room .answers) ≡ 0) where
-  whole-first : lengthTo newline d < length d → readingFrom r (cutIn (d ++ q)) ≡ reading [] (r .lines + 1)
+  whole-first : lengthTo newline d < length d → readingFrom r (cutIn (d ++ q)) ≡ reading (r .salvage) [] (r .lines + 1)
   unfolding run
   whole-first there =
       let n = suc (lengthTo newline d) in
@@ -187,10 +188,10 @@ module _ (r : Readback) (g : good r ≡ true) (d q : List ℕ) (room : ℕ) (no 
       go false b ih = let k : suc (lengthTo newline l) ≡ suc (length l) = rw b at e in rw b (omega (arith, ih (omega arith)))
 
   -- a line that is too long for any, and what follows it
-  long-first : 0 < length d → lengthTo newline d ≡ length d → longest < length d → readingFrom r (cutIn (d ++ q)) ≡ reading [] (r .lines + 1)
+  long-first : 0 < length d → lengthTo newline d ≡ length d → longest < length d → readingFrom r (cutIn (d ++ q)) ≡ reading (r .salvage) [] (r .lines + 1)
   long-first some e h = go (ltb (lengthTo newline (d ++ q)) (length (d ++ q))) refl
     where
-      go : (t : Bool) → ltb (lengthTo newline (d ++ q)) (length (d ++ q)) ≡ t → readingFrom r (cutIn (d ++ q)) ≡ reading [] (r .lines + 1)
+      go : (t : Bool) → ltb (lengthTo newline (d ++ q)) (length (d ++ q)) ≡ t → readingFrom r (cutIn (d ++ q)) ≡ reading (r .salvage) [] (r .lines + 1)
       go true b =
           let l = d ++ q in
           let n = lengthTo newline l in
@@ -212,10 +213,10 @@ module _ (r : Readback) (g : good r ≡ true) (d q : List ℕ) (room : ℕ) (no 
       go [] z = refl
       go (c ∷ l) z = absurd (omega arith)
 
-  pub first-refused : readingFrom r (cutIn (d ++ q)) ≡ reading [] (r .lines + 1)
+  pub first-refused : readingFrom r (cutIn (d ++ q)) ≡ reading (r .salvage) [] (r .lines + 1)
   first-refused = go (ltb (lengthTo newline d) (length d)) refl (leb (length d) longest) refl (eqb (length d) 0) refl
     where
-      go : (t : Bool) → ltb (lengthTo newline d) (length d) ≡ t → (u : Bool) → leb (length d) longest ≡ u → (v : Bool) → eqb (length d) 0 ≡ v → readingFrom r (cutIn (d ++ q)) ≡ reading [] (r .lines + 1)
+      go : (t : Bool) → ltb (lengthTo newline d) (length d) ≡ t → (u : Bool) → leb (length d) longest ≡ u → (v : Bool) → eqb (length d) 0 ≡ v → readingFrom r (cutIn (d ++ q)) ≡ reading (r .salvage) [] (r .lines + 1)
       go true et u eu v ev = whole-first (ltb-true _ _ et)
       go false et u eu true ev = absurd (none-handed (no-bytes (eqb-true _ _ ev)))
       go false et u eu false ev =
@@ -223,13 +224,13 @@ module _ (r : Readback) (g : good r ≡ true) (d q : List ℕ) (room : ℕ) (no 
           let e : lengthTo newline d ≡ length d = omega (arith, ltb-false (lengthTo newline d) (length d) et, to-within newline d) in
           long u eu some e
         where
-          long : (u : Bool) → leb (length d) longest ≡ u → 0 < length d → lengthTo newline d ≡ length d → readingFrom r (cutIn (d ++ q)) ≡ reading [] (r .lines + 1)
+          long : (u : Bool) → leb (length d) longest ≡ u → 0 < length d → lengthTo newline d ≡ length d → readingFrom r (cutIn (d ++ q)) ≡ reading (r .salvage) [] (r .lines + 1)
           long true eu some e = absurd (none-handed (lines-short d some e (leb-true _ _ eu)))
           long false eu some e = long-first some e (leb-false _ _ eu)
 
 -- A FAULT IS TOLD AT ITS LINE, whatever follows: the items before it are handed out, and nothing behind it
 module _ (r : Readback) (piece : List ℕ) (out after : List ℤ) (a : Back) (g : good r ≡ true) (p : ReadPromise r piece out a after) (no : a .refusal ≡ faultyLine) where
-  fault-says : (q : List ℕ) → readingFrom r (cutIn (piece ++ q)) ≡ reading (itemsAmong (run reads r (linesOf piece) (length out) .answers)) (a .line)
+  fault-says : (q : List ℕ) → readingFrom r (cutIn (piece ++ q)) ≡ reading (a .next .salvage) (itemsAmong (run reads r (linesOf piece) (length out) .answers)) (a .line)
   fault-says q =
       let f = run reads r (linesOf piece) (length out) in
       let t = length (bytesIn (take (length (f .answers)) (linesOf piece))) in
@@ -242,10 +243,10 @@ module _ (r : Readback) (piece : List ℕ) (out after : List ℤ) (a : Back) (g 
       let first = first-refused (f .next) (run-good (linesOf piece) r (length out) g) d q room number none in
       let line : a .line ≡ f .next .lines + 1 = call-line r piece out after a g p ∙ rw (no, call-next r piece out after a g p) in
       ap (λ (l : List ℕ). readingFrom r (cutIn l)) (front-and-rest r piece (length out) q) ∙ ap (readingFrom r) (cut-wholes (take (length (f .answers)) (linesOf piece)) (d ++ q) (taken-whole r piece (length out)))
-      ∙ reading-taken r (linesOf piece) (length out) (cutIn (d ++ q)) ∙ ap (before (itemsAmong (f .answers))) first ∙ rw (append-nil, line)
+      ∙ reading-taken r (linesOf piece) (length out) (cutIn (d ++ q)) ∙ ap (before (itemsAmong (f .answers))) first ∙ rw (append-nil, line, call-next r piece out after a g p)
 
 pub fault-told : (ks : List Call) (piece rest : List ℕ) (out after : List ℤ) (a : Back) → Permitted fresh ks → ReadPromise (readerAfter fresh ks) piece out a after → a .refusal ≡ faultyLine
-    → let said = readingOf (takenBy ks ++ (piece ++ rest)) in (writtenBy ks ++ take (5 * a .items) after ≡ allNumbers (said .items)) × (a .line ≡ said .fault)
+    → let said = readingOf (takenBy ks ++ (piece ++ rest)) in (writtenBy ks ++ take (5 * a .items) after ≡ allNumbers (said .items)) × (a .line ≡ said .fault) × (a .next .salvage ≡ said .salvage)
 unfolding readingOf
 fault-told ks piece rest out after a h p seven =
     let g = after-good ks fresh goodness.fresh-is-good h in
@@ -254,6 +255,7 @@ fault-told ks piece rest out after a h p seven =
     let e = s .says ∙ ap (before (s .items)) (fault-says (readerAfter fresh ks) piece out after a g p seven rest) in (
       rw (s .wrote, call-numbers (readerAfter fresh ks) piece out after a g p) (sym (numbers-append (s .items) is)) ∙ ap allNumbers (sym (ap (λ (k : Reading). k .items) e)),
       sym (ap (λ (k : Reading). k .fault) e),
+      sym (ap (λ (k : Reading). k .salvage) e),
     )
 
 -- so that where a listing has no fault no call finds one

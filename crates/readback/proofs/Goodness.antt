@@ -6,7 +6,7 @@ use mathlib.Core.Logic.{_⊎_, inl, inr, ⊎-elim}
 use mathlib.Core.List.{List}
 use native.Mathlib.Omega.{arith}
 use lib.Dec.{ltb, leb, eqb}
-use borrow.Author.Tests.{ltb-true, leb-true, eqb-true, eqb-false, le-leb, eq-eqb, ne-eqb}
+use borrow.Author.Tests.{ltb-true, leb-true, eqb-true, eqb-false, le-leb, eq-eqb, ne-eqb, not-true}
 use Rattle.numbers.proofs.Choices.{cases, both}
 use Rattle.numbers.proofs.Tested.{left, right}
 use Rattle.listing.specs.Scanning.{width, mostLines}
@@ -14,7 +14,7 @@ use Rattle.listing.specs.declared.Item.{Item}
 use Rattle.listing.specs.declared.Item.the-variants as item
 use Rattle.listing.specs.declared.Given.{Given}
 use Rattle.listing.specs.declared.Given.the-variants.{Nothing, One}
-use Rattle.readback.specs.Items.{Small, itemIn, widthIn}
+use Rattle.readback.specs.Items.{Small, itemIn, widthIn, salvageIn}
 use Rattle.readback.specs.Steps.{oldWidth, widthKnown, openedAt, passedBy, lastBehind, above, closes, faulty, opens, passes, said, stepOf, besides, fresh, good}
 use Rattle.readback.specs.declared.Readback.{Readback}
 use Rattle.readback.specs.declared.Step.{Step}
@@ -66,6 +66,14 @@ module _ (r : Readback) where
       (both (widthKnown (r .width) && leb (besides (r .ended)) (r .lines)) (leb (r .lines) (r .last + besides (r .ended)))
       (both (widthKnown (r .width)) (leb (besides (r .ended)) (r .lines)) (b .width) (le-leb _ _ (b .some))) (le-leb _ _ (b .few))))
 
+-- and one before it
+pub unread : (r : Readback) → good r ≡ true → r .lines ≡ 0 → (r .last ≡ 0) × (r .salvage ≡ false)
+unfolding good
+unread r g z =
+    let all = rw (eq-eqb (r .lines) 0 z) at g in
+    let two = eqb (r .width) 0 && eqb (r .last) 0 in
+    (eqb-true (r .last) 0 (right (eqb (r .width) 0) (eqb (r .last) 0) (left two (not (r .ended)) (left (two && not (r .ended)) (not (r .salvage)) all))), not-true (r .salvage) (right (two && not (r .ended)) (not (r .salvage)) all))
+
 pub besides-most : (t : Bool) → besides t ≤ 2
 besides-most true = omega arith
 besides-most false = omega arith
@@ -82,27 +90,27 @@ few-lines r g = go (eqb (r .lines) 0) refl
 module _ (r : Readback) (line : List ℕ) where
   pub step-ended : r .ended ≡ true → stepOf r line ≡ faulty r
   unfolding stepOf
-  step-ended e = ap (λ (t : Bool). cond t (faulty r) (cond (eqb (r .lines) 0) (opens r (widthIn line)) (said r (itemIn (r .width) line)))) e
+  step-ended e = ap (λ (t : Bool). cond t (faulty r) (cond (eqb (r .lines) 0) (opens r (salvageIn line) (widthIn line)) (said r (itemIn (r .width) line)))) e
 
-  pub step-first : r .ended ≡ false → r .lines ≡ 0 → stepOf r line ≡ opens r (widthIn line)
+  pub step-first : r .ended ≡ false → r .lines ≡ 0 → stepOf r line ≡ opens r (salvageIn line) (widthIn line)
   unfolding stepOf
   step-first e z =
-      ap (λ (t : Bool). cond t (faulty r) (cond (eqb (r .lines) 0) (opens r (widthIn line)) (said r (itemIn (r .width) line)))) e
-      ∙ ap (λ (t : Bool). cond t (opens r (widthIn line)) (said r (itemIn (r .width) line))) (eq-eqb (r .lines) 0 z)
+      ap (λ (t : Bool). cond t (faulty r) (cond (eqb (r .lines) 0) (opens r (salvageIn line) (widthIn line)) (said r (itemIn (r .width) line)))) e
+      ∙ ap (λ (t : Bool). cond t (opens r (salvageIn line) (widthIn line)) (said r (itemIn (r .width) line))) (eq-eqb (r .lines) 0 z)
 
   pub step-item : r .ended ≡ false → (r .lines ≡ 0 → ⊥) → stepOf r line ≡ said r (itemIn (r .width) line)
   unfolding stepOf
   step-item e n =
-      ap (λ (t : Bool). cond t (faulty r) (cond (eqb (r .lines) 0) (opens r (widthIn line)) (said r (itemIn (r .width) line)))) e
-      ∙ ap (λ (t : Bool). cond t (opens r (widthIn line)) (said r (itemIn (r .width) line))) (ne-eqb (r .lines) 0 n)
+      ap (λ (t : Bool). cond t (faulty r) (cond (eqb (r .lines) 0) (opens r (salvageIn line) (widthIn line)) (said r (itemIn (r .width) line)))) e
+      ∙ ap (λ (t : Bool). cond t (opens r (salvageIn line) (widthIn line)) (said r (itemIn (r .width) line))) (ne-eqb (r .lines) 0 n)
 
 -- FRESH IS GOOD, and every line of a good reader leaves it good
 pub fresh-is-good : good fresh ≡ true
 unfolding good
 fresh-is-good = refl
 
-opened-good : (w : ℕ) → widthKnown w ≡ true → good (openedAt w) ≡ true
-opened-good w h = good-begun (openedAt w) (λ z. omega arith) (record { last = omega arith; width = h; some = omega arith; few = omega arith })
+opened-good : (s : Bool) (w : ℕ) → widthKnown w ≡ true → good (openedAt s w) ≡ true
+opened-good s w h = good-begun (openedAt s w) (λ z. omega arith) (record { last = omega arith; width = h; some = omega arith; few = omega arith })
 
 passed-good : (r : Readback) (i : Item) → good r ≡ true → (r .lines ≡ 0 → ⊥) → r .ended ≡ false → Small i → above (r .last) i ≡ true → good (passedBy r i) ≡ true
 passed-good r i g n e s a =
@@ -131,6 +139,6 @@ step-leaves r line h = go (r .ended) refl (eqb (r .lines) 0) refl
     go : (t : Bool) → r .ended ≡ t → (u : Bool) → eqb (r .lines) 0 ≡ u → Leaves (stepOf r line)
     go true e u z = subst Leaves (sym (step-ended r line e)) (h, tt)
     go false e true z =
-        subst Leaves (sym (step-first r line e (eqb-true _ _ z))) (cases Leaves (widthKnown (widthIn line)) (λ k. (opened-good (widthIn line) k, tt)) (λ _. (h, tt)))
+        subst Leaves (sym (step-first r line e (eqb-true _ _ z))) (cases Leaves (widthKnown (widthIn line)) (λ k. (opened-good (salvageIn line) (widthIn line) k, tt)) (λ _. (h, tt)))
     go false e false z =
         subst Leaves (sym (step-item r line e (eqb-false _ _ z))) (said-good r (itemIn (r .width) line) h (eqb-false _ _ z) e (small-item (r .width) line))

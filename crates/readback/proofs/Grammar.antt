@@ -20,7 +20,7 @@ use Rattle.text.specs.declared.Number.the-variants.{None, Is}
 use Rattle.text.proofs.Digits.{digits-long, places-hold, places-few, all-digits, written-read, read-written}
 use Rattle.listing.specs.Lines.{tab, newline, lengthTo}
 use Rattle.listing.specs.Scanning.{mostLines}
-use Rattle.listing.specs.Printing.{pressed as pressedLetter, middle, three, over, fieldOf, fieldsOf, letterD, letterR, letterH, letterE, letterL, formOf, headOf, opening}
+use Rattle.listing.specs.Printing.{pressed as pressedLetter, middle, three, over, fieldOf, fieldsOf, letterD, letterR, letterH, letterE, letterL, letterS, firstLetter, formOf, headOf, openingOf}
 use Rattle.listing.specs.declared.Middle.{Middle}
 use Rattle.listing.specs.declared.Middle.the-variants.{Up, Down, Unknown}
 use Rattle.listing.specs.declared.Buttons.{Buttons}
@@ -31,7 +31,7 @@ use Rattle.listing.specs.declared.Field.the-variants as field
 use Rattle.listing.specs.declared.Given.{Given}
 use Rattle.listing.specs.declared.Given.the-variants.{Nothing, One}
 use Rattle.readback.specs.Fields.{low, high, within, lineIn, threeOf, pressedIn, overIn, valueIn, Part, part, none, fieldIn, Fields, fieldsIn}
-use Rattle.readback.specs.Items.{pressedNumber, buttonsAt, Sixteen, Numbered, Proper, valueAt, numberAt, droppedIn, reportIn, keptIn, badIn, itemIn, widthIn}
+use Rattle.readback.specs.Items.{pressedNumber, buttonsAt, Sixteen, Numbered, Proper, valueAt, numberAt, droppedIn, reportIn, keptIn, badIn, itemIn, widthIn, salvageIn}
 use Rattle.readback.specs.declared.Kind.{Kind}
 use Rattle.readback.specs.declared.Kind.the-variants as kind
 use Rattle.readback.specs.declared.Value.{Value}
@@ -385,20 +385,37 @@ item-read w (c ∷ l) =
     at c letter e i h = subst (λ (c : ℕ). Reads w (c ∷ l) (One i)) (sym (eqb-true c letter e)) h
 
 -- the first line, both ways
-pub read-width : (w : ℕ) → w ≤ high → widthIn (headOf w (opening w)) ≡ w
+pub read-width : (s : Bool) (w : ℕ) → w ≤ high → widthIn (headOf w (openingOf s w)) ≡ w
 unfolding widthIn
-read-width w h = rw (read-fields 0 (then (count {k = w} h) none-left))
+read-width true w h = rw (read-fields 0 (then (count {k = w} h) none-left))
+read-width false w h = rw (read-fields 0 (then (count {k = w} h) none-left))
 
-pub width-read : (line : List ℕ) → (widthIn line ≡ 0 → ⊥) → line ≡ headOf (widthIn line) (opening (widthIn line))
-unfolding widthIn
+pub read-kind : (s : Bool) (w : ℕ) → salvageIn (headOf w (openingOf s w)) ≡ s
+unfolding salvageIn
+read-kind true w = refl
+read-kind false w = refl
+
+-- a letter of the two is the one of its kind
+kind-letter : (c : ℕ) → (eqb c letterL || eqb c letterS) ≡ true → c ≡ firstLetter (eqb c letterS)
+kind-letter c h = go (eqb c letterS) refl (eqb c letterL) refl
+  where
+    go : (t : Bool) → eqb c letterS ≡ t → (u : Bool) → eqb c letterL ≡ u → c ≡ firstLetter t
+    go true e u f = eqb-true c letterS e
+    go false e true f = eqb-true c letterL f
+    go false e false f = absurd (true≢false (sym (rw (e, f) at h)))
+
+pub width-read : (line : List ℕ) → (widthIn line ≡ 0 → ⊥) → line ≡ headOf (widthIn line) (openingOf (salvageIn line) (widthIn line))
+unfolding widthIn salvageIn
 width-read [] n = absurd (n refl)
 width-read (c ∷ l) n =
     let f = fieldsIn plain (kind.Count ∷ []) l in
-    cases (λ (w : ℕ). (w ≡ 0 → ⊥) → c ∷ l ≡ headOf w (opening w)) (eqb c letterL && f .good)
-    (λ t _. go (f .values) (fields-read plain (kind.Count ∷ []) l (right (eqb c letterL) (f .good) t)) (left (eqb c letterL) (f .good) t)) (λ _ z. absurd (z refl)) n
+    let two = eqb c letterL || eqb c letterS in
+    let s = eqb c letterS in
+    cases (λ (w : ℕ). (w ≡ 0 → ⊥) → c ∷ l ≡ headOf w (openingOf s w)) (two && f .good)
+    (λ t _. go (f .values) (fields-read plain (kind.Count ∷ []) l (right two (f .good) t)) s (kind-letter c (left two (f .good) t))) (λ _ z. absurd (z refl)) n
   where
-    go : (vs : List ℤ) → Fielded plain (kind.Count ∷ []) l vs → eqb c letterL ≡ true → let w = natAbs (getD vs 0 (pos 0)) in c ∷ l ≡ headOf w (opening w)
-    go vs f e = inner (f .ofs) (f .bytes-are) (f .values-are)
+    go : (vs : List ℤ) → Fielded plain (kind.Count ∷ []) l vs → (s : Bool) → c ≡ firstLetter s → let w = natAbs (getD vs 0 (pos 0)) in c ∷ l ≡ headOf w (openingOf s w)
+    go vs f s e = inner (f .ofs) (f .bytes-are) (f .values-are)
       where
-        inner : {fs : List Field} → Ofs plain (kind.Count ∷ []) fs → fieldsOf plain fs ≡ l → map valueOf fs ≡ vs → let w = natAbs (getD vs 0 (pos 0)) in c ∷ l ≡ headOf w (opening w)
-        inner (then (count {k} m) none-left) b v = rw (← v, eqb-true c letterL e) (ap (λ (k : List ℕ). letterL ∷ k) (sym b))
+        inner : {fs : List Field} → Ofs plain (kind.Count ∷ []) fs → fieldsOf plain fs ≡ l → map valueOf fs ≡ vs → let w = natAbs (getD vs 0 (pos 0)) in c ∷ l ≡ headOf w (openingOf s w)
+        inner (then (count {k} m) none-left) b v = rw (← v, e) (ap (λ (k : List ℕ). firstLetter s ∷ k) (sym b))

@@ -20,7 +20,7 @@ use Rattle.text.proofs.Laws.{put-none}
 use Rattle.text.proofs.Digits.{decimal-few}
 use Rattle.listing.specs.Lines.{newline, lengthTo}
 use Rattle.listing.specs.Scanning.{width, mostLines}
-use Rattle.listing.specs.Printing.{fieldOf, fieldsOf, Form, formOf, opening, headOf, lineOf, lineAt}
+use Rattle.listing.specs.Printing.{fieldOf, fieldsOf, Form, formOf, openingOf, headOf, lineOf, lineAt}
 use Rattle.listing.specs.declared.Field.{Field}
 use Rattle.listing.specs.declared.Field.the-variants as field
 use Rattle.listing.specs.declared.Item.{Item}
@@ -71,13 +71,13 @@ few-form : (w : ℕ) → w ≤ width → (f : Form) → Short (f .fields) → le
 unfolding lineOf
 few-form w h f s n = omega (arith, few-fields w h (f .fields) s, length-append (headOf w f) (newline ∷ []))
 
-pub few-line : (w : ℕ) → w ≤ width → (g : Given) → SmallGiven g → length (lineAt w g) ≤ 40
-few-line w h Nothing s = few-form w h (opening w) (omega (arith, h), tt) (omega arith)
-few-line w h (One (item.R n b x y)) s = few-form w h (formOf (item.R n b x y)) (s .0, (sixteen-few x (s .1), (sixteen-few y (s .2), tt))) (omega arith)
-few-line w h (One (item.D n k)) s = few-form w h (formOf (item.D n k)) (s .0, (omega (arith, s .1), tt)) (omega arith)
-few-line w h (One (item.H k)) s = few-form w h (formOf (item.H k)) (omega (arith, s), tt) (omega arith)
-few-line w h (One (item.E n)) s = few-form w h (formOf (item.E n)) (s, tt) (omega arith)
-few-line w h (One item.Over) s = few-form w h (formOf item.Over) tt (omega arith)
+pub few-line : (t : Bool) (w : ℕ) → w ≤ width → (g : Given) → SmallGiven g → length (lineAt t w g) ≤ 40
+few-line t w h Nothing s = few-form w h (openingOf t w) (omega (arith, h), tt) (omega arith)
+few-line t w h (One (item.R n b x y)) s = few-form w h (formOf (item.R n b x y)) (s .0, (sixteen-few x (s .1), (sixteen-few y (s .2), tt))) (omega arith)
+few-line t w h (One (item.D n k)) s = few-form w h (formOf (item.D n k)) (s .0, (omega (arith, s .1), tt)) (omega arith)
+few-line t w h (One (item.H k)) s = few-form w h (formOf (item.H k)) (omega (arith, s), tt) (omega arith)
+few-line t w h (One (item.E n)) s = few-form w h (formOf (item.E n)) (s, tt) (omega arith)
+few-line t w h (One item.Over) s = few-form w h (formOf item.Over) tt (omega arith)
 
 pub rewriting-follows : Follows rewrites
 rewriting-follows = record { next-is = λ r l. refl; faulty-is = λ r l e. rw e }
@@ -88,7 +88,7 @@ module _ (r : Readback) (piece out : List ℕ) (g : good r ≡ true) (s : Step) 
   to = otherWidth (s .next .width)
 
   abbrev text : List ℕ
-  text = lineAt to (s .given)
+  text = lineAt (s .next .salvage) to (s .given)
 
   read-accepted : reads .refusal r (firstLine piece) ≡ 0
   read-accepted = refusal-is r piece s there is ∙ rw e
@@ -99,13 +99,13 @@ module _ (r : Readback) (piece out : List ℕ) (g : good r ≡ true) (s : Step) 
       ap (λ (n : ℕ). R n (stepOf r (bodyOf (firstLine piece)))) read-accepted ∙ ap (R 0) (step-is r piece s there is)
 
   answer-is : rewrites .answer r (firstLine piece) ≡ text
-  answer-is = ap (λ (q : Step). lineAt (otherWidth (q .next .width)) (q .given)) (step-is r piece s there is)
+  answer-is = ap (λ (q : Step). lineAt (q .next .salvage) (otherWidth (q .next .width)) (q .given)) (step-is r piece s there is)
 
   pub wide-stop : givenFits to (s .given) ≡ false → Begin rewrites r piece out tooWide r 0 0 (r .lines + 1) out
   wide-stop n = refused-stop rewrites rewriting-follows r piece out g s there is tooWide (omega arith) (refused-by ∙ rw n)
 
   pub text-few : length text ≤ 40
-  text-few = few-line to (known-few to (other-known (s .next .width))) (s .given) (subst (λ (q : Step). SmallGiven (q .given)) (sym is) (step-leaves r (take (lengthTo newline piece) piece) g .1))
+  text-few = few-line (s .next .salvage) to (known-few to (other-known (s .next .width))) (s .given) (subst (λ (q : Step). SmallGiven (q .given)) (sym is) (step-leaves r (take (lengthTo newline piece) piece) g .1))
 
   -- it fits, and its text was put or had no room
   module _ (fits : givenFits to (s .given) ≡ true) (t : Text) (made : t ≡ textOf text) where

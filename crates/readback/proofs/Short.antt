@@ -13,13 +13,13 @@ use Rattle.numbers.proofs.Tested.{refused}
 use Rattle.text.specs.Decimals.{plain, placesOf, unsignedOf, decimalOf}
 use Rattle.text.proofs.Digits.{digits-long, places-few, decimal-few}
 use Rattle.listing.specs.Scanning.{width}
-use Rattle.listing.specs.Printing.{fieldOf, fieldsOf, formOf, headOf, opening}
+use Rattle.listing.specs.Printing.{fieldOf, fieldsOf, formOf, headOf, openingOf}
 use Rattle.listing.specs.declared.Field.{Field}
 use Rattle.listing.specs.declared.Item.{Item}
 use Rattle.listing.specs.declared.Item.the-variants as item
 use Rattle.listing.specs.declared.Given.the-variants.{Nothing}
 use Rattle.readback.specs.Fields.{high}
-use Rattle.readback.specs.Items.{Sixteen, Numbered, Proper, widthIn}
+use Rattle.readback.specs.Items.{Sixteen, Numbered, Proper, widthIn, salvageIn}
 use Rattle.readback.specs.Steps.{widthKnown, openedAt, faulty, opens, stepOf, good}
 use Rattle.readback.specs.Pieces.{longest}
 use Rattle.readback.specs.declared.Readback.{Readback}
@@ -48,13 +48,13 @@ short-at w i k = ⊎-elim (λ e. at 3 e (omega arith)) (λ e. at 5 e (omega arit
     at : (p : ℕ) → w ≡ suc p → 21 + p ≤ longest → Proper w i → length (headOf w (formOf i)) ≤ longest
     at p e h = subst (λ (w : ℕ). Proper w i → length (headOf w (formOf i)) ≤ longest) (sym e) (λ q. omega (arith, h, item-short p i q))
 
-opening-short : (w : ℕ) → widthKnown w ≡ true → length (headOf w (opening w)) ≤ longest
-opening-short w k = simp length-append (omega (arith, number-few (pos w) (omega (arith, known-few w k))))
+opening-short : (s : Bool) (w : ℕ) → widthKnown w ≡ true → length (headOf w (openingOf s w)) ≤ longest
+opening-short s w k = simp length-append (omega (arith, number-few (pos w) (omega (arith, known-few w k))))
 
-opens-known : (r : Readback) (w : ℕ) → opens r w .good ≡ true → widthKnown w ≡ true
-opens-known r w h = go (widthKnown w) h
+opens-known : (r : Readback) (s : Bool) (w : ℕ) → opens r s w .good ≡ true → widthKnown w ≡ true
+opens-known r s w h = go (widthKnown w) h
   where
-    go : (t : Bool) → cond t (record { good = true; next = openedAt w; given = Nothing }) (faulty r) .good ≡ true → t ≡ true
+    go : (t : Bool) → cond t (record { good = true; next = openedAt s w; given = Nothing }) (faulty r) .good ≡ true → t ≡ true
     go true h = refl
     go false h = absurd (true≢false (sym h))
 
@@ -66,9 +66,9 @@ long-faulty r body g h = refused (stepOf r body .good) (λ t. go t (r .ended) re
     go t true e z ez = true≢false (sym t ∙ ap (λ (s : Step). s .good) (step-ended r body e))
     go t false e true ez =
         let w = widthIn body in
-        let k = opens-known r w (sym (ap (λ (s : Step). s .good) (step-first r body e (eqb-true _ _ ez))) ∙ t) in
+        let k = opens-known r (salvageIn body) w (sym (ap (λ (s : Step). s .good) (step-first r body e (eqb-true _ _ ez))) ∙ t) in
         let is = width-read body (λ z. omega (arith, z, known-some w k)) in
-        omega (arith, ap length is, opening-short w k)
+        omega (arith, ap length is, opening-short (salvageIn body) w k)
     go t false e false ez =
         let b = begun r g (eqb-false _ _ ez) in
         let went = step-went r body e (eqb-false _ _ ez) t in

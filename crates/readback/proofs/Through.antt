@@ -1,7 +1,7 @@
 -- THROUGH BOTH: whatever the lister writes of an input, in whatever calls, comes back as it was through whatever calls of the reader.
 use Prim.Native.Nat.{ℕ}
 use mathlib.Core.Path.{_≡_, refl, sym, _∙_, ap}
-use mathlib.Core.Bool.{true}
+use mathlib.Core.Bool.{Bool, true, false}
 use mathlib.Core.List.{List, [], _++_, append-nil}
 use mathlib.Core.Logic.{_⊎_, ⊎-elim}
 use native.Mathlib.Omega.{arith}
@@ -9,10 +9,11 @@ use lib.IntN.{ℤ}
 use lib.ListN.{length, take}
 use Rattle.wire.specs.Numbers.{success}
 use Rattle.listing.specs.Scanning.{width}
-use Rattle.listing.specs.Listing.{itemsAt, listingOf}
+use Rattle.listing.specs.Listing.{itemsAt}
 use Rattle.listing.specs.Feeding as lister
 use Rattle.listing.specs.Promises.{FinishPromise as EndPromise}
 use Rattle.listing.specs.Calls as lister-calls
+use Rattle.listing.specs.declared.Item.{Item}
 use Rattle.listing.specs.declared.Listed.{Listed}
 use Rattle.listing.proofs.Calls as listing
 use Rattle.readback.specs.Items.{allNumbers}
@@ -20,12 +21,29 @@ use Rattle.readback.specs.Steps.{fresh}
 use Rattle.readback.specs.Pieces.{faultyLine}
 use Rattle.readback.specs.Promises.{ReadPromise, FinishPromise}
 use Rattle.readback.specs.Calls.{Call, Permitted, readerAfter, takenBy, writtenBy}
-use Rattle.readback.specs.Whole.{Reading, readingOf}
+use Rattle.readback.specs.Whole.{Reading, reading, readingOf}
 use Rattle.readback.specs.declared.Back.{Back}
 use Rattle.readback.proofs.AsItWas.{as-it-was}
 use Rattle.readback.proofs.Calls.{in-calls, no-fault, after-good}
 use Rattle.readback.proofs.Goodness.{fresh-is-good}
 use Rattle.readback.proofs.Refusals.{good-read}
+
+-- bytes that say items without a fault
+module _ (bytes : List ℕ) (salvage : Bool) (items : List Item) (says : readingOf bytes ≡ reading salvage items 0) where
+  -- where the reader's calls took all of them, they wrote the numbers of the items, its end tells no fault, and it says which listing it read
+  pub all-back : (ks : List Call) (a : Back) → Permitted fresh ks → takenBy ks ≡ bytes → FinishPromise (readerAfter fresh ks) 0 a
+      → (writtenBy ks ≡ allNumbers items) × (a .line ≡ 0) × (readerAfter fresh ks .salvage ≡ salvage)
+  all-back ks a h all f =
+      let said = ap readingOf (append-nil (takenBy ks) ∙ all) ∙ says in
+      let c = in-calls ks [] a h refl f in
+      (c .0 ∙ ap (λ (k : Reading). allNumbers (k .items)) said, c .1 ∙ ap (λ (k : Reading). k .fault) said, c .2 ∙ ap (λ (k : Reading). k .salvage) said)
+
+  -- and on the way no call is refused
+  pub all-taken : (ks : List Call) (piece rest : List ℕ) (out left : List ℤ) (a : Back) → Permitted fresh ks → ReadPromise (readerAfter fresh ks) piece out a left
+      → takenBy ks ++ (piece ++ rest) ≡ bytes → a .refusal ≡ success
+  all-taken ks piece rest out left a h r all =
+      ⊎-elim (λ z. z) (λ seven. absurd (no-fault ks piece rest out left a h r (ap (λ (l : List ℕ). readingOf l .fault) all ∙ ap (λ (k : Reading). k .fault) says) seven))
+      (good-read (readerAfter fresh ks) piece out left a (after-good ks fresh fresh-is-good h) r)
 
 -- the lister's calls, with its end
 module _ (ls : List lister-calls.Call) (before after : List ℕ) (e : Listed) (p : lister-calls.Permitted lister.fresh ls)
@@ -36,20 +54,14 @@ module _ (ls : List lister-calls.Call) (before after : List ℕ) (e : Listed) (p
   abbrev input : List ℕ
   input = lister-calls.takenBy ls
 
-  is-listing : listing-bytes ≡ listingOf input
-  is-listing = listing.in-calls ls before after e p end ended
+  says : readingOf listing-bytes ≡ reading false (itemsAt width input) 0
+  says = ap readingOf (listing.in-calls ls before after e p end ended) ∙ as-it-was input
 
-  -- where the reader's calls took all that was written, they wrote the numbers of the listing's items, and its end tells no fault
+  -- all of what was written comes back, and no call is refused
   pub comes-back : (ks : List Call) (a : Back) → Permitted fresh ks → takenBy ks ≡ listing-bytes → FinishPromise (readerAfter fresh ks) 0 a
-      → (writtenBy ks ≡ allNumbers (itemsAt width input)) × (a .line ≡ 0)
-  comes-back ks a h all f =
-      let said : readingOf (takenBy ks ++ []) ≡ _ = ap readingOf (append-nil (takenBy ks) ∙ all ∙ is-listing) ∙ as-it-was input in
-      let c = in-calls ks [] a h refl f in
-      (c .0 ∙ ap (λ (k : Reading). allNumbers (k .items)) said, c .1 ∙ ap (λ (k : Reading). k .fault) said)
+      → (writtenBy ks ≡ allNumbers (itemsAt width input)) × (a .line ≡ 0) × (readerAfter fresh ks .salvage ≡ false)
+  comes-back = all-back listing-bytes false (itemsAt width input) says
 
-  -- and on the way no call is refused
   pub none-refused : (ks : List Call) (piece rest : List ℕ) (out left : List ℤ) (a : Back) → Permitted fresh ks → ReadPromise (readerAfter fresh ks) piece out a left
       → takenBy ks ++ (piece ++ rest) ≡ listing-bytes → a .refusal ≡ success
-  none-refused ks piece rest out left a h r all =
-      ⊎-elim (λ z. z) (λ seven. absurd (no-fault ks piece rest out left a h r (ap (λ (l : List ℕ). readingOf l .fault) (all ∙ is-listing) ∙ ap (λ (k : Reading). k .fault) (as-it-was input)) seven))
-      (good-read (readerAfter fresh ks) piece out left a (after-good ks fresh fresh-is-good h) r)
+  none-refused = all-taken listing-bytes false (itemsAt width input) says

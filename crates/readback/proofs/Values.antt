@@ -28,7 +28,7 @@ use Rattle.listing.specs.declared.Given.{Given}
 use Rattle.listing.specs.declared.Given.the-variants.{Nothing, One}
 use Rattle.listing.specs.declared.Item.the-variants as item
 use Rattle.readback.specs.Fields.{low, high, none, within, threeOf, counts, pressedIn, valueIn, Part, part, fieldIn, took, Fields, fieldsIn}
-use Rattle.readback.specs.Items.{Sixteen, Small, valueAt, middleNumber, counted, buttonsAt, five, droppedIn, reportIn, keptIn, badIn, itemIn, widthIn}
+use Rattle.readback.specs.Items.{Sixteen, Small, valueAt, middleNumber, counted, buttonsAt, five, droppedIn, reportIn, keptIn, badIn, itemIn, widthIn, salvageIn}
 use Rattle.readback.specs.declared.Kind.{Kind}
 use Rattle.readback.specs.declared.Kind.the-variants as kind
 use Rattle.readback.specs.declared.Value.{Value}
@@ -199,13 +199,13 @@ no-width (c ∷ l) h = absurd (omega arith)
 
 module _ (line : List ℕ) (t : Took) (is : t ≡ took 1 (fieldIn plain kind.Count (drop 1 line))) (some : length line ≡ 0 → ⊥) where
   abbrev opening : Bool
-  opening = eqb (getD line 0 0) 0x4C && (t .good && leb (length line) (t .end))
+  opening = (eqb (getD line 0 0) 0x4C || eqb (getD line 0 0) 0x53) && (t .good && leb (length line) (t .end))
 
-  width-is : widthIn line ≡ (let f = fieldsAt plain (kind.Count ∷ []) line 1 in cond (eqb (getD line 0 0) 0x4C && f .good) (natAbs (getD (f .values) 0 (pos 0))) 0)
+  width-is : widthIn line ≡ (let f = fieldsAt plain (kind.Count ∷ []) line 1 in cond ((eqb (getD line 0 0) 0x4C || eqb (getD line 0 0) 0x53) && f .good) (natAbs (getD (f .values) 0 (pos 0))) 0)
   unfolding widthIn
   width-is = go line some
     where
-      go : (l : List ℕ) → (length l ≡ 0 → ⊥) → widthIn l ≡ (let f = fieldsAt plain (kind.Count ∷ []) l 1 in cond (eqb (getD l 0 0) 0x4C && f .good) (natAbs (getD (f .values) 0 (pos 0))) 0)
+      go : (l : List ℕ) → (length l ≡ 0 → ⊥) → widthIn l ≡ (let f = fieldsAt plain (kind.Count ∷ []) l 1 in cond ((eqb (getD l 0 0) 0x4C || eqb (getD l 0 0) 0x53) && f .good) (natAbs (getD (f .values) 0 (pos 0))) 0)
       go [] h = absurd (h refl)
       go (c ∷ l) h = rw (← fields-at plain (kind.Count ∷ []) (c ∷ l) 1)
 
@@ -216,6 +216,17 @@ module _ (line : List ℕ) (t : Took) (is : t ≡ took 1 (fieldIn plain kind.Cou
   pub other-width : opening ≡ false → 0 ≡ widthIn line
   unfolding fieldsAt
   other-width h = rw (width-is, rw is at h)
+
+-- and whether it is a salvage's
+pub no-kind : (line : List ℕ) → length line ≡ 0 → false ≡ salvageIn line
+unfolding salvageIn
+no-kind [] h = refl
+no-kind (c ∷ l) h = absurd (omega arith)
+
+pub a-kind : (line : List ℕ) → (length line ≡ 0 → ⊥) → eqb (getD line 0 0) 0x53 ≡ salvageIn line
+unfolding salvageIn
+a-kind [] h = absurd (h refl)
+a-kind (c ∷ l) h = refl
 
 -- a line by its letter
 pub no-item : (w : ℕ) (line : List ℕ) → length line ≡ 0 → Nothing ≡ itemIn w line

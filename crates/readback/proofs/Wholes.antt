@@ -126,7 +126,7 @@ module _ (r : Readback) (piece : List ℕ) (room : ℕ) where
 
 -- what lines gave in front of what the rest says
 abbrev pub before : List Item → Reading → Reading
-before is k = reading (is ++ k .items) (k .fault)
+before is k = reading (k .salvage) (is ++ k .items) (k .fault)
 
 pub reading-taken : (r : Readback) (lines : List (List ℕ)) (room : ℕ) (more : List (List ℕ)) → let f = run reads r lines room in
     readingFrom r (take (length (f .answers)) lines ++ more) ≡ before (itemsAmong (f .answers)) (readingFrom (f .next) more)

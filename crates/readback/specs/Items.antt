@@ -9,7 +9,7 @@ use lib.ListN.{getD}
 use lib.Signed.{ltZ}
 use Rattle.text.specs.Decimals.{plain}
 use Rattle.listing.specs.Scanning.{mostLines}
-use Rattle.listing.specs.Printing.{letterD, letterR, letterH, letterE, letterL}
+use Rattle.listing.specs.Printing.{letterD, letterR, letterH, letterE, letterL, letterS}
 use Rattle.listing.specs.Items.{itemsIn}
 use Rattle.listing.specs.declared.Middle.{Middle}
 use Rattle.listing.specs.declared.Middle.the-variants.{Up, Down, Unknown}
@@ -122,7 +122,14 @@ itemIn w (letter ∷ fields) =
     (cond (eqb letter letterE) (badIn w fields)
     Nothing)))
 
--- "It always prints first `L` and the width of line numbers": the width, or 0 where the line says none
+-- "It always prints first `L` and the width of line numbers", or `S`: the width, or 0 where the line says none
 unfoldable pub widthIn : List ℕ → ℕ
 widthIn [] = 0
-widthIn (letter ∷ fields) = let f = fieldsIn plain (kind.Count ∷ []) fields in cond (eqb letter letterL && f .good) (numberAt 0 f) 0
+widthIn (letter ∷ fields) =
+    let f = fieldsIn plain (kind.Count ∷ []) fields in
+    cond ((eqb letter letterL || eqb letter letterS) && f .good) (numberAt 0 f) 0
+
+-- "§2's reader accepts both and says which it read": whether it is a salvage's
+unfoldable pub salvageIn : List ℕ → Bool
+salvageIn [] = false
+salvageIn (letter ∷ fields) = eqb letter letterS

@@ -41,14 +41,14 @@ givenFits w (One i) = fitsAt w i
 abbrev pub widthBehind : Readback → List ℕ → ℕ
 widthBehind r l = otherWidth (reads .next r l .width)
 
--- the reader as a machine over lines, each of which is taken with its line at the other width; it is faulty, 7, before it does not fit, 15
+-- the reader as a machine over lines, each of which is taken with its line at the other width, of the same letter; it is faulty, 7, before it does not fit, 15
 abbrev pub rewrites : MachineOver (List ℕ) Readback (List ℕ) ℕ
 rewrites =
     record {
       refusal =
           λ r l. cond (eqb (reads .refusal r l) success) (cond (givenFits (widthBehind r l) (reads .answer r l)) success tooWide) faultyLine;
       next = λ r l. reads .next r l;
-      answer = λ r l. lineAt (widthBehind r l) (reads .answer r l);
+      answer = λ r l. lineAt (reads .next r l .salvage) (widthBehind r l) (reads .answer r l);
       writes = λ text. text;
     }
 

@@ -8,7 +8,7 @@ use Rattle.listing.specs.declared.Item.{Item}
 use Rattle.listing.specs.declared.Item.the-variants as item
 use Rattle.listing.specs.declared.Given.{Given}
 use Rattle.listing.specs.declared.Given.the-variants.{Nothing, One}
-use Rattle.readback.specs.Items.{itemIn, widthIn}
+use Rattle.readback.specs.Items.{itemIn, widthIn, salvageIn}
 use Rattle.readback.specs.declared.Readback.{Readback}
 use Rattle.readback.specs.declared.Step.{Step}
 
@@ -19,15 +19,15 @@ oldWidth = 4
 abbrev pub widthKnown : ℕ → Bool
 widthKnown w = eqb w oldWidth || eqb w width
 
-abbrev pub readback : ℕ → ℕ → ℕ → Bool → Readback
-readback w last lines ended = record { width = w; last = last; lines = lines; ended = ended }
+abbrev pub readback : Bool → ℕ → ℕ → ℕ → Bool → Readback
+readback salvage w last lines ended = record { salvage = salvage; width = w; last = last; lines = lines; ended = ended }
 
 -- before the first line, and behind it
 abbrev pub fresh : Readback
-fresh = readback 0 0 0 false
+fresh = readback false 0 0 0 false
 
-abbrev pub openedAt : ℕ → Readback
-openedAt w = readback w 0 1 false
+abbrev pub openedAt : Bool → ℕ → Readback
+openedAt salvage w = readback salvage w 0 1 false
 
 -- "line numbers not above 0 and the last one" are faults: the last one behind an item
 abbrev pub lastBehind : ℕ → Item → ℕ
@@ -56,11 +56,11 @@ abbrev pub faulty : Readback → Step
 faulty r = record { good = false; next = r; given = Nothing }
 
 abbrev pub passedBy : Readback → Item → Readback
-passedBy r i = readback (r .width) (lastBehind (r .last) i) (r .lines + 1) (closes i)
+passedBy r i = readback (r .salvage) (r .width) (lastBehind (r .last) i) (r .lines + 1) (closes i)
 
 -- the first line; and a line behind it
-abbrev pub opens : Readback → ℕ → Step
-opens r w = cond (widthKnown w) (record { good = true; next = openedAt w; given = Nothing }) (faulty r)
+abbrev pub opens : Readback → Bool → ℕ → Step
+opens r salvage w = cond (widthKnown w) (record { good = true; next = openedAt salvage w; given = Nothing }) (faulty r)
 
 abbrev pub passes : Readback → Item → Step
 passes r i = cond (above (r .last) i) (record { good = true; next = passedBy r i; given = One i }) (faulty r)
@@ -71,7 +71,7 @@ said r (One i) = passes r i
 
 -- a line without its newline
 unfoldable pub stepOf : Readback → List ℕ → Step
-stepOf r line = cond (r .ended) (faulty r) (cond (eqb (r .lines) 0) (opens r (widthIn line)) (said r (itemIn (r .width) line)))
+stepOf r line = cond (r .ended) (faulty r) (cond (eqb (r .lines) 0) (opens r (salvageIn line) (widthIn line)) (said r (itemIn (r .width) line)))
 
 -- a good reader: before the first line nothing is known; behind it a known width, a line number that there can be, and as many lines as the numbers allow:
 -- one, and another for the last, besides those that have numbers
@@ -80,5 +80,5 @@ besides ended = cond ended 2 1
 
 unfoldable pub good : Readback → Bool
 good r =
-    cond (eqb (r .lines) 0) (eqb (r .width) 0 && eqb (r .last) 0 && not (r .ended))
+    cond (eqb (r .lines) 0) (eqb (r .width) 0 && eqb (r .last) 0 && not (r .ended) && not (r .salvage))
     (leb (r .last) mostLines && (widthKnown (r .width) && leb (besides (r .ended)) (r .lines) && leb (r .lines) (r .last + besides (r .ended))))

@@ -2,7 +2,7 @@
 ghost use mathlib.Core.Path.{_≡_};
 ghost use lib.IntN.{pos};
 ghost use lib.ListN.{drop};
-ghost use Rattle.readback.specs.Items.{middleAt, buttonsAt, middleNumber, pressedNumber, five, fiveOf, Small, droppedIn, reportIn, keptIn, badIn, itemIn, widthIn};
+ghost use Rattle.readback.specs.Items.{middleAt, buttonsAt, middleNumber, pressedNumber, five, fiveOf, Small, droppedIn, reportIn, keptIn, badIn, itemIn, widthIn, salvageIn};
 use crate::Five;
 use crate::Kind;
 use crate::fields::field;
@@ -166,9 +166,20 @@ pub(crate) fn width(line: &[u8]) -> u16
     if line.len() == 0 {
         return 0;
     }
+    let letter = line[0];
     let w = field(Kind::Count, 1, line, 1);
-    if (line[0] == b'L') & (w.good & (line.len() <= w.end)) {
+    if ((letter == b'L') | (letter == b'S')) & (w.good & (line.len() <= w.end)) {
         return w.value as u16;
     }
     0
+}
+
+// Whether the first line of a listing is a salvage's.
+pub(crate) fn salvage(line: &[u8]) -> bool
+    ensures { λ r. ⌜ r ≡ salvageIn (now (line .entry)) ⌝ }
+{
+    if line.len() == 0 {
+        return false;
+    }
+    line[0] == b'S'
 }

@@ -39,9 +39,10 @@ pub(crate) struct Five {
     pub c: i32,
 }
 
-// How far a listing has been read: the width of its line numbers, 0 before its first line; the last line number; the lines passed; and whether its last line
-// has come.
+// How far a listing has been read: whether it is a salvage's, the width of its line numbers, 0 before its first line; the last line number; the lines passed; and
+// whether its last line has come.
 pub struct Readback {
+    pub salvage: bool,
     pub width: u8,
     pub last: u32,
     pub lines: u32,

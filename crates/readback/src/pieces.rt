@@ -55,6 +55,7 @@ impl Readback {
         ensures { λ r. ⌜ FreshPromise r ⌝ }
     {
         Readback {
+            salvage: false,
             width: 0,
             last: 0,
             lines: 0,

@@ -101,7 +101,7 @@ impl Readback {
         if !given_fits(width, given) {
             return rewritten(15, self, 0, 0, self.lines + 1);
         }
-        let text = given.line(width);
+        let text = given.line(next.salvage, width);
         if !text.put(out, 0) {
             return rewritten(0, self, 0, 0, 0);
         }

@@ -67,7 +67,7 @@ impl Readback {
         ensures { λ r. ⌜ r ≡ good self ⌝ }
     {
         if self.lines == 0 {
-            return (self.width == 0) & (self.last == 0) & !self.ended;
+            return (self.width == 0) & (self.last == 0) & !self.ended & !self.salvage;
         }
         if self.last > 999_999 {
             return false;
@@ -88,8 +88,8 @@ impl Readback {
     }
 
     // The first line.
-    fn opens(self, width: u16) -> Step
-        ensures { λ r. ⌜ r ≡ opens self width ⌝ }
+    fn opens(self, salvage: bool, width: u16) -> Step
+        ensures { λ r. ⌜ r ≡ opens self salvage width ⌝ }
     {
         if !width_known(width) {
             return self.faulty();
@@ -97,6 +97,7 @@ impl Readback {
         Step {
             good: true,
             next: Readback {
+                salvage: salvage,
                 width: width as u8,
                 last: 0,
                 lines: 1,
@@ -117,6 +118,7 @@ impl Readback {
         Step {
             good: true,
             next: Readback {
+                salvage: self.salvage,
                 width: self.width,
                 last: last_behind(self.last, item),
                 lines: self.lines + 1,
@@ -135,7 +137,7 @@ impl Readback {
             return self.faulty();
         }
         if self.lines == 0 {
-            return self.opens(items::width(line));
+            return self.opens(items::salvage(line), items::width(line));
         }
         let given = items::item(self.width as usize, line);
         match given {

@@ -1,12 +1,15 @@
 -- Room for all lines: each has forty bytes at most, and there are no more than one for each word, the first and `H`.
 use Prim.Native.Nat.{ℕ, zero, suc, _+_, _-_, _*_, _<_, _≤_}
 use mathlib.Core.Path.{_≡_, refl, sym, ap, _∙_}
-use mathlib.Core.Bool.{Bool, true, false}
+use mathlib.Core.Bool.{Bool, true, false, true≢false}
+use mathlib.Core.Logic.{_⊎_, inl, inr, ⊎-elim}
 use mathlib.Core.List.{List, [], _∷_, _++_, map, append-assoc, append-nil}
 use native.Mathlib.Omega.{arith}
 use lib.ListN.{length, drop, length-append, length-drop}
 use lib.Seq.{drop-drop}
+use lib.Dec.{leb}
 use borrow.Author.Tests.{le-leb}
+use Rattle.numbers.proofs.Choices.{cases}
 use Rattle.frames.specs.Words.{isByte}
 use Rattle.choosing.specs.Pieces as piece
 use Rattle.choosing.specs.Pieces.{Piece, behind, piecesFrom, pieces}
@@ -35,6 +38,28 @@ all-added room (line ∷ lines) text few h =
     rw (le-leb (length text + length line) room (omega arith))
     (all-added room lines (text ++ line) (few .1) (omega (arith, length-append text line)) ∙ ap (λ (l : List ℕ). written l true) (append-assoc text line (textOf lines)))
 
+-- and where every line had room, all of them are there
+no-more : (room : ℕ) (lines : List (List ℕ)) (text : List ℕ) → addAll room (written text false) lines ≡ written text false
+unfolding addAll add
+no-more room [] text = refl
+no-more room (line ∷ lines) text = no-more room lines text
+
+one-more : (room : ℕ) (line text : List ℕ)
+    → (add room (written text true) line ≡ written (text ++ line) true) ⊎ (add room (written text true) line ≡ written text false)
+unfolding add
+one-more room line text =
+    cases (λ (w : Written). (w ≡ written (text ++ line) true) ⊎ (w ≡ written text false)) (leb (length text + length line) room) (λ _. inl refl) (λ _. inr refl)
+
+pub had-room : (room : ℕ) (lines : List (List ℕ)) (text : List ℕ) → addAll room (written text true) lines .whole ≡ true
+    → addAll room (written text true) lines ≡ written (text ++ textOf lines) true
+unfolding addAll textOf
+had-room room [] text h = rw (append-nil text)
+had-room room (line ∷ lines) text h =
+    ⊎-elim
+    (λ e. ap (λ (w : Written). addAll room w lines) e ∙ had-room room lines (text ++ line) (sym (ap (λ (w : Written). addAll room w lines .whole) e) ∙ h)
+    ∙ ap (λ (l : List ℕ). written l true) (append-assoc text line (textOf lines)))
+    (λ e. absurd (true≢false (sym h ∙ ap (λ (w : Written). addAll room w lines .whole) e ∙ ap (λ (w : Written). w .whole) (no-more room lines text)))) (one-more room line text)
+
 pub few-append : (a b : List (List ℕ)) → AllFew a → AllFew b → AllFew (a ++ b)
 few-append [] b h k = k
 few-append (line ∷ a) b h k = (h .0, few-append a b (h .1) k)
@@ -44,7 +69,7 @@ pub few-line : (i : Item) → Short (formOf i .fields) → length (itemLine i) �
 few-line i h = omega (arith, few-form (formOf i) h, most-item i)
 
 -- the words behind the first
-next : (words : List ℕ) (place w : ℕ) (rest : List ℕ) → w ∷ rest ≡ drop place words → (rest ≡ drop (suc place) words) × (place < length words)
+pub next : (words : List ℕ) (place w : ℕ) (rest : List ℕ) → w ∷ rest ≡ drop place words → (rest ≡ drop (suc place) words) × (place < length words)
 next words place w rest e =
     let n : place + 1 ≡ suc place = omega arith in
     (ap (λ (l : List ℕ). drop 1 l) e ∙ drop-drop 1 place words ∙ ap (λ (m : ℕ). drop m words) n, omega (arith, ap length e, length-drop place words))

@@ -15,7 +15,7 @@ use Rattle.wire.specs.Numbers.{success}
 use Rattle.salvage.specs.Picking.{mostWords, refusalOf}
 use Rattle.salvage.proofs.Refusals.{none-left}
 use Rattle.listing.specs.Lines.{linesIn, saidBy}
-use Rattle.listing.specs.Scanning.{width, lineIn, ends, endIn, foundIn}
+use Rattle.listing.specs.Scanning.{width, mostLines, lineIn, ends, endIn, foundIn}
 use Rattle.listing.specs.declared.Found.{Found}
 use Rattle.listing.specs.declared.Found.the-variants as found
 use Rattle.listing.specs.declared.Item.{Item}
@@ -23,13 +23,20 @@ use Rattle.listing.specs.declared.Item.the-variants as item
 use Rattle.listing.specs.declared.Given.{Given}
 use Rattle.listing.specs.declared.Given.the-variants as given
 use Rattle.listing.proofs.Few.{ShortGiven}
+use Rattle.listing.proofs.Ordered.{Ordered}
 use Rattle.listing.proofs.Viewed.{View, is-over, is-bad, is-format, is-word, viewed}
 use Rattle.salvaged.specs.Log.{Log, log, empty, marked, wordHeard, newHeard, unless, heard, heardAll, logOf}
 use Rattle.salvaged.proofs.Hearing.{marked-short, heard-new, heard-behind}
 
+-- what stands alone is the last item of a listing, as its first
+abbrev pub Last : Given → Type 0
+Last given.Nothing = Unit {0}
+Last (given.One i) = Ordered mostLines 0 (i ∷ [])
+
 -- a log as it should be: few words, all of a line, and what stands alone is short
 pub record Sound (l : Log) : Type 0 where
   pub short : ShortGiven (l .alone)
+  pub last : Last (l .alone)
   pub few : length (l .words) ≤ mostWords
   pub line : lineWords (l .words) ≡ true
 
@@ -48,8 +55,8 @@ one-not e = let z : _≡_ {A = ℕ} 0 1 = cc in omega arith
 alone-settled : (l : Log) (i : Item) → l .alone ≡ given.One i → Sound l → Settled l
 alone-settled l i e s = record { sound = s; fits = λ n. absurd (one-not (sym e ∙ n)) }
 
-made-alone : (l : Log) (i : Item) → ShortGiven (given.One i) → Sound l → Settled (log (l .letter) (l .words) (given.One i))
-made-alone l i h s = record { sound = record { short = h; few = s .few; line = s .line }; fits = λ e. absurd (one-not e) }
+made-alone : (l : Log) (i : Item) → ShortGiven (given.One i) → Last (given.One i) → Sound l → Settled (log (l .letter) (l .words) (given.One i))
+made-alone l i h z s = record { sound = record { short = h; last = z; few = s .few; line = s .line }; fits = λ e. absurd (one-not e) }
 
 line-more : (ws : List ℕ) (w : ℕ) → lineWords ws ≡ true → w ≤ silence → lineWords (ws ++ w ∷ []) ≡ true
 unfolding lineWords
@@ -60,10 +67,11 @@ line-more (v ∷ ws) w h l = both (leb v silence) (lineWords (ws ++ w ∷ [])) (
 word-settled : (l : Log) (w : ℕ) → w ≤ silence → Settled l → l .alone ≡ given.Nothing → Settled (wordHeard l w)
 unfolding wordHeard
 word-settled l w h s e =
-    cases Settled (leb mostWords (length (l .words))) (λ _. made-alone l item.Over tt (s .sound))
+    cases Settled (leb mostWords (length (l .words))) (λ _. made-alone l item.Over tt refl (s .sound))
     (λ f. record {
       sound = record {
         short = tt;
+        last = tt;
         few = omega (arith, leb-false mostWords (length (l .words)) f, length-append (l .words) (w ∷ []));
         line = line-more (l .words) w (s .sound .line) h;
       };
@@ -78,10 +86,14 @@ none-marked f e = go (markedBy f) refl e
     go true m e = absurd (one-not e)
     go false m e = m
 
+marked-last : (f : ℕ) → Last (marked f)
+unfolding marked
+marked-last f = cases Last (markedBy f) (λ _. ((omega arith, omega arith), refl)) (λ _. tt)
+
 format-settled : (l : Log) (f : ℕ) → known f ≡ true → Sound l → Settled (log f (l .words) (marked f))
 format-settled l f k s =
     record {
-      sound = record { short = marked-short f; few = s .few; line = s .line };
+      sound = record { short = marked-short f; last = marked-last f; few = s .few; line = s .line };
       fits = λ e. (k, none-marked f e);
     }
 
@@ -98,14 +110,14 @@ module _ (n : ℕ) (l : Log) (s : Sound l) (k : 1 ≤ n → Settled l) where
   heard-settled f v = unless-alone f (λ e. go f v e)
     where
       go : (f : Found) → View n f → l .alone ≡ given.Nothing → Settled (newHeard l f)
-      go found.Over is-over e = made-alone l item.Over tt s
-      go (found.Bad m) (is-bad h) e = made-alone l (item.E (n + 1)) (h, tt) s
+      go found.Over is-over e = made-alone l item.Over tt refl s
+      go (found.Bad m) (is-bad h) e = made-alone l (item.E (n + 1)) (h, tt) ((omega arith, omega (arith, h)), refl) s
       go (found.Format f) (is-format p) e = format-settled l f p s
       go (found.Word m w) (is-word h p) e = word-settled l w p (k h) e
 
   end-settled : Settled (heard l (endIn n))
   end-settled =
-      cases (λ (f : Found). Settled (heard l f)) (eqb n 0) (λ _. unless-alone (found.Bad 1) (λ _. made-alone l (item.E 1) (omega arith, tt) s))
+      cases (λ (f : Found). Settled (heard l f)) (eqb n 0) (λ _. unless-alone (found.Bad 1) (λ _. made-alone l (item.E 1) (omega arith, tt) ((omega arith, omega arith), refl) s))
       (λ e. unless-alone found.End (λ _. k (omega (arith, eqb-false n 0 e))))
 
 by-lines : (ls : List (List ℕ)) (n : ℕ) (l : Log) → Sound l → (1 ≤ n → Settled l) → Settled (heardAll l (foundIn width n ls))
@@ -119,7 +131,7 @@ by-lines (x ∷ ls) n l s k =
 -- the log of an input
 pub settled : (input : List ℕ) → Settled (logOf input)
 unfolding lineWords
-settled input = by-lines (linesIn input) 0 empty (record { short = tt; few = omega arith; line = refl }) (λ h. absurd (omega arith))
+settled input = by-lines (linesIn input) 0 empty (record { short = tt; last = tt; few = omega arith; line = refl }) (λ h. absurd (omega arith))
 
 -- where nothing stands alone it may be salvaged
 pub may-be : (input : List ℕ) → logOf input .alone ≡ given.Nothing → refusalOf (logOf input .letter) (logOf input .words) ≡ success

@@ -27,7 +27,7 @@ use Rattle.salvaged.specs.Whole.{Account, enough, AllThere}
 use Rattle.salvaged.specs.declared.Salvaged.{Salvaged}
 use Rattle.salvaged.proofs.Walking.{opening-few, items-lines}
 use Rattle.salvaged.proofs.Sound.{Settled, settled, may-be}
-use Rattle.salvaged.proofs.Room.{AllFew, all-added, few-append, few-line, all-few}
+use Rattle.salvaged.proofs.Room.{AllFew, all-added, few-append, few-line, all-few, had-room}
 
 -- two answers that meet the promise are equal, and so are the slices
 pub one-list : (input before : List ℕ) {a b : Salvaged} {x y : List ℕ} → ListPromise input before a x → ListPromise input before b y → (a ≡ b) × (x ≡ y)
@@ -77,15 +77,25 @@ beside-small input = go (logOf input .alone) refl
           many = omega (arith, s .few, few-pieces (sizeBy letter) (validBy letter) (sized input e) words, length-append (map itemLine (map (itemOf letter words) p)) (itemLine (item.H 0) ∷ []), length-map (map (itemOf letter words) p) itemLine, length-map p (itemOf letter words));
         })
 
--- ROOM: with enough places all of it is there
-pub room-for-all : (input before : List ℕ) (a : Salvaged) (after : List ℕ) → ListPromise input before a after → enough ≤ length before → AllThere input before a after
-unfolding listOf salvageOf
-room-for-all input before a after p h =
-    let lines = linesOf (itemsOf (logOf input)) in
-    let s = beside-small input in
-    let e = p ∙ ap (λ (w : Written). told w before) (all-added (length before) lines [] (s .few) (omega (arith, s .many))) in
-    record {
-      whole = ap (λ (w : Whole). w .salvaged .whole) e;
-      long = ap (λ (w : Whole). w .salvaged .written) e;
-      text = ap (λ (w : Whole). w .out) e;
-    }
+-- where every line had room all of it is there
+module _ (input before : List ℕ) (a : Salvaged) (after : List ℕ) (p : ListPromise input before a after) where
+  abbrev lines : List (List ℕ)
+  lines = linesOf (itemsOf (logOf input))
+
+  is-there : addAll (length before) start lines ≡ written (textOf lines) true → AllThere input before a after
+  unfolding listOf salvageOf
+  is-there all =
+      let e = p ∙ ap (λ (w : Written). told w before) all in
+      record {
+        whole = ap (λ (w : Whole). w .salvaged .whole) e;
+        long = ap (λ (w : Whole). w .salvaged .written) e;
+        text = ap (λ (w : Whole). w .out) e;
+      }
+
+  pub all-there : a .whole ≡ true → AllThere input before a after
+  unfolding listOf
+  all-there h = is-there (had-room (length before) lines [] (sym (ap (λ (w : Whole). w .salvaged .whole) p) ∙ h))
+
+  -- ROOM: with enough places it has
+  pub room-for-all : enough ≤ length before → AllThere input before a after
+  room-for-all h = let s = beside-small input in is-there (all-added (length before) lines [] (s .few) (omega (arith, s .many)))

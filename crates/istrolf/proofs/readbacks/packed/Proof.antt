@@ -1,11 +1,12 @@
--- The mark as a number.
+-- The marks as numbers.
 use borrow.Author.Needs.{needs}
 use Rattle.istrolf.proofs.Marks.{as-number}
 use Rattle.istrolf.proofs.readbacks.packed.Statement.{statement}
 use Rattle.istrolf.proofs.readbacks.packed.Tie as tie
 
 returns : tie.Need-returns
-returns c = simp (as-number (c .before .args .reader .ended))
+returns c = let r = c .before .before .args .reader in
+    simp (as-number (r .ended), as-number (r .salvage))
 
 pub packed-spec : {M : Type 1} → statement M
-packed-spec = tie.close (tie.spec (λ c. search needs) returns)
+packed-spec = tie.close (tie.spec (λ c. search needs) (λ c. search needs) returns)

@@ -15,7 +15,7 @@ use Rattle.readback.proofs.steps.width_known.Reads as width-known-reads
 
 returns : tie.Need-returns
 unfolding good
-returns c = rw (eq-eqb _ _ (c .before .before .before .if1 .taken))
+returns c = rw (eq-eqb _ _ (c .before .before .before .before .if1 .taken))
 
 returns-2 : tie.Need-returns-2
 unfolding good

@@ -22,11 +22,11 @@ faulty-requires c κs = search needs
 returns : tie.Need-returns
 returns c = rw (sym (c .before .before .width-known .ensures) ∙ not-true _ (c .before .if1 .taken)) (c .faulty .ensures)
 
-cast-t5 : tie.Need-cast-t5
-cast-t5 c = record { fits = omega (arith, known-few (c .before .before .args .width) (sym (c .before .width-known .ensures) ∙ not-false _ (c .if1 .left))) }
+cast-t6 : tie.Need-cast-t6
+cast-t6 c = record { fits = omega (arith, known-few (c .before .before .args .width) (sym (c .before .width-known .ensures) ∙ not-false _ (c .if1 .left))) }
 
 returns-2 : tie.Need-returns-2
 returns-2 c = rw (sym (c .before .width-known .ensures) ∙ not-false _ (c .if1 .left))
 
 pub opens-spec : {M : Type 1} → statement M
-opens-spec = tie.close (tie.spec width-known-requires faulty-requires returns cast-t5 returns-2)
+opens-spec = tie.close (tie.spec width-known-requires faulty-requires returns cast-t6 returns-2)

@@ -31,8 +31,8 @@ step-is c = rw (← c .before .before .before .length-to .ensures) (c .step .ens
 fits-is : (c : tie.After-given-fits) → let s = c .before .before .before .before .before .step .result in c .given-fits .result ≡ givenFits (otherWidth (s .next .width)) (s .given)
 fits-is c = c .given-fits .ensures ∙ ap (λ w. givenFits w (c .before .before .before .before .before .step .result .given)) (c .before .other-width .ensures)
 
-text-is : (c : tie.After-line) → let s = c .before .before .before .before .before .before .before .step .result in c .line .result ≡ textOf (lineAt (otherWidth (s .next .width)) (s .given))
-text-is c = c .line .ensures ∙ ap (λ w. textOf (lineAt w (c .before .before .before .before .before .before .before .step .result .given))) (c .before .before .before .other-width .ensures)
+text-is : (c : tie.After-line) → let s = c .before .before .before .before .before .before .before .step .result in c .line .result ≡ textOf (lineAt (s .next .salvage) (otherWidth (s .next .width)) (s .given))
+text-is c = c .line .ensures ∙ ap (λ w. textOf (lineAt (c .before .before .before .before .before .before .before .step .result .next .salvage) w (c .before .before .before .before .before .before .before .step .result .given))) (c .before .before .before .other-width .ensures)
 
 returns : tie.Need-returns
 returns c = let s = c .before .before .before .before .before .before in

@@ -19,6 +19,9 @@ faulty-requires c κs = search needs
 returns : tie.Need-returns
 returns c = c .faulty .ensures ∙ sym (step-ended (c .before .before .before .args .self) (c .before .before .before .args .line .now) (c .before .if1 .taken))
 
+salvage-requires : tie.Need-salvage-requires
+salvage-requires c κs = search needs
+
 width-requires : tie.Need-width-requires
 width-requires c κs = search needs
 
@@ -26,7 +29,8 @@ opens-requires : tie.Need-opens-requires
 opens-requires c κs = search needs
 
 returns-2 : tie.Need-returns-2
-returns-2 c = c .opens .ensures ∙ ap (opens (c .before .before .before .before .before .before .args .self)) (c .before .width .ensures) ∙ sym (step-first (c .before .before .before .before .before .before .args .self) (c .before .before .before .before .before .before .args .line .now) (c .before .before .before .before .if1 .left) (c .before .before .if2 .taken))
+returns-2 c = let s = c .before .before .before .before .before .before .before .args in
+    c .opens .ensures ∙ rw (c .before .width .ensures, c .before .before .salvage .ensures) (sym (step-first (s .self) (s .line .now) (c .before .before .before .before .before .if1 .left) (c .before .before .before .if2 .taken)))
 
 cast-item : tie.Need-cast-item
 cast-item c = search needs
@@ -58,6 +62,7 @@ step-spec =
     (tie.spec
     faulty-requires
     returns
+    salvage-requires
     width-requires
     opens-requires
     returns-2

@@ -1,7 +1,7 @@
 -- A letter and a count, and no more.
 use borrow.Author.Needs.{needs}
 use mathlib.Core.Path.{_≡_}
-use mathlib.Core.Bool.{_&&_}
+use mathlib.Core.Bool.{_&&_, _||_}
 use native.Mathlib.Omega.{arith}
 use lib.Dec.{leb, eqb}
 use lib.ListN.{length, getD}
@@ -19,28 +19,28 @@ use Rattle.readback.proofs.fields.field.Reads as field-reads
 returns : tie.Need-returns
 returns c = no-width (c .before .before .args .line .now) (c .if1 .taken)
 
+shared-slice-read-letter : tie.Need-shared-slice-read-letter
+shared-slice-read-letter c = search needs
+
 field-requires : tie.Need-field-requires
 field-requires c κs = search needs
 
-shared-slice-read-if2 : tie.Need-shared-slice-read-if2
-shared-slice-read-if2 c = search needs
-
 cast-result : tie.Need-cast-result
-cast-result c = let w = c .before .before .before .before .before .before .field .result in
+cast-result c = let w = c .before .before .before .before .before .field .result in
     let is : toZ w64 (ofZ w64 (w .value)) ≡ w .value = search needs in
     let l = c .before .before .before .before .before .before .before .before .before .args .line .now in
-    let b = took-bound 1 kind.Count l 1 (c .before .before .before .before .before .before .field .ensures) (left (w .good) (leb (length l) (w .end)) (right (eqb (getD l 0 0) 0x4C) (w .good && leb (length l) (w .end)) (c .before .before .if2 .taken))) in
+    let b = took-bound 1 kind.Count l 1 (c .before .before .before .before .before .field .ensures) (left (w .good) (leb (length l) (w .end)) (right (eqb (getD l 0 0) 0x4C || eqb (getD l 0 0) 0x53) (w .good && leb (length l) (w .end)) (c .before .before .if2 .taken))) in
     rw (is, b .0) (tt, record { fits = omega (arith, b .1) })
 
 returns-2 : tie.Need-returns-2
-returns-2 c = let w = c .before .before .before .before .before .before .field .result in
+returns-2 c = let w = c .before .before .before .before .before .field .result in
     let is : toZ w64 (ofZ w64 (w .value)) ≡ w .value = search needs in
-    rw is (a-width (c .before .before .before .before .before .before .before .before .before .args .line .now) w (c .before .before .before .before .before .before .field .ensures) (c .before .before .before .before .before .before .before .if1 .left) (c .before .before .if2 .taken))
+    rw is (a-width (c .before .before .before .before .before .before .before .before .before .args .line .now) w (c .before .before .before .before .before .field .ensures) (c .before .before .before .before .before .before .before .if1 .left) (c .before .before .if2 .taken))
 
 returns-3 : tie.Need-returns-3
-returns-3 c = other-width (c .before .before .before .before .before .before .before .args .line .now) (c .before .before .before .before .field .result) (c .before .before .before .before .field .ensures) (c .before .before .before .before .before .if1 .left) (c .if2 .left)
+returns-3 c = other-width (c .before .before .before .before .before .before .before .args .line .now) (c .before .before .before .field .result) (c .before .before .before .field .ensures) (c .before .before .before .before .before .if1 .left) (c .if2 .left)
 
 pub width-spec : {M : Type 1} → statement M
 width-spec =
     tie.close
-    (tie.spec returns field-requires shared-slice-read-if2 cast-result returns-2 returns-3)
+    (tie.spec returns shared-slice-read-letter field-requires cast-result returns-2 returns-3)

@@ -1,0 +1,17 @@
+-- By its first letter.
+use borrow.Author.Needs.{needs}
+use Rattle.readback.proofs.Values.{no-kind, a-kind}
+use Rattle.readback.proofs.items.salvage.Statement.{statement}
+use Rattle.readback.proofs.items.salvage.Tie as tie
+
+returns : tie.Need-returns
+returns c = no-kind (c .before .args .line .now) (c .if1 .taken)
+
+shared-slice-read-result : tie.Need-shared-slice-read-result
+shared-slice-read-result c = search needs
+
+returns-2 : tie.Need-returns-2
+returns-2 c = a-kind (c .before .before .args .line .now) (c .before .if1 .left)
+
+pub salvage-spec : {M : Type 1} → statement M
+salvage-spec = tie.close (tie.spec returns shared-slice-read-result returns-2)
