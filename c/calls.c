@@ -504,6 +504,103 @@ static void readbacks(void) {
     line("istrolf_readback", refused, all);
 }
 
+/* The VSXXX puck. */
+
+static istrolf_puck made_puck(uint64_t call) { return istrolf_puck_made(drawn_byte(call, 150, 256), drawn_byte(call, 151, 256), drawn_byte(call, 152, 256)); }
+
+static istrolf_puck any_puck(istrolf_puck last, uint64_t call) {
+    istrolf_puck p = {last.ball, {drawn_byte(call, 154, 6), drawn_byte(call, 155, 9)}, drawn_byte(call, 156, 17), drawn_byte(call, 157, 9)};
+    if (drawn(call, 153, 4) == 0) p.ball = any_box(call);
+    return p;
+}
+
+static istrolf_puck chosen_puck(istrolf_puck last, uint64_t call) {
+    uint64_t kind = drawn(call, 158, 512);
+    return kind < 8 ? made_puck(call) : kind < 10 ? any_puck(last, call) : last;
+}
+
+static istrolf_stepped_puck puck_step(istrolf_puck p, uint64_t call) {
+    switch ((call % 6 + drawn(call / 6, 89, 6)) % 6) {
+    case 0: return istrolf_puck_motion(p, movement(call, 90), movement(call, 91));
+    case 1: return istrolf_puck_buttons(p, drawn_byte(call, 92, 9));
+    case 2: return istrolf_puck_host(p, host(call, 93));
+    case 3: return istrolf_puck_latch(p);
+    case 4: return istrolf_puck_send(p);
+    default: return istrolf_puck_period(p);
+    }
+}
+
+static uint64_t mixed_puck(uint64_t h, istrolf_puck p) { return mixed(mixed(mixed(mixed(mixed_box(h, p.ball), p.test.left), p.test.buttons), p.revision), p.maker); }
+
+static void puck_steps(void) {
+    uint64_t all = 0, refused = 0;
+    istrolf_puck last = made_puck(0);
+    for (uint64_t call = 0; call < 600000; call++) {
+        istrolf_stepped_puck s = puck_step(chosen_puck(last, call), call);
+        all = mixed(all, mixed_puck(mixed(mixed(mixed(0, s.refusal), s.sent), s.word), s.next));
+        refused += s.refusal > 0;
+        last = s.next;
+    }
+    line("istrolf_puck", refused, all);
+}
+
+/* Its reader. */
+
+static uint16_t said(uint64_t call, uint64_t place) {
+    static const uint16_t tests[16] = {160, 161, 166, 175, 176, 50, 18, 127, 0, 61, 32, 31, 4, 7, 8, 0};
+    return drawn(call, place + 50, 2) == 0 ? tests[drawn(call, place, 16)] : word(call, place);
+}
+
+static istrolf_puck_reader any_puck_reader(uint64_t call) {
+    istrolf_puck_reader r = {{0, 0, 0}, 0};
+    if (drawn(call, 160, 4) > 0) r.kept[0] = drawn_byte(call, 161, 256), r.kept[1] = drawn_byte(call, 162, 136), r.count = drawn_byte(call, 163, 5);
+    if (r.count > 2) r.kept[2] = drawn_byte(call, 164, 128);
+    return r;
+}
+
+static istrolf_puck_reader chosen_puck_reader(istrolf_puck_reader last, uint64_t call) {
+    uint64_t kind = drawn(call, 165, 16);
+    return kind == 0 ? istrolf_puck_reader_fresh() : kind == 1 ? any_puck_reader(call) : last;
+}
+
+static uint64_t mixed_puck_reader(uint64_t h, istrolf_puck_reader r) { return mixed(mixed_bytes(h, r.kept, 3), r.count); }
+
+static uint64_t mixed_test(uint64_t h, istrolf_self_test t) { return mixed(mixed(mixed(mixed(mixed(h, t.revision), t.maker), t.device), t.error), t.buttons); }
+
+static void puck_reader_steps(void) {
+    uint64_t all = 0, refused = 0;
+    istrolf_puck_reader last = istrolf_puck_reader_fresh();
+    for (uint64_t call = 0; call < 100000; call++) {
+        istrolf_read_puck_word a = istrolf_puck_reader_step(chosen_puck_reader(last, call), said(call, 166));
+        uint64_t h = mixed(mixed(0, a.refusal), a.movements ? 1 : a.tests ? 2 : a.dropped ? 3 : 0);
+        if (a.movements) h = mixed_report(h, a.movement);
+        if (a.tests) h = mixed_test(h, a.test);
+        if (a.dropped) h = mixed(h, a.dropped);
+        all = mixed(all, mixed_puck_reader(h, a.next));
+        refused += a.refusal > 0;
+        last = a.next;
+    }
+    line("istrolf_puck_reader_step", refused, all);
+}
+
+static void puck_reader_reads(void) {
+    uint64_t all = 0, refused = 0;
+    istrolf_puck_reader last = istrolf_puck_reader_fresh();
+    for (uint64_t call = 0; call < 100000; call++) {
+        uint16_t words[10];
+        int16_t out[12];
+        for (uint64_t i = 0; i < 10; i++) words[i] = said(call, 170 + i);
+        for (int i = 0; i < 12; i++) out[i] = 7;
+        istrolf_puck_reading a = istrolf_puck_reader_read(chosen_puck_reader(last, call), words, drawn(call, 180, 11), out, drawn(call, 181, 13));
+        uint64_t h = mixed_puck_reader(mixed(mixed(mixed(mixed(0, a.refusal), a.taken), a.reports), a.dropped), a.next);
+        for (int i = 0; i < 12; i++) h = mixed_signed(h, out[i]);
+        all = mixed(all, h);
+        refused += a.refusal > 0;
+        last = a.next;
+    }
+    line("istrolf_puck_reader_read", refused, all);
+}
+
 int main(void) {
     readers_fresh();
     reader_steps();
@@ -520,5 +617,8 @@ int main(void) {
     picks();
     salvages();
     readbacks();
+    puck_steps();
+    puck_reader_steps();
+    puck_reader_reads();
     return 0;
 }

@@ -15,11 +15,11 @@ use ballbox::Sums;
 use ballbox::Track;
 
 // A box, with its marks as C holds them.
-struct Marked {
-    ball: BallBox,
-    showing: u8,
-    due: u8,
-    dormant: u8,
+pub(crate) struct Marked {
+    pub ball: BallBox,
+    pub showing: u8,
+    pub due: u8,
+    pub dormant: u8,
 }
 
 // What an event gives back: its refusal, all of it as one number, and the box.
@@ -29,7 +29,7 @@ struct Turn {
     next: Marked,
 }
 
-fn with_marks(ball: BallBox) -> Marked {
+pub(crate) fn with_marks(ball: BallBox) -> Marked {
     let memory = ball.memory;
     let showing = memory.showing as u8;
     let due = ball.due as u8;
@@ -116,7 +116,7 @@ fn any_sums(call: u64) -> Sums {
 }
 
 // Any box, good or not.
-fn any(call: u64) -> Marked {
+pub(crate) fn any(call: u64) -> Marked {
     let showing = if draws::drawn(call, 83, 8) == 0 {
         draws::mark(call, 84)
     } else {
@@ -169,7 +169,7 @@ fn excess(h: u64, e: Excess) -> u64 {
     mixes::long(mixes::long(h, e.x), e.y)
 }
 
-fn mixed(h: u64, m: Marked) -> u64 {
+pub(crate) fn mixed(h: u64, m: Marked) -> u64 {
     let ball = m.ball;
     let s = ball.settings;
     let t = ball.track;
@@ -191,7 +191,7 @@ fn mixed(h: u64, m: Marked) -> u64 {
     )
 }
 
-fn event(call: u64) -> Event {
+pub(crate) fn event(call: u64) -> Event {
     let kind = (call % 6 + draws::drawn(call / 6, 89, 6)) % 6;
     if kind == 0 {
         return Event::Motion(draws::movement(call, 90), draws::movement(call, 91));

@@ -7,6 +7,8 @@ mod encoder;
 mod listers;
 mod mixes;
 mod print;
+mod puckreaders;
+mod pucks;
 mod readbacks;
 mod readers;
 mod salvages;
@@ -27,4 +29,7 @@ fn main() {
     salvages::picks();
     salvages::recordings();
     readbacks::listings();
+    pucks::steps();
+    puckreaders::steps();
+    puckreaders::reads();
 }

@@ -45,6 +45,10 @@ fn numbers(h: u64, v: &[i16]) -> u64 {
     sum
 }
 
+pub(crate) fn three(h: u64, v: &[u8; 3]) -> u64 {
+    bytes(h, v)
+}
+
 pub(crate) fn five(h: u64, v: &[u8; 5]) -> u64 {
     bytes(h, v)
 }

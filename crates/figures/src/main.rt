@@ -1,4 +1,4 @@
-// figures: runs the figures of the paper, presses on a busy line, reports latched earlier than sent, what the limit threw away, the worked examples of the manuals, and lines of reports in each format.
+// figures: runs the figures of the paper, presses on a busy line, reports latched earlier than sent, what the limit threw away, the worked examples of the manuals, the VSXXX puck, and lines of reports in each format.
 mod apart;
 mod box_runs;
 mod lag;
@@ -7,6 +7,7 @@ mod manuals;
 mod passes;
 mod presses;
 mod print;
+mod pucks;
 mod reports;
 mod steps;
 
@@ -16,5 +17,6 @@ fn main() {
     apart::runs();
     lag::runs();
     manuals::examples();
+    pucks::runs();
     lines::formats();
 }

@@ -16,7 +16,7 @@ fn host(byte: u8) {
     }
 }
 
-fn event(e: Event) {
+pub(crate) fn event(e: Event) {
     match e {
         Event::Motion(dx, dy) => {
             print::say(b", Motion(");
@@ -45,7 +45,7 @@ fn event(e: Event) {
     }
 }
 
-fn sent(s: Sent) {
+pub(crate) fn sent(s: Sent) {
     match s {
         Sent::Nothing => {}
         Sent::Word(w) => {
@@ -56,7 +56,7 @@ fn sent(s: Sent) {
 }
 
 // A refusal, if there is one.
-fn refusal(number: u8) {
+pub(crate) fn refusal(number: u8) {
     if number != 0 {
         print::say(b" refusal ");
         print::small(number);
@@ -66,37 +66,48 @@ fn refusal(number: u8) {
 // The words that a run has room for.
 const ROOM: usize = 32;
 
-// A run of the box: the box, and the words that it gave, as many as there is room for.
-pub(crate) struct Run {
-    pub(crate) ball: BallBox,
+// The words that a run gave, as many as there is room for.
+pub(crate) struct Line {
     pub(crate) words: [u16; ROOM],
     pub(crate) count: usize,
 }
 
-// A run from a box on.
-pub(crate) fn started(b: BallBox) -> Run {
-    Run {
-        ball: b,
+pub(crate) fn no_words() -> Line {
+    Line {
         words: [0; ROOM],
         count: 0,
     }
 }
 
 // A word behind the others.
-fn with_word(run: Run, word: u16) -> Run {
-    let mut r = run;
-    let at = r.count;
+fn with_word(line: Line, word: u16) -> Line {
+    let mut l = line;
+    let at = l.count;
     if at < ROOM {
-        r.words[at] = word;
-        r.count = at + 1;
+        l.words[at] = word;
+        l.count = at + 1;
     }
-    r
+    l
 }
 
-fn noted(run: Run, s: Sent) -> Run {
+pub(crate) fn noted(line: Line, s: Sent) -> Line {
     match s {
-        Sent::Nothing => run,
-        Sent::Word(w) => with_word(run, w),
+        Sent::Nothing => line,
+        Sent::Word(w) => with_word(line, w),
+    }
+}
+
+// A run of the box: the box, and the words that it gave.
+pub(crate) struct Run {
+    pub(crate) ball: BallBox,
+    pub(crate) line: Line,
+}
+
+// A run from a box on.
+pub(crate) fn started(b: BallBox) -> Run {
+    Run {
+        ball: b,
+        line: no_words(),
     }
 }
 
@@ -109,9 +120,10 @@ pub(crate) fn on(run: Run, e: Event) -> Run {
     event(e);
     refusal(stepped.refusal);
     sent(word);
-    let mut r = noted(run, word);
-    r.ball = next;
-    r
+    Run {
+        ball: next,
+        line: noted(run.line, word),
+    }
 }
 
 // The run after time for so many characters: each is latched for, and sent.
@@ -198,6 +210,7 @@ fn answers_to_first(letter: u8, words: &[u16], count: usize) {
 
 // The same to the words of a run.
 pub(crate) fn answers_to(letter: u8, run: Run) {
-    let words = run.words;
-    answers_to_first(letter, &words, run.count);
+    let line = run.line;
+    let words = line.words;
+    answers_to_first(letter, &words, line.count);
 }

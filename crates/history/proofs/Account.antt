@@ -48,7 +48,7 @@ use Rattle.history.proofs.Carries.{Carries}
 use Rattle.history.proofs.Sending.{bytes-left}
 use Rattle.history.proofs.Bridge.{step-sends, told-is, buttons-line}
 use Rattle.history.proofs.Asking.{latching-alike, sending-alike, refused-told}
-use Rattle.history.specs.Account.{along, whileAwake, over, fedBy, valueOf, valueIn, inFinished, inGoing, inCounter, inBroken, clearedBy, selectsA, neverA}
+use Rattle.history.specs.Account.{along, addedOver, whileAwake, over, fedBy, valueOf, valueIn, valuesFinished, valueGoing, valuesBroken, inFinished, inGoing, inCounter, inBroken, clearedBy, selectsA, neverA}
 
 -- what an event of a box that is awake throws away
 abbrev latchesNow : BallBox → Event → Bool
@@ -101,6 +101,118 @@ all-more p q =
     ((term 0 plus term 5) plus (term 1 plus term 6) plus (term 2 plus term 7) plus (term 3 plus term 8) plus (term 4 plus term 9))
     ((term 0 plus term 1 plus term 2 plus term 3 plus term 4) plus (term 5 plus term 6 plus term 7 plus term 8 plus term 9))
     refl
+
+-- an event that ends nothing and changes no counter
+pub quiet-accounts : (x y : ℤ) → (x +ℤ y) +ℤ pos 0 ≡ (pos 0 +ℤ (pos 0 +ℤ (pos 0 +ℤ (pos 0 +ℤ pos 0)))) +ℤ (x +ℤ y)
+quiet-accounts x y = same-terms (x ∷ y ∷ []) ((term 0 plus term 1) plus none) ((none plus none plus none plus none plus none) plus (term 0 plus term 1)) refl
+
+-- the values of passages in two parts; and of what is going when it is broken off, with a counter of which a part is cleared
+module _ {K : Type 0} (value : K → ℤ) where
+  finished-more : (p q : List (Passage K)) → valuesFinished value (p ++ q) ≡ valuesFinished value p +ℤ valuesFinished value q
+  finished-more [] q = sym (+ℤ-idl (valuesFinished value q))
+  finished-more (silent ∷ p) q = finished-more p q
+  finished-more (finished m ∷ p) q = ap (λ (x : ℤ). value m +ℤ x) (finished-more p q) ∙ sym (+ℤ-assoc (value m) (valuesFinished value p) (valuesFinished value q))
+  finished-more (broken n m ∷ p) q = finished-more p q
+
+  broken-more : (p q : List (Passage K)) → valuesBroken value (p ++ q) ≡ valuesBroken value p +ℤ valuesBroken value q
+  broken-more [] q = sym (+ℤ-idl (valuesBroken value q))
+  broken-more (silent ∷ p) q = broken-more p q
+  broken-more (finished m ∷ p) q = broken-more p q
+  broken-more (broken n m ∷ p) q = ap (λ (x : ℤ). value m +ℤ x) (broken-more p q) ∙ sym (+ℤ-assoc (value m) (valuesBroken value p) (valuesBroken value q))
+
+  pub broken-accounts : (g : UnderWay K) (c cleared now : ℤ) → cleared +ℤ now ≡ c
+      → (valueGoing value g +ℤ c) +ℤ pos 0 ≡ (valuesFinished value (brokenOff g) +ℤ (pos 0 +ℤ (pos 0 +ℤ (valuesBroken value (brokenOff g) +ℤ cleared)))) +ℤ (pos 0 +ℤ now)
+  broken-accounts nothing c cleared now e =
+      ap (λ (x : ℤ). (pos 0 +ℤ x) +ℤ pos 0) (sym e)
+      ∙ same-terms (cleared ∷ now ∷ []) ((none plus (term 0 plus term 1)) plus none) ((none plus none plus none plus none plus term 0) plus (none plus term 1)) refl
+  broken-accounts (first n m) c cleared now e =
+      ap (λ (x : ℤ). (value m +ℤ x) +ℤ pos 0) (sym e)
+      ∙ same-terms (value m ∷ cleared ∷ now ∷ []) ((term 0 plus (term 1 plus term 2)) plus none)
+      ((none plus none plus none plus (term 0 plus none) plus term 1) plus (none plus term 2)) refl
+
+-- A device with these events: its step, what it tells of the line, what its messages say and its counter, and what an event feeds, throws away and clears.
+pub record Moved (K S : Type 0) : Type 0 where
+  pub next : S → Event → S
+  pub tells : S → Event → UnderWay K → Told K
+  pub value : K → ℤ
+  pub counter : S → ℤ
+  pub fed : S → Event → ℤ
+  pub limit : S → Event → ℤ
+  pub sixteen : S → Event → ℤ
+  pub cleared : S → Event → ℤ
+
+module _ {K S : Type 0} (d : Moved K S) where
+  -- what is on its way
+  abbrev pub underWay : S → UnderWay K → ℤ
+  underWay s g = valueGoing (d .value) g +ℤ d .counter s
+
+  abbrev pub partsBy : S → Event → List (Passage K) → Parts
+  partsBy s e passages =
+      record {
+        finished = valuesFinished (d .value) passages;
+        limit = d .limit s e;
+        counter = d .sixteen s e;
+        broken = valuesBroken (d .value) passages;
+        cleared = d .cleared s e;
+      }
+
+  -- an event adds to the parts, and to what is on its way, what it adds to the motion fed
+  abbrev pub Balances : S → Event → UnderWay K → S → Told K → Type 0
+  Balances s e g next t = underWay s g +ℤ d .fed s e ≡ all (partsBy s e (t .passages)) +ℤ underWay next (t .going)
+
+  -- each event of a run does, which ends here
+  abbrev pub Balanced : S → UnderWay K → List Event → S → Type 0
+  Balanced s g [] end = s ≡ end
+  Balanced s g (e ∷ events) end = Balances s e g (d .next s e) (d .tells s e g) × Balanced (d .next s e) (d .tells s e g .going) events end
+
+  abbrev partsOver : S → UnderWay K → List Event → Parts
+  partsOver s g events =
+      record {
+        finished = valuesFinished (d .value) (passagesOver (d .next) (d .tells) s g events);
+        limit = addedOver (d .next) (d .limit) s events;
+        counter = addedOver (d .next) (d .sixteen) s events;
+        broken = valuesBroken (d .value) (passagesOver (d .next) (d .tells) s g events);
+        cleared = addedOver (d .next) (d .cleared) s events;
+      }
+
+  accounts : (s : S) (g : UnderWay K) (events : List Event) (end : S) → Balanced s g events end
+      → underWay s g +ℤ addedOver (d .next) (d .fed) s events ≡ all (partsOver s g events) +ℤ underWay end (goingOver (d .next) (d .tells) s g events)
+  unfolding addedOver passagesOver goingOver
+  accounts s g [] end h = quiet-accounts (valueGoing (d .value) g) (d .counter s) ∙ rw h
+  accounts s g (e ∷ events) end h =
+      let t = d .tells s e g in
+      let next = d .next s e in
+      let more = addedOver (d .next) (d .fed) next events in
+      let now = partsBy s e (t .passages) in
+      let rest = partsOver next (t .going) events in
+      let last = underWay end (goingOver (d .next) (d .tells) next (t .going) events) in
+      let later = passagesOver (d .next) (d .tells) next (t .going) events in
+      sym (+ℤ-assoc (underWay s g) (d .fed s e) more)
+      ∙ (ap (λ (x : ℤ). x +ℤ more) (h .0)
+      ∙ (+ℤ-assoc (all now) (underWay next (t .going)) more
+      ∙ (ap (λ (x : ℤ). all now +ℤ x) (accounts next (t .going) events end (h .1))
+      ∙ (sym (+ℤ-assoc (all now) (all rest) last)
+      ∙ (ap (λ (x : ℤ). x +ℤ last) (sym (all-more now rest))
+      ∙ rw (finished-more (d .value) (t .passages) later, broken-more (d .value) (t .passages) later))))))
+
+  -- the account of a run at whose start nothing is on its way
+  pub balance : (s : S) (g : UnderWay K) (events : List Event) (end : S) → Balanced s g events end → underWay s g ≡ pos 0
+      → addedOver (d .next) (d .fed) s events
+      ≡ valuesFinished (d .value) (passagesOver (d .next) (d .tells) s g events)
+      +ℤ (valueGoing (d .value) (goingOver (d .next) (d .tells) s g events)
+      +ℤ (d .counter end
+      +ℤ (addedOver (d .next) (d .limit) s events
+      +ℤ (addedOver (d .next) (d .sixteen) s events
+      +ℤ (valuesBroken (d .value) (passagesOver (d .next) (d .tells) s g events)
+      +ℤ addedOver (d .next) (d .cleared) s events)))))
+  balance s g events end h z =
+      let p = partsOver s g events in
+      let n = valueGoing (d .value) (goingOver (d .next) (d .tells) s g events) in
+      sym (+ℤ-idl _)
+      ∙ (ap (λ (x : ℤ). x +ℤ addedOver (d .next) (d .fed) s events) (sym z)
+      ∙ (accounts s g events end h
+      ∙ same-terms (p .finished ∷ p .limit ∷ p .counter ∷ p .broken ∷ p .cleared ∷ n ∷ d .counter end ∷ []) ((term 0 plus term 1 plus term 2 plus term 3 plus term 4) plus (term 5 plus term 6))
+      (term 0 plus term 5 plus term 6 plus term 1 plus term 2 plus term 3 plus term 4) refl))
 
 -- a good box, not set to A, with what is going in it; of a report of which at most three bytes have gone the second pair is to come
 abbrev pub Unpaired : UnderWay Message → Type 0
@@ -185,7 +297,7 @@ nothing-comes b = cases (λ (v : ℤ). v ≡ pos 0) (b .dormant) (λ _. refl) (�
 
 module _ (a : Axis) where
   -- what is on its way, and what an event adds
-  abbrev pub onWay : BallBox → UnderWay Message → ℤ
+  abbrev onWay : BallBox → UnderWay Message → ℤ
   onWay b g = inGoing a g +ℤ inCounter a b
 
   abbrev partsOf : BallBox → Event → List (Passage Message) → Parts
@@ -201,10 +313,6 @@ module _ (a : Axis) where
   -- an event adds to the parts, and to what is on its way, what it adds to the motion fed
   abbrev Accounts : BallBox → Event → UnderWay Message → BallBox → Told Message → Type 0
   Accounts b e g c t = onWay b g +ℤ fedBy a b e ≡ all (partsOf b e (t .passages)) +ℤ onWay c (t .going)
-
-  -- one that ends nothing and changes no counter
-  quiet-accounts : (x y : ℤ) → (x +ℤ y) +ℤ pos 0 ≡ (pos 0 +ℤ (pos 0 +ℤ (pos 0 +ℤ (pos 0 +ℤ pos 0)))) +ℤ (x +ℤ y)
-  quiet-accounts x y = same-terms (x ∷ y ∷ []) ((term 0 plus term 1) plus none) ((none plus none plus none plus none plus none) plus (term 0 plus term 1)) refl
 
   counted-along : (c : Pair) (dx dy : ℤ) → along a (counted c dx dy) +ℤ excessAlong a (countedOver c dx dy) ≡ along a c +ℤ along a (pair dx dy)
   counted-along c dx dy = go a
@@ -283,16 +391,6 @@ module _ (a : Axis) where
       go false w = rw (w, k .carries, latching-idle b (k .carries) w) (quiet-accounts (pos 0) (inCounter a b))
 
   -- Host: what is going is broken off, and a format command clears the counter
-  broken-accounts : (g : UnderWay Message) (c cleared now : ℤ) → cleared +ℤ now ≡ c
-      → (inGoing a g +ℤ c) +ℤ pos 0 ≡ (inFinished a (brokenOff g) +ℤ (pos 0 +ℤ (pos 0 +ℤ (inBroken a (brokenOff g) +ℤ cleared)))) +ℤ (pos 0 +ℤ now)
-  broken-accounts nothing c cleared now e =
-      ap (λ (x : ℤ). (pos 0 +ℤ x) +ℤ pos 0) (sym e)
-      ∙ same-terms (cleared ∷ now ∷ []) ((none plus (term 0 plus term 1)) plus none) ((none plus none plus none plus none plus term 0) plus (none plus term 1)) refl
-  broken-accounts (first n m) c cleared now e =
-      ap (λ (x : ℤ). (valueIn a m +ℤ x) +ℤ pos 0) (sym e)
-      ∙ same-terms (valueIn a m ∷ cleared ∷ now ∷ []) ((term 0 plus (term 1 plus term 2)) plus none)
-      ((none plus none plus none plus (term 0 plus none) plus term 1) plus (none plus term 2)) refl
-
   reply-value : (bytes : List ℕ) → inGoing a (unsentReply bytes) ≡ pos 0
   reply-value [] = refl
   reply-value (byte ∷ bytes) = refl
@@ -304,8 +402,8 @@ module _ (a : Axis) where
       go : (t : Bool) → known byte ≡ t
           → (inGoing a g +ℤ inCounter a b) +ℤ pos 0
           ≡ (inFinished a (brokenOff g) +ℤ (pos 0 +ℤ (pos 0 +ℤ (inBroken a (brokenOff g) +ℤ clearedBy a b (Host byte))))) +ℤ (pos 0 +ℤ inCounter a (onHost byte b .next))
-      go true e = rw (e, host-sets byte b e .0, cleared-along (b .track)) (broken-accounts g (inCounter a b) (inCounter a b) (pos 0) (+ℤ-idr _))
-      go false e = rw (e, host-leaves byte b e .0) (broken-accounts g (inCounter a b) (pos 0) (inCounter a b) (+ℤ-idl _))
+      go true e = rw (e, host-sets byte b e .0, cleared-along (b .track)) (broken-accounts (valueIn a) g (inCounter a b) (inCounter a b) (pos 0) (+ℤ-idr _))
+      go false e = rw (e, host-leaves byte b e .0) (broken-accounts (valueIn a) g (inCounter a b) (pos 0) (inCounter a b) (+ℤ-idl _))
 
   -- Send: U's second pair, and then a byte, which may end the report
   paired-accounts : (b : BallBox) (n : ℕ) (m : Message) → Standing b (first n m)
@@ -379,25 +477,26 @@ module _ (a : Axis) where
   asleep-accounts b Send = quiet-accounts (pos 0) (inCounter a b)
   asleep-accounts b Period = quiet-accounts (pos 0) (inCounter a b)
 
-  -- every step of a good box: what it comes to while awake
-  abbrev pub steps : BallBox → Event → List (Passage Message) → Parts
-  steps b e passages =
+  -- the box: what its events come to while awake
+  abbrev pub box : Moved Message BallBox
+  box =
       record {
-        finished = inFinished a passages;
-        limit = whileAwake b (overLimitBy a b e);
-        counter = whileAwake b (overCounterBy a b e);
-        broken = inBroken a passages;
-        cleared = whileAwake b (clearedBy a b e);
+        next = nextBox;
+        tells = toldBy;
+        value = valueIn a;
+        counter = inCounter a;
+        fed = λ b e. whileAwake b (fedBy a b e);
+        limit = λ b e. whileAwake b (overLimitBy a b e);
+        sixteen = λ b e. whileAwake b (overCounterBy a b e);
+        cleared = λ b e. whileAwake b (clearedBy a b e);
       }
 
-  abbrev pub Comes : BallBox → Event → UnderWay Message → BallBox → Told Message → Type 0
-  Comes b e g c t = onWay b g +ℤ whileAwake b (fedBy a b e) ≡ all (steps b e (t .passages)) +ℤ onWay c (t .going)
-
+  -- every step of a good box
   abbrev pub StepAccounts : BallBox → Event → UnderWay Message → Type 0
-  StepAccounts b e g = Comes b e g (nextBox b e) (toldBy b e g)
+  StepAccounts b e g = Balances box b e g (nextBox b e) (toldBy b e g)
 
-  comes : (b : BallBox) (e : Event) (g : UnderWay Message) (c : BallBox) (t : Told Message) → nextBox b e ≡ c → toldBy b e g ≡ t → Comes b e g c t → StepAccounts b e g
-  comes b e g c t n d h = subst (λ (x : BallBox). Comes b e g x (toldBy b e g)) (sym n) (subst (Comes b e g c) (sym d) h)
+  comes : (b : BallBox) (e : Event) (g : UnderWay Message) (c : BallBox) (t : Told Message) → nextBox b e ≡ c → toldBy b e g ≡ t → Balances box b e g c t → StepAccounts b e g
+  comes b e g c t n d h = subst (λ (x : BallBox). Balances box b e g x (toldBy b e g)) (sym n) (subst (Balances box b e g c) (sym d) h)
 
   refused-accounts : (b : BallBox) (e : Event) (g : UnderWay Message) → good b ≡ true → aboveSeven e ≡ true → StepAccounts b e g
   refused-accounts b (Motion dx dy) g k p = absurd (holds p)
@@ -500,51 +599,14 @@ standing-step b e g k s =
         both g (awake b e .next) (whenAwake b e g) (ap (λ (x : Step). x .next) (ruled b e false (k .good) p q)) (told-is b e g false p q)
         (awake-relative b e (k .relative) q s, awake-unpaired b e g (k .unpaired))
 
--- over every run
-module _ (a : Axis) where
-  finished-more : (p q : List (Passage Message)) → inFinished a (p ++ q) ≡ inFinished a p +ℤ inFinished a q
-  finished-more [] q = sym (+ℤ-idl (inFinished a q))
-  finished-more (silent ∷ p) q = finished-more p q
-  finished-more (finished m ∷ p) q = ap (λ (x : ℤ). valueIn a m +ℤ x) (finished-more p q) ∙ sym (+ℤ-assoc (valueIn a m) (inFinished a p) (inFinished a q))
-  finished-more (broken n m ∷ p) q = finished-more p q
-
-  broken-more : (p q : List (Passage Message)) → inBroken a (p ++ q) ≡ inBroken a p +ℤ inBroken a q
-  broken-more [] q = sym (+ℤ-idl (inBroken a q))
-  broken-more (silent ∷ p) q = broken-more p q
-  broken-more (finished m ∷ p) q = broken-more p q
-  broken-more (broken n m ∷ p) q = ap (λ (x : ℤ). valueIn a m +ℤ x) (broken-more p q) ∙ sym (+ℤ-assoc (valueIn a m) (inBroken a p) (inBroken a q))
-
-  abbrev pub partsOver : BallBox → UnderWay Message → List Event → Parts
-  partsOver b g events =
-      record {
-        finished = inFinished a (passagesOf b g events);
-        limit = over (overLimitBy a) b events;
-        counter = over (overCounterBy a) b events;
-        broken = inBroken a (passagesOf b g events);
-        cleared = over (clearedBy a) b events;
-      }
-
-  pub accounts : (b : BallBox) (g : UnderWay Message) (events : List Event) → Standing b g → neverA b events ≡ true
-      → onWay a b g +ℤ over (fedBy a) b events ≡ all (partsOver b g events) +ℤ onWay a (boxAfter b events) (goingAfter b g events)
-  unfolding over neverA passagesOver goingOver boxAfter
-  accounts b g [] k n = quiet-accounts a (inGoing a g) (inCounter a b)
-  accounts b g (e ∷ events) k n =
-      let t = toldBy b e g in
-      let c = nextBox b e in
-      let fed = whileAwake b (fedBy a b e) in
-      let more = over (fedBy a) c events in
-      let now = steps a b e (t .passages) in
-      let rest = partsOver c (t .going) events in
-      let end = onWay a (boxAfter c events) (goingAfter c (t .going) events) in
-      let here = step-accounts a b e g k in
-      let later = accounts c (t .going) events (standing-step b e g k (not-true (selectsA b e) (left (not (selectsA b e)) (neverA c events) n))) (right (not (selectsA b e)) (neverA c events) n) in
-      sym (+ℤ-assoc (onWay a b g) fed more)
-      ∙ (ap (λ (x : ℤ). x +ℤ more) here
-      ∙ (+ℤ-assoc (all now) (onWay a c (t .going)) more
-      ∙ (ap (λ (x : ℤ). all now +ℤ x) later
-      ∙ (sym (+ℤ-assoc (all now) (all rest) end)
-      ∙ (ap (λ (x : ℤ). x +ℤ end) (sym (all-more now rest))
-      ∙ rw (finished-more (t .passages) (passagesOf c (t .going) events), broken-more (t .passages) (passagesOf c (t .going) events)))))))
+-- over every run that never selects A
+balanced : (a : Axis) (b : BallBox) (g : UnderWay Message) (events : List Event) → Standing b g → neverA b events ≡ true → Balanced (box a) b g events (boxAfter b events)
+unfolding neverA boxAfter
+balanced a b g [] k n = refl
+balanced a b g (e ∷ events) k n =
+    let none = not (selectsA b e) in
+    let later = neverA (nextBox b e) events in
+    (step-accounts a b e g k, balanced a (nextBox b e) (toldBy b e g .going) events (standing-step b e g k (not-true (selectsA b e) (left none later n))) (right none later n))
 
 -- the excesses of a run's steps are those of what its events throw away while awake
 pub none-along : (k : Kind) (a : Axis) → excessOf k a noSums ≡ pos 0
@@ -553,7 +615,7 @@ none-along over-limit y-axis = refl
 none-along over-counter x-axis = refl
 none-along over-counter y-axis = refl
 
-abbrev overBy : Kind → Axis → BallBox → Event → ℤ
+abbrev pub overBy : Kind → Axis → BallBox → Event → ℤ
 overBy over-limit a b e = overLimitBy a b e
 overBy over-counter a b e = overCounterBy a b e
 
@@ -591,7 +653,7 @@ refused-none k a b Latch p = absurd (holds p)
 refused-none k a b Send p = absurd (holds p)
 refused-none k a b Period p = absurd (holds p)
 
-step-throws : (k : Kind) (a : Axis) (b : BallBox) (e : Event) → good b ≡ true → excessOf k a (thrown b e) ≡ whileAwake b (overBy k a b e)
+pub step-throws : (k : Kind) (a : Axis) (b : BallBox) (e : Event) → good b ≡ true → excessOf k a (thrown b e) ≡ whileAwake b (overBy k a b e)
 unfolding thrown
 step-throws k a b e g = rw g (go (aboveSeven e) refl (b .dormant) refl)
   where
@@ -609,7 +671,7 @@ step-throws k a b e g = rw g (go (aboveSeven e) refl (b .dormant) refl)
         (ap (λ (t : Bool). excessOf k a (cond t noSums both)) q ∙ (still d ∙ sym (awake-is b d q (overBy k a b e))))
 
 run-throws : (k : Kind) (a : Axis) (b : BallBox) (events : List Event) → good b ≡ true → over (overBy k a) b events ≡ sumOf (thrownIn k a b events)
-unfolding over thrownIn sumOf
+unfolding addedOver thrownIn sumOf
 run-throws k a b [] g = refl
 run-throws k a b (e ∷ events) g = ap₂ _+ℤ_ (sym (step-throws k a b e g)) (run-throws k a (nextBox b e) events (stepped-good b e g))
 
@@ -624,16 +686,5 @@ pub account : (a : Axis) (b : BallBox) (events : List Event) → Standing b noth
     +ℤ (inBroken a (passagesOf b nothing events)
     +ℤ over (clearedBy a) b events)))))
 account a b events k z n =
-    let f = inFinished a (passagesOf b nothing events) in
-    let g = inGoing a (goingAfter b nothing events) in
-    let c = inCounter a (boxAfter b events) in
-    let l = over (overLimitBy a) b events in
-    let o = over (overCounterBy a) b events in
-    let r = inBroken a (passagesOf b nothing events) in
-    let d = over (clearedBy a) b events in
-    sym (+ℤ-idl _)
-    ∙ (ap (λ (x : ℤ). (pos 0 +ℤ x) +ℤ over (fedBy a) b events) (sym z)
-    ∙ (accounts a b nothing events k n
-    ∙ (same-terms (f ∷ l ∷ o ∷ r ∷ d ∷ g ∷ c ∷ []) ((term 0 plus term 1 plus term 2 plus term 3 plus term 4) plus (term 5 plus term 6))
-    (term 0 plus term 5 plus term 6 plus term 1 plus term 2 plus term 3 plus term 4) refl
-    ∙ rw (run-throws over-limit a b events (k .good), run-throws over-counter a b events (k .good)))))
+    balance (box a) b nothing events (boxAfter b events) (balanced a b nothing events k n) (+ℤ-idl _ ∙ z)
+    ∙ rw (run-throws over-limit a b events (k .good), run-throws over-counter a b events (k .good))

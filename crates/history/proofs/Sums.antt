@@ -20,7 +20,7 @@ use Rattle.history.specs.Presses.{boxAfter, lastBox}
 use Rattle.history.specs.Sums.{Kind, over-limit, over-counter, Axis, x-axis, y-axis, excessOf, thrownIn, heldOver, neverEnds, sumOf}
 
 -- each of the four sums takes its own excess
-added-each : (k : Kind) (a : Axis) (s t : Sums) → excessOf k a (addedUp s t) ≡ heldLong (excessOf k a s) (excessOf k a t)
+pub added-each : (k : Kind) (a : Axis) (s t : Sums) → excessOf k a (addedUp s t) ≡ heldLong (excessOf k a s) (excessOf k a t)
 unfolding added
 added-each over-limit x-axis s t = refl
 added-each over-limit y-axis s t = refl

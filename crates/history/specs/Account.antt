@@ -20,13 +20,17 @@ abbrev pub along : Axis → Pair → ℤ
 along x-axis p = p .x
 along y-axis p = p .y
 
--- what the events of a run come to "while awake", added up
+-- what the events of a run come to, added up: of a box, or of another device that has its events
+unfoldable pub addedOver : {S : Type 0} → (S → Event → S) → (S → Event → ℤ) → S → List Event → ℤ
+addedOver next part s [] = pos 0
+addedOver next part s (e ∷ events) = part s e +ℤ addedOver next part (next s e) events
+
+-- of a box, "while awake"
 abbrev pub whileAwake : BallBox → ℤ → ℤ
 whileAwake b v = cond (b .dormant) (pos 0) v
 
-unfoldable pub over : (BallBox → Event → ℤ) → BallBox → List Event → ℤ
-over part b [] = pos 0
-over part b (e ∷ events) = whileAwake b (part b e) +ℤ over part (nextBox b e) events
+abbrev pub over : (BallBox → Event → ℤ) → BallBox → List Event → ℤ
+over part b events = addedOver nextBox (λ b e. whileAwake b (part b e)) b events
 
 -- "The motion fed while awake"
 abbrev pub fedBy : Axis → BallBox → Event → ℤ
@@ -46,28 +50,39 @@ abbrev pub valueIn : Axis → Message → ℤ
 valueIn a (report l) = valueOf a (l .report)
 valueIn a (reply bytes) = pos 0
 
--- "values in finished reports"
-abbrev pub inFinished : Axis → List (Passage Message) → ℤ
-inFinished a [] = pos 0
-inFinished a (silent ∷ passages) = inFinished a passages
-inFinished a (finished m ∷ passages) = valueIn a m +ℤ inFinished a passages
-inFinished a (broken n m ∷ passages) = inFinished a passages
+-- of messages of any kind, each of this value
+module _ {K : Type 0} (value : K → ℤ) where
+  -- "values in finished reports"
+  abbrev pub valuesFinished : List (Passage K) → ℤ
+  valuesFinished [] = pos 0
+  valuesFinished (silent ∷ passages) = valuesFinished passages
+  valuesFinished (finished m ∷ passages) = value m +ℤ valuesFinished passages
+  valuesFinished (broken n m ∷ passages) = valuesFinished passages
 
--- "what is latched in the report now going"
+  -- "what is latched in the report now going"
+  abbrev pub valueGoing : UnderWay K → ℤ
+  valueGoing nothing = pos 0
+  valueGoing (first n m) = value m
+
+  -- "what was latched in broken-off reports"
+  abbrev pub valuesBroken : List (Passage K) → ℤ
+  valuesBroken [] = pos 0
+  valuesBroken (silent ∷ passages) = valuesBroken passages
+  valuesBroken (finished m ∷ passages) = valuesBroken passages
+  valuesBroken (broken n m ∷ passages) = value m +ℤ valuesBroken passages
+
+abbrev pub inFinished : Axis → List (Passage Message) → ℤ
+inFinished a passages = valuesFinished (valueIn a) passages
+
 abbrev pub inGoing : Axis → UnderWay Message → ℤ
-inGoing a nothing = pos 0
-inGoing a (first n m) = valueIn a m
+inGoing a g = valueGoing (valueIn a) g
+
+abbrev pub inBroken : Axis → List (Passage Message) → ℤ
+inBroken a passages = valuesBroken (valueIn a) passages
 
 -- "the counter"
 abbrev pub inCounter : Axis → BallBox → ℤ
 inCounter a b = along a (b .track .counter)
-
--- "what was latched in broken-off reports"
-abbrev pub inBroken : Axis → List (Passage Message) → ℤ
-inBroken a [] = pos 0
-inBroken a (silent ∷ passages) = inBroken a passages
-inBroken a (finished m ∷ passages) = inBroken a passages
-inBroken a (broken n m ∷ passages) = valueIn a m +ℤ inBroken a passages
 
 -- "counters cleared by format commands"
 abbrev pub clearedBy : Axis → BallBox → Event → ℤ

@@ -16,8 +16,11 @@ use Rattle.ballbox.specs.Latching.{limits, limited, limitExcess, movement, take
 use Rattle.ballbox.specs.Commands.{commandOf, obeyed}
 use Rattle.ballbox.specs.Events.{onButtons, onPeriod, latching, withByteReady, after, memoryAfter, nextByte, sending, dropped, onHost, awake}
 use Rattle.ballbox.specs.Good as boxes
+use Rattle.ballbox.specs.Excesses.{thrown}
 use Rattle.ballbox.specs.Promises as ballbox
 use Rattle.history.specs.History as history
+use Rattle.history.specs.Sums.{sumOf}
+use Rattle.history.specs.Account.{addedOver}
 use Rattle.vsxxx.specs.SelfTests.{testBytes, testOf, isTest, isButtons}
 use Rattle.vsxxx.specs.Reports.{sizeFrom, fitsStart, fitsBehind}
 use Rattle.puck.specs.Device.{poweredBox, powered}
@@ -27,7 +30,8 @@ use Rattle.puck.specs.Promises.{stepOf}
 use Rattle.puckreader.specs.Rules.{wordOf}
 use Rattle.puckhistory.specs.Runs.{puckAfter, puckWords}
 use Rattle.puckhistory.specs.History.{boxTells, testTells, toldBy}
+use Rattle.puckhistory.specs.Account.{thrownSince}
 
 unfoldable pub computing : Unit {0}
-unfolding number bit bits held excess heldSum sumExcess heldLong signed passagesOver goingOver lineWords moveOf namedBy sizeBy known bytesS bytesBy like fitsFirst fitsLater readS added goingFrom remembering toShow showingFirst shown hidden counted countedOver placedAt placed movedBy apart hasMoved limits limited limitExcess movement taken takenOver cleared latchedReport latched commandOf obeyed onButtons onPeriod latching withByteReady after memoryAfter nextByte sending dropped onHost awake boxes.good boxes.goodSettings boxes.goodTrack boxes.goodGoing boxes.goodMemory ballbox.stepOf history.toldBy testBytes testOf isTest isButtons sizeFrom fitsStart fitsBehind poweredBox powered byBox byT testByte inTest outOfTest rules follows rests goodTest good stepOf wordOf puckAfter puckWords boxTells testTells toldBy
+unfolding number bit bits held excess heldSum sumExcess heldLong signed passagesOver goingOver lineWords moveOf namedBy sizeBy known bytesS bytesBy like fitsFirst fitsLater readS added goingFrom remembering toShow showingFirst shown hidden counted countedOver placedAt placed movedBy apart hasMoved limits limited limitExcess movement taken takenOver cleared latchedReport latched commandOf obeyed onButtons onPeriod latching withByteReady after memoryAfter nextByte sending dropped onHost awake boxes.good boxes.goodSettings boxes.goodTrack boxes.goodGoing boxes.goodMemory ballbox.stepOf history.toldBy testBytes testOf isTest isButtons sizeFrom fitsStart fitsBehind poweredBox powered byBox byT testByte inTest outOfTest rules follows rests goodTest good stepOf wordOf puckAfter puckWords boxTells testTells toldBy thrown sumOf addedOver thrownSince
 computing = tt

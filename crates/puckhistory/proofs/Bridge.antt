@@ -105,7 +105,7 @@ t-sends p (first n m) h k =
     }
 
 -- in a self-test the box tells nothing
-quiet-told : (b : BallBox) (e : Event) → parts-of.Rests b → b .dormant ≡ false → Quiet e → told-by.toldBy b (asBox e) nothing ≡ told [] nothing
+pub quiet-told : (b : BallBox) (e : Event) → parts-of.Rests b → b .dormant ≡ false → Quiet e → told-by.toldBy b (asBox e) nothing ≡ told [] nothing
 unfolding told-by.toldBy
 quiet-told b (Motion dx dy) r d q = rw d
 quiet-told b (Buttons n) r d q = rw d (cases (λ (t : Told Message). t ≡ told [] nothing) (ltb 7 n) (λ _. refl) (λ _. refl))
