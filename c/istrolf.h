@@ -1,16 +1,18 @@
-/* Istrolf for C99 and C++: reader, encoder, box, lister, bridge, yard check, reader of listings, reader of replies, lister and salvage for a serial trackball and the seven
- * formats of the old mice, and the VSXXX puck. Link libistrolf.a.
+/* Istrolf for C99 and C++: a serial trackball and the seven formats of the old mice. Reader, encoder, box, lister, yard check, bridge, reader of listings,
+ * reader of replies, salvage, and the Digital VSXXX with its reader. Link libistrolf.a.
  *
  * Calls. Every function takes every argument, ends, and has one answer; each is proved. There is no set-up and no error but the refusals below.
  * Nothing is allocated and nothing is kept between calls, so calls from several threads need no lock.
  *
- * States. A reader, a box, a lister and a bridge are values that you own: a function ending in _fresh gives one, each other function takes one by value and
- * gives the next in its answer. Store the next one over the old one and go on. A copy is a state of its own. Members may be read; leave the writing
- * to the functions. Whatever bytes stand in a state, a call is safe: what is no state is refused with ISTROLF_BAD_STATE and handed back as it was.
+ * States. A reader, a box, a lister and the like are values that you own: a function ending in _fresh, or istrolf_puck_made, gives one; each other function
+ * takes one by value and gives the next in its answer. Store the next one over the old one and go on. A copy is a state of its own. Members may be read;
+ * leave the writing to the functions. Whatever bytes stand in a state, a call is safe: what is no state is refused with ISTROLF_BAD_STATE and handed back
+ * as it was.
  *
- * Refusals. An answer's first member, refusal, is 0 or one of the numbers below. A refusal hands back the old state, writes nothing to what you
- * lent, and has counts of 0; only istrolf_reader_read, istrolf_told_read and istrolf_bridge_convert do all before a bad word, and istrolf_readback_read all before a
- * faulty line. Behind each function stand its refusals in the order in which they are tested.
+ * Refusals. Where an answer has a member refusal, it is the first, and is 0 or one of the numbers below. A refusal hands back the old state, writes nothing
+ * to what you lent, and has counts of 0. Only the long calls do all before what they refuse: istrolf_reader_read, istrolf_told_read, istrolf_puck_reader_read
+ * and istrolf_bridge_convert before a bad word, istrolf_readback_read and istrolf_readback_rewrite before a line. Behind each function stand its refusals
+ * in the order in which they are tested.
  *
  * Pointers. A pointer and the count of elements behind it stand for what you lend for the call alone: it is yours before and after, and nobody keeps
  * the pointer. It must point at that many elements, aligned as C has them, also when the count is 0 (any address that is not null will do then). What
@@ -312,8 +314,10 @@ typedef struct {
     istrolf_readback next;
 } istrolf_rewritten;
 
-/* A piece of a listing, rewritten with line numbers of the other width, 4 or 6, and the same first letter. Refusals: BAD_STATE; BAD_LISTING, before a faulty line; TOO_WIDE, before a line
- * whose number does not fit; whichever of the two comes first, with all as it stands before it. */
+/* A piece of a listing, rewritten with line numbers of the other width, 4 or 6, and the same first letter. Refusals: BAD_STATE; BAD_LISTING, before a faulty
+ * line; TOO_WIDE, before a line whose number does not fit; whichever of the two comes first, with all as it stands before it. It takes whole lines, and stops
+ * before one that has no room in out: hand what was not taken over again, with what follows it and new room. At the end call istrolf_readback_finish, as
+ * after reading. */
 istrolf_rewritten istrolf_readback_rewrite(istrolf_readback reader, const uint8_t *input, size_t count, uint8_t *out, size_t room);
 
 /* ---- The reader that is told of replies: it reads the reply to a command just sent, and hands over to the report reader. */
@@ -491,13 +495,15 @@ typedef struct {
     size_t dropped; /* bytes dropped */
 } istrolf_puck_reading;
 
+/* A reader of the device that keeps nothing. */
 istrolf_puck_reader istrolf_puck_reader_fresh(void);
 
 /* One word. Refusals: BAD_STATE, BAD_WORD. */
 istrolf_read_puck_word istrolf_puck_reader_step(istrolf_puck_reader reader, uint16_t word);
 
-/* Many words. A report is six numbers of out: 0, buttons, x, y, 0, 0 for a movement; 1, or 2 if its error is fatal, revision, maker, device, error, buttons for a self-test. Refusals and
- * what is left are as in istrolf_reader_read, with six for five. */
+/* Many words. A report is six numbers of out: 0, buttons, x, y, 0, 0 for a movement; 1, or 2 if its error is fatal, revision, maker, device, error, buttons for
+ * a self-test. Refusals: BAD_STATE; BAD_WORD, with all as it stands before the bad word. With 0 and taken below count, fewer than six numbers of out were left
+ * for the next report: go on as with istrolf_reader_read. */
 istrolf_puck_reading istrolf_puck_reader_read(istrolf_puck_reader reader, const uint16_t *words, size_t count, int16_t *out, size_t room);
 
 #ifdef __cplusplus

@@ -17,12 +17,12 @@ use Rattle.bridge.specs.declared.Past.{Past}
 use Rattle.bridge.specs.declared.Bridge.{Bridge}
 use Rattle.bridge.proofs.Computing.{computing}
 
--- in T: "-128 on an axis gives two V reports"; with L and M down L is sent
+-- in T: -128 on an axis gives two V reports; with L and M down L is sent
 pub two : becomes 0x54 none (report 6 (minus 128) (pos 5)) ≡ report 4 (minus 127) (pos 5) ∷ report 4 (minus 1) (pos 0) ∷ []
 unfolding computing
 two = refl
 
--- in U: pairs summed, 254 is two and -256 three; "an axis may be 0 early"
+-- in U: pairs summed, 254 is two and -256 three; an axis may be 0 early
 pub u-two : becomes 0x55 none (record { buttons = 1; x1 = pos 127; y1 = pos 0; x2 = pos 127; y2 = pos 1 }) ≡ report 1 (pos 127) (pos 1) ∷ report 1 (pos 127) (pos 0) ∷ []
 unfolding computing
 u-two = refl

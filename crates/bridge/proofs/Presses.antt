@@ -53,7 +53,7 @@ presses-are letter (p ∷ reports) past h =
     let ih = presses-are letter reports (noted letter past p) (omega (arith, one)) in
     ih ∙ omega (arith, one)
 
--- "In V a report's middle is always up": its presses are none
+-- in V a report's middle is always up: its presses are none
 up-V : (r : Reader) (w : ℕ) (p : Report) → reader.good r ≡ true → r .format ≡ letterOf Microsoft → wordOf r w .answer ≡ answer.Report p → M p ≡ false
 unfolding readV
 up-V r w p g v a =

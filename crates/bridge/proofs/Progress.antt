@@ -132,7 +132,7 @@ module _ (b : Bridge) (w : ℕ) (g : good b ≡ true) where
       go Unknown q = absurd (holds (rw q at (reader.parts (b .reader) (good-reader b g) .of-known)))
       go (Known f) q = summed-short f p (held-by p f q a)
 
-  -- "an A report from edge to edge needs 33 V reports, 99 bytes", and none needs more
+  -- an A report from edge to edge needs 33 V reports, 99 bytes, and none needs more
   pub at-most-33 : (p : Report) → wordOf (b .reader) w .answer ≡ answer.Report p → length (becomes letter (b .past) p) ≤ 33
   unfolding becomes countOf
   at-most-33 p a = let m = movement letter (b .past) p in omega (arith, split-length (countOf m) (p .buttons) m, moves-short p a)

@@ -1,4 +1,4 @@
--- "A good converter: a good reader; a base only in A, each number of it 0 to 4095; the last middle and the count are free."
+-- A good converter: a good reader; a base only in A, each number of it 0 to 4095; the last middle and the count are free.
 use mathlib.Core.Bool.{Bool, _&&_}
 use Rattle.reader.specs.Good as reader
 use Rattle.bridge.specs.Remembered.{goodBase}

@@ -15,8 +15,8 @@ use Rattle.bridge.specs.declared.Past.{Past}
 use Rattle.bridge.specs.declared.Bridge.{Bridge}
 use Rattle.bridge.specs.declared.Converted.{Converted}
 
--- what is sent for what the reader answers, and what is remembered behind it: "Silences and breaks are not passed on; neither they nor dropped bytes
--- touch the base of A, the last middle or the count"
+-- what is sent for what the reader answers, and what is remembered behind it: silences and breaks are not passed on; neither they nor dropped bytes
+-- touch the base of A, the last middle or the count
 abbrev pub sentFor : ℕ → Past → Answer → List Report
 sentFor letter past answer.Nothing = []
 sentFor letter past (answer.Report p) = becomes letter past p
@@ -56,7 +56,7 @@ abbrev pub sentIn : List Given → List Report
 sentIn [] = []
 sentIn (g ∷ answers) = g .sent ++ sentIn answers
 
--- what a long call gives back ("words taken, input reports, V reports, bytes dropped"), and every byte of the lent slice after it
+-- what a long call gives back (words taken, input reports, V reports, bytes dropped), and every byte of the lent slice after it
 pub record Long : Type 0 where
   pub told : Converted
   pub out : List ℕ

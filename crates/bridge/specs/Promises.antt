@@ -17,7 +17,7 @@ use Rattle.bridge.specs.declared.Bridge.{Bridge}
 use Rattle.bridge.specs.declared.NewBridge.{NewBridge}
 use Rattle.bridge.specs.declared.Converted.{Converted}
 
--- a fresh bridge has a fresh reader and remembers nothing; "1 as in the reader", with a fresh one of U
+-- a fresh bridge has a fresh reader and remembers nothing; 1 as in the reader, with a fresh one of U
 abbrev pub withNone : Reader → Bridge
 withNone r = record { reader = r; past = none }
 

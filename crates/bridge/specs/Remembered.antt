@@ -58,7 +58,7 @@ baseBehind letter base p = cond (isA letter) (baseAt (p .x1) (p .y1)) base
 unfoldable pub noted : ℕ → Past → Report → Past
 noted letter past p = record { base = baseBehind letter (past .base) p; middle = M p; presses = countedBy past (M p) }
 
--- "a base only in A, each number of it 0 to 4095"; where there is none its numbers are 0
+-- a base only in A, each number of it 0 to 4095; where there is none its numbers are 0
 abbrev pub mostSet : Bool → ℕ
 mostSet set = cond set 4095 0
 

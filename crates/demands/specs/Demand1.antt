@@ -7,8 +7,8 @@ use mathlib.Core.List.{List, [], _∷_, _++_, List·Memᴰ·head as here}
 use mathlib.Core.Logic.{_⊎_}
 use lib.ListN.{length, getD}
 use lib.IntN.{ℤ}
-use Rattle.frames.specs.Words.{silence}
-use Rattle.wire.specs.Line.{known, letterOf, namedBy, sizeOf}
+use Rattle.frames.specs.Words.{silence, lineWords}
+use Rattle.wire.specs.Line.{known, letterOf, markedBy, namedBy, sizeOf}
 use Rattle.wire.specs.Holds as holding
 use Rattle.wire.specs.Holds.{unheld, holds}
 use Rattle.wire.specs.Numbers.{success, badState, badLetter, badButtons, badWord, RefusesRightly, accepted, refusal}
@@ -70,6 +70,21 @@ use Rattle.yard.specs.declared.Checked.{Checked}
 use Rattle.yard.proofs.Answers as yard-answers
 use Rattle.yard.proofs.Refusals as yard-refusals
 use Rattle.yard.proofs.Goodness as yard-goodness
+use Rattle.bridge.specs.Good as bridges
+use Rattle.bridge.specs.Line as bridge-line
+use Rattle.bridge.specs.Promises as bridge
+use Rattle.bridge.specs.declared.Bridge.{Bridge}
+use Rattle.bridge.specs.declared.NewBridge.{NewBridge}
+use Rattle.bridge.specs.declared.Converted.{Converted}
+use Rattle.bridge.proofs.Permitted as bridge-answers
+use Rattle.bridge.proofs.Refusals as bridge-refusals
+use Rattle.bridge.proofs.Goodness as bridge-goodness
+use Rattle.salvage.specs.Picking as picking
+use Rattle.salvage.specs.Picking.{mostWords, markedFormat, longLog}
+use Rattle.salvage.specs.Promises as salvage
+use Rattle.salvage.specs.declared.Picked.{Picked}
+use Rattle.salvage.proofs.Picks as salvage-answers
+use Rattle.salvage.proofs.Refusals as salvage-refusals
 
 -- "Every public entry takes every event, line word, state and buffer and ends with an answer": that it takes every argument and ends is the check
 -- of the function itself, which has no condition. Its answer is one: two that the promise permits are equal, and with them every number of a lent slice.
@@ -117,9 +132,12 @@ read-word-one = permitted.one-step
 pub read-line-one : (r : Reader) (words : List ℕ) (out : List ℤ) → OneWith (ReadPromise r words out)
 read-line-one = permitted.one-read
 
--- `BallBox::fresh`, `step`
+-- `BallBox::fresh`, `good`, `step`
 pub fresh-box-one : One box.FreshPromise
 fresh-box-one = box-answers.one-fresh
+
+pub good-box-one : (b : BallBox) → One (box.GoodPromise b)
+good-box-one = box-answers.one-good
 
 pub box-step-one : (b : BallBox) (e : Event) → One (box.StepPromise b e)
 box-step-one = box-answers.one-step
@@ -212,7 +230,7 @@ finish-refusals m before after a p =
 pub put-leaves : (t : Text) (at : ℕ) (before after : List ℕ) → PutPromise t at before false after → after ≡ before
 put-leaves = text.put-leaves
 
--- Which of them it is: "Tested in that order, where they apply". The encoder tests 1, 3, 2 and then 5.
+-- Which of them it is: "Tested in that order, where they apply". The encoder tests 1, 3, then 8, 9, 10 or 11, and then 5.
 pub encode-bad-letter : (letter : ℕ) (r : Report) (before after : List ℕ) (a : Encoded)
     → namedBy letter ≡ Unknown
     → EncodePromise letter r before a after
@@ -382,13 +400,23 @@ yard-step-refusals = yard-refusals.step-refusal
 pub check-refusals : (letter : ℕ) (words : List ℕ) (a : Checked) → yard.CheckPromise letter words a → yard.CheckRefusal a
 check-refusals = yard-refusals.check-refusal
 
-pub yard-step-bad-state : (y : Yard) (w : ℕ) (a : Judged) → yards.good y ≡ false → yard.StepPromise y w a → a ≡ yard-rules.refusing badState y
+pub yard-step-bad-state : (y : Yard) (w : ℕ) (a : Judged)
+    → yards.good y ≡ false
+    → yard.StepPromise y w a
+    → a ≡ yard-rules.refusing badState y
 yard-step-bad-state = yard-refusals.bad-state
 
-pub yard-step-bad-word : (y : Yard) (w : ℕ) (a : Judged) → yards.good y ≡ true → silence < w → yard.StepPromise y w a → a ≡ yard-rules.refusing badWord y
+pub yard-step-bad-word : (y : Yard) (w : ℕ) (a : Judged)
+    → yards.good y ≡ true
+    → silence < w
+    → yard.StepPromise y w a
+    → a ≡ yard-rules.refusing badWord y
 yard-step-bad-word = yard-refusals.bad-word
 
-pub check-bad-letter : (letter : ℕ) (words : List ℕ) (a : Checked) → known letter ≡ false → yard.CheckPromise letter words a → a ≡ yard-log.refused badLetter
+pub check-bad-letter : (letter : ℕ) (words : List ℕ) (a : Checked)
+    → known letter ≡ false
+    → yard.CheckPromise letter words a
+    → a ≡ yard-log.refused badLetter
 check-bad-letter = yard-refusals.unknown-check
 
 pub check-bad-word : (letter : ℕ) (front : List ℕ) (w : ℕ) (behind : List ℕ) (a : Checked)
@@ -402,5 +430,101 @@ check-bad-word = yard-refusals.anywhere
 pub fresh-yard-good : (letter : ℕ) (a : NewYard) → yard.FreshPromise letter a → yards.good (a .yard) ≡ true
 fresh-yard-good = yard-goodness.fresh-is-good
 
-pub yard-stays-good : (y : Yard) (w : ℕ) (a : Judged) → yards.good y ≡ true → yard.StepPromise y w a → (yards.good (a .next) ≡ true) × (a .next .format ≡ y .format)
+pub yard-stays-good : (y : Yard) (w : ℕ) (a : Judged)
+    → yards.good y ≡ true
+    → yard.StepPromise y w a
+    → (yards.good (a .next) ≡ true) × (a .next .format ≡ y .format)
 yard-stays-good = yard-goodness.step-stays-good
+
+-- `Bridge::fresh`, `good`, `convert`: one answer
+pub fresh-bridge-one : (letter : ℕ) → One (bridge.FreshPromise letter)
+fresh-bridge-one = bridge-answers.one-fresh
+
+pub good-bridge-one : (b : Bridge) → One (bridge.GoodPromise b)
+good-bridge-one = bridge-answers.one-good
+
+pub convert-one : (b : Bridge) (words before : List ℕ) → OneWith (bridge.ConvertPromise b words before)
+convert-one = bridge-answers.one-convert
+
+-- its refusals: 1, with a bridge of U; 6, with the bridge and the slice as they were and counts of 0; and 4, with all as the words before the bad one leave it
+pub fresh-bridge-refusals : (letter : ℕ) (a : NewBridge) → bridge.FreshPromise letter a → bridge.FreshRefusal a
+fresh-bridge-refusals = bridge-refusals.fresh-refusals
+
+pub convert-refusals : (b : Bridge) (words before : List ℕ) (a : Converted) (after : List ℕ)
+    → bridge.ConvertPromise b words before a after
+    → bridge.ConvertRefusal b words before a after
+convert-refusals = bridge-refusals.convert-refusals
+
+-- it tests 1 where it is new, and else 6 and then 4
+pub fresh-bridge-refused : (letter : ℕ) (a : NewBridge)
+    → known letter ≡ false
+    → bridge.FreshPromise letter a
+    → a ≡ record { refusal = badLetter; bridge = bridge.withNone (fresh (letterOf FiveByte)) }
+fresh-bridge-refused = bridge-refusals.unknown-letter
+
+pub convert-bad-state : (b : Bridge) (words before : List ℕ) (a : Converted) (after : List ℕ)
+    → bridges.good b ≡ false
+    → bridge.ConvertPromise b words before a after
+    → bridge-line.whole a after ≡ bridge-line.stopped badState b before
+convert-bad-state = bridge-refusals.bad-state
+
+pub convert-ends : (b : Bridge) (words before : List ℕ) (a : Converted) (after : List ℕ)
+    → bridges.good b ≡ true
+    → bridge.ConvertPromise b words before a after
+    → (a .refusal ≡ success) ⊎ ((a .refusal ≡ badWord) × (silence < getD words (a .taken) 0))
+convert-ends = bridge-refusals.convert-ends
+
+pub convert-bad-word : (b : Bridge) (p q : List ℕ) (w : ℕ) (before : List ℕ) (s t : Converted) (x y : List ℕ)
+    → bridges.good b ≡ true
+    → silence < w
+    → bridge.ConvertPromise b p before t y
+    → t .taken ≡ length p
+    → bridge.ConvertPromise b (p ++ w ∷ q) before s x
+    → bridge-line.whole s x ≡ bridge-line.withRefusal badWord (bridge-line.whole t y)
+convert-bad-word = bridge-refusals.bad-word
+
+-- and no bridge that it gives is ever refused
+pub fresh-bridge-good : (letter : ℕ) (a : NewBridge) → bridge.FreshPromise letter a → bridges.good (a .bridge) ≡ true
+fresh-bridge-good = bridge-goodness.fresh-is-good
+
+pub convert-stays-good : (b : Bridge) (words before : List ℕ) (a : Converted) (after : List ℕ)
+    → bridges.good b ≡ true
+    → bridge.ConvertPromise b words before a after
+    → (bridges.good (a .next) ≡ true) × (a .next .reader .format ≡ b .reader .format)
+convert-stays-good = bridge-goodness.convert-stays-good
+
+-- `salvage::starts`, `pick`: one answer
+pub starts-one : (letter : ℕ) (words : List ℕ) → One (salvage.StartsPromise letter words)
+starts-one letter words a b = salvage-answers.one-starts letter words
+
+pub pick-one : (letter : ℕ) (words before : List ℕ) → OneWith (salvage.PickPromise letter words before)
+pick-one letter words before a b after behind = salvage-answers.one-pick letter words before
+
+-- its refusals: 1, 13, 14 and then 4, with the slice as it was and counts of 0
+pub pick-refusals : (letter : ℕ) (words before after : List ℕ) (a : Picked)
+    → salvage.PickPromise letter words before a after
+    → salvage.PickRefusal before (picking.whole a after)
+pick-refusals = salvage-refusals.refusals
+
+module _ (letter : ℕ) (words before after : List ℕ) (a : Picked) (promise : salvage.PickPromise letter words before a after) where
+  pub pick-bad-letter : known letter ≡ false
+      → picking.whole a after ≡ picking.refused badLetter before
+  pick-bad-letter k = salvage-refusals.refused-with letter words before after a badLetter (salvage-refusals.unknown-first letter words k) refl promise
+
+  pub pick-marked : known letter ≡ true
+      → markedBy letter ≡ true
+      → picking.whole a after ≡ picking.refused markedFormat before
+  pick-marked k m = salvage-refusals.refused-with letter words before after a markedFormat (salvage-refusals.marked-second letter words k m) refl promise
+
+  pub pick-long : known letter ≡ true
+      → markedBy letter ≡ false
+      → mostWords < length words
+      → picking.whole a after ≡ picking.refused longLog before
+  pick-long k m l = salvage-refusals.refused-with letter words before after a longLog (salvage-refusals.long-third letter words k m l) refl promise
+
+  pub pick-bad-word : known letter ≡ true
+      → markedBy letter ≡ false
+      → length words ≤ mostWords
+      → lineWords words ≡ false
+      → picking.whole a after ≡ picking.refused badWord before
+  pick-bad-word k m l w = salvage-refusals.refused-with letter words before after a badWord (salvage-refusals.word-fourth letter words k m l w) refl promise

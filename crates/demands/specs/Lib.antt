@@ -1,6 +1,7 @@
--- The user's demands (Demand1, Demand2, Demand3, and runs of the box worked out in Worked), the eighth bit of a Microsoft byte (EighthBit),
--- presses that outlive a busy line (Presses, worked out in Taps), latch and send apart (LatchAndSend), what the limit threw away (Excess), the account of a move (Account),
--- the paper's figures (Figures, in the words of Said), the useless programs that are shut out (Strength), and the yard check (ProperBox), as theorems over what the other crates promise; and what examples compute with (Computing).
+-- The user's demands as theorems over what the other crates promise (Demand1, Demand2, Demand3, and runs of the box worked out in Worked), the eighth bit of a
+-- Microsoft byte (EighthBit), presses that outlive a busy line (Presses, worked out in Taps), latch and send apart (LatchAndSend), what the limit threw away
+-- (Excess), the account of a move (Account), the paper's figures (Figures, in the words of Said), the useless programs that are shut out (Strength), the yard
+-- check (ProperBox), and answers read by name (Replies, worked out in WorkedReplies); and what examples compute with (Computing).
 pub mod Demand1
 pub mod Demand2
 pub mod Demand3

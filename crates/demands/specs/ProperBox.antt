@@ -31,8 +31,9 @@ module _ (f : Format) (words : List ℕ) (a : Checked) (told : CheckPromise (let
   pub only : CanSend f words → a ≡ judgement (length words) (length words)
   only = answered.only f words a told
 
-  -- "A no gives the first word at which the words so far can no longer be sent": a fresh box can send the words before it,
-  pub before : a .refusal ≡ success → (b : BallBox) → FreshPromise b → SendsFrom b f (take (a .sendable) words)
+  -- "A no gives the first word at which the words so far can no longer be sent": a fresh box can send the words before it, by events
+  -- whose numbers can be handed in,
+  pub before : a .refusal ≡ success → (b : BallBox) → FreshPromise b → (s : SendsFrom b f (take (a .sendable) words)) × (allHanded (s .events) ≡ true)
   before = answered.before f words a told
 
   -- no good box that is awake can send them with it, or with more,

@@ -23,11 +23,12 @@ use Rattle.ballbox.specs.declared.BallBox.{BallBox}
 use Rattle.ballbox.specs.declared.Stepped.{Stepped}
 use Rattle.ballbox.specs.declared.Event.{Event}
 use Rattle.ballbox.specs.declared.Event.the-variants.{Host}
-use Rattle.history.specs.Runs.{RunPromise}
+use Rattle.history.specs.Runs.{RunPromise, wordsGiven}
 use Rattle.history.specs.Asked.{allHosts}
+use Rattle.history.specs.Presses.{noHost}
 use Rattle.history.proofs.Asking.{SetWith, hosted-sound}
 use Rattle.history.proofs.Setting.{set-to}
-use Rattle.replies.specs.Replying.{isNone}
+use Rattle.replies.specs.Replying.{isNone, sizeOf}
 use Rattle.replies.specs.Good.{good}
 use Rattle.replies.specs.Rules.{kindOf, refusing}
 use Rattle.replies.specs.Line.{Long, whole, stopped, unused, asOne, withRefusal}
@@ -36,7 +37,7 @@ use Rattle.replies.specs.Promises.{FreshPromise, GoodPromise, TellPromise, Step
 use Rattle.tellings.specs.Items.{Item, telling, asItems, wordsIn, Done, ItemsPromise}
 use Rattle.tellings.specs.Clear.{Clear}
 use Rattle.tellings.specs.Lines.{repliesSent, HandsOutAt, HandsOut, TellsReplies, InReport, ReadsReply}
-use Rattle.tellings.specs.Runs.{hasReply, answerOf, onlyAsksOrTells, itemsGiven}
+use Rattle.tellings.specs.Runs.{hasReply, answerOf, onlyAsksOrTells, itemsGiven, sendsIn}
 use Rattle.replies.specs.declared.Asked.{Asked}
 use Rattle.replies.specs.declared.Asked.the-variants.{Command, Waking}
 use Rattle.replies.specs.declared.Reply.the-variants as reply
@@ -169,6 +170,34 @@ pub waking-read : (s : ToldReader) (done : List Done)
     → ItemsPromise s (telling Waking ∷ asItems ack) done
     → ReadsReply s ack reply.Ack done
 waking-read = there.woken
+
+-- The same over the public step. The box is awake and whatever is going is broken off, or it is dormant; the events that follow have no byte of the host's and
+-- just so many Sends as the reply has bytes. Any permitted answers send the reply: a reader in any good state, so behind the command's own 256 too, that is told
+-- and handed their words reads it whole.
+pub sent-reply-read : (b : BallBox) (byte : ℕ) (a : Stepped) (events : List Event) (answers : List Stepped) (s : ToldReader) (done : List Done)
+    → boxes.good b ≡ true
+    → b .dormant ≡ false
+    → hasReply byte ≡ true
+    → box-promises.StepPromise b (Host byte) a
+    → noHost events ≡ true
+    → sendsIn events ≡ sizeOf (kindOf (Command byte))
+    → RunPromise (a .next) events answers
+    → good s ≡ true
+    → ItemsPromise s (telling (Command byte) ∷ asItems (wordsGiven answers)) done
+    → ReadsReply s (wordsGiven answers) (answerOf b byte) done
+sent-reply-read = there.there-sent
+
+pub sent-waking-read : (b : BallBox) (byte : ℕ) (a : Stepped) (events : List Event) (answers : List Stepped) (s : ToldReader) (done : List Done)
+    → boxes.good b ≡ true
+    → b .dormant ≡ true
+    → box-promises.StepPromise b (Host byte) a
+    → noHost events ≡ true
+    → sendsIn events ≡ sizeOf (kindOf Waking)
+    → RunPromise (a .next) events answers
+    → good s ≡ true
+    → ItemsPromise s (telling Waking ∷ asItems (wordsGiven answers)) done
+    → ReadsReply s (wordsGiven answers) reply.Ack done
+sent-waking-read = there.woken-sent
 
 -- the account of bytes names those of whole replies, of broken ones, and those that a new telling discards
 pub tell-counts : (s : ToldReader) (asked : Asked) (t : Telling)

@@ -38,28 +38,28 @@ abbrev pub boxIn : Format → BallBox
 boxIn f = nextBox freshBox (Host (letterOf f))
 
 -- over the events it sends these words, which are these passages, and then remembers these states
-pub record Sends (f : Format) (events : List Event) (words : List ℕ) (passages : List (Passage Message)) (states : List ℕ) : Type 0 where
+pub record SendsAndRemembers (f : Format) (events : List Event) (words : List ℕ) (passages : List (Passage Message)) (states : List ℕ) : Type 0 where
   pub line : wordsGiven (answersTo (boxIn f) events) ≡ words
   pub is : passagesOf (boxIn f) nothing events ≡ passages
   pub after : remembered (boxAfter (boxIn f) events .memory) ≡ states
 
 -- a movement, and a report of it with these buttons
-abbrev pub moved : ℕ → ℕ → Report
-moved buttons x = report buttons (pos x) (pos 0)
+abbrev pub withX : ℕ → ℕ → Report
+withX buttons x = report buttons (pos x) (pos 0)
 
 -- S: a long move. The middle button is pressed and released between the bytes of its first report.
 abbrev tapS : List Event
 tapS = Motion (pos 5) (pos 0) ∷ slots 1 (Buttons 2 ∷ slots 1 (Buttons 0 ∷ slots 1 (Motion (pos 7) (pos 0) ∷ slots 6 [])))
 
-pub tap-in-S : Sends Mm tapS
+pub tap-in-S : SendsAndRemembers Mm tapS
     (0x98 ∷ 0x05 ∷ 0x00 ∷ 0x9A ∷ 0x07 ∷ 0x00 ∷ 0x98 ∷ 0x00 ∷ 0x00 ∷ [])
-    (finished (latchedIn Mm (moved 0 5)) ∷ finished (showingIn Mm (moved 2 7)) ∷ finished (showingIn Mm (moved 0 0)) ∷ [])
+    (finished (latchedIn Mm (withX 0 5)) ∷ finished (showingIn Mm (withX 2 7)) ∷ finished (showingIn Mm (withX 0 0)) ∷ [])
     []
 unfolding computing
 tap-in-S = record { line = refl; is = refl; after = refl }
 
 -- the recorder's reader hands out M down once, and then up
-pub tap-seen-in-S : HandsOutBy (ready (letterOf Mm)) (0x98 ∷ 0x05 ∷ 0x00 ∷ 0x9A ∷ 0x07 ∷ 0x00 ∷ 0x98 ∷ 0x00 ∷ 0x00 ∷ []) (moved 0 5 ∷ moved 2 7 ∷ moved 0 0 ∷ [])
+pub tap-seen-in-S : HandsOutBy (ready (letterOf Mm)) (0x98 ∷ 0x05 ∷ 0x00 ∷ 0x9A ∷ 0x07 ∷ 0x00 ∷ 0x98 ∷ 0x00 ∷ 0x00 ∷ []) (withX 0 5 ∷ withX 2 7 ∷ withX 0 0 ∷ [])
 unfolding computing
 tap-seen-in-S =
     let run : Streaming (boxIn Mm) nothing tapS (answersTo (boxIn Mm) tapS) =
@@ -70,16 +70,16 @@ tap-seen-in-S =
 abbrev tapU : List Event
 tapU = Motion (pos 5) (pos 0) ∷ slots 1 (Buttons 2 ∷ slots 1 (Buttons 0 ∷ slots 3 (Motion (pos 7) (pos 0) ∷ slots 10 [])))
 
-pub tap-in-U : Sends FiveByte tapU
+pub tap-in-U : SendsAndRemembers FiveByte tapU
     (0x87 ∷ 0x05 ∷ 0x00 ∷ 0x00 ∷ 0x00 ∷ 0x85 ∷ 0x07 ∷ 0x00 ∷ 0x00 ∷ 0x00 ∷ 0x87 ∷ 0x00 ∷ 0x00 ∷ 0x00 ∷ 0x00 ∷ [])
-    (finished (latchedIn FiveByte (moved 0 5)) ∷ finished (showingIn FiveByte (moved 2 7)) ∷ finished (showingIn FiveByte (moved 0 0)) ∷ [])
+    (finished (latchedIn FiveByte (withX 0 5)) ∷ finished (showingIn FiveByte (withX 2 7)) ∷ finished (showingIn FiveByte (withX 0 0)) ∷ [])
     []
 unfolding computing
 tap-in-U = record { line = refl; is = refl; after = refl }
 
 pub tap-seen-in-U : HandsOutBy (ready (letterOf FiveByte))
     (0x87 ∷ 0x05 ∷ 0x00 ∷ 0x00 ∷ 0x00 ∷ 0x85 ∷ 0x07 ∷ 0x00 ∷ 0x00 ∷ 0x00 ∷ 0x87 ∷ 0x00 ∷ 0x00 ∷ 0x00 ∷ 0x00 ∷ [])
-    (moved 0 5 ∷ moved 2 7 ∷ moved 0 0 ∷ [])
+    (withX 0 5 ∷ withX 2 7 ∷ withX 0 0 ∷ [])
 unfolding computing
 tap-seen-in-U =
     let run : Streaming (boxIn FiveByte) nothing tapU (answersTo (boxIn FiveByte) tapU) =
@@ -104,9 +104,14 @@ baseWords b (e ∷ events) = baseStep b e .words ++ baseWords (baseStep b e .nex
 
 -- the same run, and what the reader hands out of it: M is never down
 pub base-loses-it : (baseWords (boxIn Mm) tapS ≡ 0x98 ∷ 0x05 ∷ 0x00 ∷ 0x98 ∷ 0x07 ∷ 0x00 ∷ 257 ∷ 257 ∷ 257 ∷ [])
-    × (handedOut (answers (stepsOf (ready (letterOf Mm)) (baseWords (boxIn Mm) tapS))) ≡ moved 0 5 ∷ moved 0 7 ∷ [])
+    × (handedOut (answers (stepsOf (ready (letterOf Mm)) (baseWords (boxIn Mm) tapS))) ≡ withX 0 5 ∷ withX 0 7 ∷ [])
 unfolding computing
 base-loses-it = (refl, refl)
+
+pub base-loses-it-in-U : (baseWords (boxIn FiveByte) tapU ≡ 0x87 ∷ 0x05 ∷ 0x00 ∷ 0x00 ∷ 0x00 ∷ 0x87 ∷ 0x07 ∷ 0x00 ∷ 0x00 ∷ 0x00 ∷ 257 ∷ 257 ∷ 257 ∷ 257 ∷ 257 ∷ [])
+    × (handedOut (answers (stepsOf (ready (letterOf FiveByte)) (baseWords (boxIn FiveByte) tapU))) ≡ withX 0 5 ∷ withX 0 7 ∷ [])
+unfolding computing
+base-loses-it-in-U = (refl, refl)
 
 -- nine changes within one report: the ninth, 5, is shown in place of the eighth, 6
 abbrev nine : List Event
@@ -120,17 +125,17 @@ unfolding computing
 nine-changes = (refl, refl)
 
 -- a break by `f` in the middle of a report that shows a press: behind the reply another shows it
-pub broken-by-f : Sends Mm (Buttons 2 ∷ slots 1 (Host letterf ∷ slots 4 []))
+pub broken-by-f : SendsAndRemembers Mm (Buttons 2 ∷ slots 1 (Host letterf ∷ slots 4 []))
     (0x9A ∷ 256 ∷ 0x1A ∷ 0x9A ∷ 0x00 ∷ 0x00 ∷ [])
-    (broken 1 (showingIn Mm (moved 2 0)) ∷ finished (reply (0x1A ∷ [])) ∷ finished (showingIn Mm (moved 2 0)) ∷ [])
+    (broken 1 (showingIn Mm (withX 2 0)) ∷ finished (reply (0x1A ∷ [])) ∷ finished (showingIn Mm (withX 2 0)) ∷ [])
     []
 unfolding computing
 broken-by-f = record { line = refl; is = refl; after = refl }
 
 -- P in the middle empties the memory: its report shows the present buttons
-pub emptied-by-P : Sends Mm (Buttons 2 ∷ slots 1 (Buttons 0 ∷ Host letterP ∷ slots 4 []))
+pub emptied-by-P : SendsAndRemembers Mm (Buttons 2 ∷ slots 1 (Buttons 0 ∷ Host letterP ∷ slots 4 []))
     (0x9A ∷ 256 ∷ 0x98 ∷ 0x00 ∷ 0x00 ∷ 257 ∷ [])
-    (broken 1 (showingIn Mm (moved 2 0)) ∷ finished (latchedIn Mm (moved 0 0)) ∷ silent ∷ [])
+    (broken 1 (showingIn Mm (withX 2 0)) ∷ finished (latchedIn Mm (withX 0 0)) ∷ silent ∷ [])
     []
 unfolding computing
 emptied-by-P = record { line = refl; is = refl; after = refl }

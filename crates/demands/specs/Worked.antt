@@ -35,14 +35,14 @@ abbrev pub setTo : Format → Stepped
 setTo f = answerTo freshBox (Host (letterOf f))
 
 -- over events that ask only for reports it sends these words, which are these passages, and nothing is going at the end
-pub record Sends (f : Format) (events : List Event) (words : List ℕ) (passages : List (Passage Message)) : Type 0 where
+pub record SendsWords (f : Format) (events : List Event) (words : List ℕ) (passages : List (Passage Message)) : Type 0 where
   pub asked : onlyAsks events ≡ true
   pub line : wordsGiven (answersTo (setTo f .next) events) ≡ words
   pub is : sent (setTo f) events ≡ passages
   pub ends : stillGoing (setTo f) events ≡ nothing
 
 run-of : {f : Format} {events : List Event} {words : List ℕ} {passages : List (Passage Message)}
-    → Sends f events words passages
+    → SendsWords f events words passages
     → Run f freshBox (setTo f) events (answersTo (setTo f .next) events)
 unfolding computing
 run-of {f} {events} sends =
@@ -58,15 +58,15 @@ run-of {f} {events} sends =
 abbrev eventsS : List Event
 eventsS = Motion (pos 5) (minus 3) ∷ slots 4 (Buttons 4 ∷ slots 3 [])
 
-abbrev pub moved : Report
-moved = report 0 (pos 5) (minus 3)
+abbrev pub slowMove : Report
+slowMove = report 0 (pos 5) (minus 3)
 
 abbrev pub press : Report
 press = report 4 (pos 0) (pos 0)
 
-pub in-S : Sends Mm eventsS
+pub in-S : SendsWords Mm eventsS
     (0x90 ∷ 0x05 ∷ 0x03 ∷ 257 ∷ 0x9C ∷ 0x00 ∷ 0x00 ∷ [])
-    (finished (latchedIn Mm moved) ∷ silent ∷ finished (showingIn Mm press) ∷ [])
+    (finished (latchedIn Mm slowMove) ∷ silent ∷ finished (showingIn Mm press) ∷ [])
 unfolding computing
 in-S = record { asked = refl; line = refl; is = refl; ends = refl }
 
@@ -78,7 +78,7 @@ eventsU = Motion (minus 123) (pos 0) ∷ slots 3 (Motion (minus 123) (pos 0) ∷
 abbrev pub fast : Report
 fast = record { buttons = 0; x1 = minus 123; y1 = pos 0; x2 = minus 123; y2 = pos 0 }
 
-pub in-U : Sends FiveByte eventsU
+pub in-U : SendsWords FiveByte eventsU
     (0x87 ∷ 0x85 ∷ 0x00 ∷ 0x85 ∷ 0x00 ∷ 257 ∷ 0x83 ∷ 0x00 ∷ 0x00 ∷ 0x00 ∷ 0x00 ∷ [])
     (finished (latchedIn FiveByte fast) ∷ silent ∷ finished (showingIn FiveByte press) ∷ [])
 unfolding computing
@@ -90,7 +90,7 @@ unfolding computing
 marked-S =
     marked (run-of in-S) from-then-on
     (0x90 ∷ []) (0x05 ∷ 0x03 ∷ 257 ∷ []) (0x9A ∷ 0x7F ∷ 0xFF ∷ []) (0x9C ∷ 0x00 ∷ 0x00 ∷ []) (in-S .line) refl
-    (finished (latchedIn Mm moved) ∷ silent ∷ []) (record { format = Mm; report = press; shows = true }) [] (in-S .is) 6 refl
+    (finished (latchedIn Mm slowMove) ∷ silent ∷ []) (record { format = Mm; report = press; shows = true }) [] (in-S .is) 6 refl
     refl (omega arith)
 
 -- Exactly: 90 05 03 loses its second byte, and the other report is handed out.
@@ -98,7 +98,7 @@ pub exactly-S : HandsOut Mm (0x90 ∷ 0x03 ∷ 257 ∷ 0x9C ∷ 0x00 ∷ 0x00 �
 unfolding computing
 exactly-S =
     exactly (run-of in-S) {pre = 0x90 ∷ []} {old = 0x05 ∷ []} [] (0x03 ∷ 257 ∷ 0x9C ∷ 0x00 ∷ 0x00 ∷ []) from-then-on refl (in-S .line)
-    (in-finished [] (silent ∷ finished (showingIn Mm press) ∷ []) nothing (latchedIn Mm moved) (omega arith) (omega arith))
+    (in-finished [] (silent ∷ finished (showingIn Mm press) ∷ []) nothing (latchedIn Mm slowMove) (omega arith) (omega arith))
     (gone none) (omega arith)
 
 -- Unmarked: the first word is lost, so that the reader joins the report halfway. The report behind the silence is the answer to word 9.

@@ -1,5 +1,5 @@
 -- Worked runs with replies: the widened demand 3 at small runs of the box, with the items, the passages and the replies computed. Lines on which a reply is broken, told
--- again or loses a byte stand in crates/replies/proofs/Examples.antt.
+-- again or loses a byte stand in crates/tellings/proofs/Examples.antt.
 use mathlib.Core.Path.{_≡_, refl}
 use mathlib.Core.Bool.{true, false}
 use mathlib.Core.List.{List, [], _∷_, _++_}
@@ -13,30 +13,35 @@ use Rattle.wire.specs.declared.Format.{Format}
 use Rattle.wire.specs.declared.Format.the-variants.{Mm, FiveByte}
 use Rattle.ballbox.specs.Box.{freshBox}
 use Rattle.ballbox.specs.Commands.{letterf, lettert}
+use Rattle.ballbox.specs.Promises.{sentWords}
+use Rattle.ballbox.specs.declared.BallBox.{BallBox}
 use Rattle.ballbox.specs.declared.Event.{Event}
-use Rattle.ballbox.specs.declared.Event.the-variants.{Motion, Buttons, Host}
-use Rattle.history.specs.Runs.{answersTo}
+use Rattle.ballbox.specs.declared.Event.the-variants.{Motion, Buttons, Host, Latch, Send}
+use Rattle.history.specs.Runs.{wordsGiven, answerTo, answersTo}
+use Rattle.history.specs.Presses.{boxAfter}
 use Rattle.history.proofs.Permitted.{answer-permitted, answers-permitted}
-use Rattle.tellings.specs.Items.{Item, telling, asItems}
-use Rattle.tellings.specs.Lines.{HandsOut, HandsOutAt, TellsReplies, in-finished}
+use Rattle.tellings.specs.Items.{Item, telling, asItems, Done, ItemsPromise}
+use Rattle.tellings.specs.Lines.{HandsOut, HandsOutAt, TellsReplies, ReadsReply, in-finished}
 use Rattle.tellings.specs.Runs.{onlyAsksOrTells, itemsGiven}
+use Rattle.replies.specs.Good.{good}
 use Rattle.replies.specs.declared.Asked.the-variants.{Command}
 use Rattle.replies.specs.declared.Reply.the-variants as told
+use Rattle.replies.specs.declared.ToldReader.{ToldReader}
 use Rattle.tellings.proofs.Computing as replies
 use Rattle.demands.specs.Computing.{computing}
 use Rattle.demands.specs.Demand3.{sent, stillGoing, from-then-on}
-use Rattle.demands.specs.Worked.{slots, setTo, moved, press, fast}
-use Rattle.demands.specs.Replies.{Run, replies-as-sent, exactly, unmarked}
+use Rattle.demands.specs.Worked.{slots, setTo, slowMove, press, fast}
+use Rattle.demands.specs.Replies.{Run, sent-reply-read, replies-as-sent, exactly, unmarked}
 
 -- over events with commands that have a reply a fresh box set to f sends these items, which are these passages, and nothing is going at the end
-pub record Sends (f : Format) (events : List Event) (items : List Item) (passages : List (Passage Message)) : Type 0 where
+pub record SendsItems (f : Format) (events : List Event) (items : List Item) (passages : List (Passage Message)) : Type 0 where
   pub asked : onlyAsksOrTells events ≡ true
   pub line : itemsGiven events (answersTo (setTo f .next) events) ≡ items
   pub is : sent (setTo f) events ≡ passages
   pub ends : stillGoing (setTo f) events ≡ nothing
 
 run-of : {f : Format} {events : List Event} {items : List Item} {passages : List (Passage Message)}
-    → Sends f events items passages
+    → SendsItems f events items passages
     → Run f freshBox (setTo f) events (answersTo (setTo f .next) events)
 unfolding computing
 run-of {f} {events} sends =
@@ -55,7 +60,7 @@ eventsU = Motion (minus 123) (pos 0) ∷ slots 3 (Motion (minus 123) (pos 0) ∷
 abbrev lettersU : Message
 lettersU = reply (0x55 ∷ 0x4F ∷ [])
 
-pub in-U : Sends FiveByte eventsU
+pub in-U : SendsItems FiveByte eventsU
     (asItems (0x87 ∷ 0x85 ∷ 0x00 ∷ 0x85 ∷ 0x00 ∷ 257 ∷ []) ++ (telling (Command lettert) ∷ asItems (0x55 ∷ 0x4F ∷ 0x83 ∷ 0x00 ∷ 0x00 ∷ 0x00 ∷ 0x00 ∷ [])))
     (finished (latchedIn FiveByte fast) ∷ silent ∷ finished lettersU ∷ finished (showingIn FiveByte press) ∷ [])
 unfolding computing replies.computing
@@ -86,9 +91,9 @@ codeS = reply (0x1A ∷ [])
 abbrev behindS : List Item
 behindS = asItems (0x03 ∷ []) ++ (telling (Command letterf) ∷ asItems (0x1A ∷ 0x9C ∷ 0x00 ∷ 0x00 ∷ []))
 
-pub in-S : Sends Mm eventsS
+pub in-S : SendsItems Mm eventsS
     (asItems (0x90 ∷ 0x05 ∷ []) ++ behindS)
-    (finished (latchedIn Mm moved) ∷ finished codeS ∷ finished (showingIn Mm press) ∷ [])
+    (finished (latchedIn Mm slowMove) ∷ finished codeS ∷ finished (showingIn Mm press) ∷ [])
 unfolding computing replies.computing
 in-S = record { asked = refl; line = refl; is = refl; ends = refl }
 
@@ -96,9 +101,31 @@ pub exactly-S : HandsOut Mm (asItems (0x90 ∷ []) ++ behindS) (press ∷ [])
 unfolding computing replies.computing
 exactly-S =
     exactly (run-of in-S) from-then-on (asItems (0x90 ∷ [])) (0x05 ∷ []) [] behindS (in-S .line) refl refl refl
-    (in-finished [] (finished codeS ∷ finished (showingIn Mm press) ∷ []) nothing (record { format = Mm; report = moved; shows = false }) (omega arith) (omega arith))
+    (in-finished [] (finished codeS ∷ finished (showingIn Mm press) ∷ []) nothing (record { format = Mm; report = slowMove; shows = false }) (omega arith) (omega arith))
     (gone none) (omega arith)
 
 pub code-S : TellsReplies Mm (asItems (0x90 ∷ []) ++ behindS) (told.Format 0x53 ∷ [])
 unfolding computing replies.computing
 code-S = replies-as-sent (run-of in-S) from-then-on (asItems (0x90 ∷ [])) (0x05 ∷ []) [] behindS (in-S .line) refl refl
+
+-- `t` in the middle of a report of U: the command's own 256 breaks it off, and the two Sends behind it, a Latch between them, send the letters.
+abbrev busy : BallBox
+busy = boxAfter (setTo FiveByte .next) (Motion (pos 5) (pos 0) ∷ slots 1 [])
+
+abbrev twoSends : List Event
+twoSends = Send ∷ Latch ∷ Send ∷ []
+
+pub broken-by-t : (sentWords (answerTo busy (Host lettert) .sent) ≡ 256 ∷ []) × (wordsGiven (answersTo (answerTo busy (Host lettert) .next) twoSends) ≡ 0x55 ∷ 0x4F ∷ [])
+unfolding computing
+broken-by-t = (refl, refl)
+
+-- whatever reader is told of it behind the 256 reads them
+pub letters-read : (s : ToldReader) (done : List Done)
+    → good s ≡ true
+    → ItemsPromise s (telling (Command lettert) ∷ asItems (0x55 ∷ 0x4F ∷ [])) done
+    → ReadsReply s (0x55 ∷ 0x4F ∷ []) (told.Letters 0x55 0x4F) done
+unfolding computing replies.computing
+letters-read s done g items =
+    let a = answerTo busy (Host lettert) in
+    sent-reply-read busy lettert a twoSends (answersTo (a .next) twoSends) s done refl refl refl
+    (answer-permitted busy (Host lettert)) refl refl (answers-permitted (a .next) twoSends) g items

@@ -9,26 +9,26 @@ use lib.ListN.{length}
 use borrow.Author.Tests.{not-true}
 use Rattle.listing.specs.Scanning.{passed, mostBytes}
 use Rattle.listing.proofs.Ended.{byte-over, byte-on, never-passed}
-use Rattle.myard.specs.Judging.{byteOf, bytesOf}
+use Rattle.myard.specs.Judging.{behindByte, behindBytes}
 use Rattle.myard.specs.Blocks.{Within, Leaves}
 use Rattle.myard.specs.declared.Judge.{Judge}
 
-stays-ended : (j : Judge) (cs : List ℕ) → j .scanner .ended ≡ true → bytesOf j cs .scanner .ended ≡ true
-unfolding bytesOf byteOf
+stays-ended : (j : Judge) (cs : List ℕ) → j .scanner .ended ≡ true → behindBytes j cs .scanner .ended ≡ true
+unfolding behindBytes behindByte
 stays-ended j [] h = h
-stays-ended j (c ∷ cs) h = stays-ended (byteOf j c) cs (byte-over (j .scanner) c h .0)
+stays-ended j (c ∷ cs) h = stays-ended (behindByte j c) cs (byte-over (j .scanner) c h .0)
 
-brought : (j : Judge) (cs : List ℕ) → Within j → (bytesOf j cs .scanner .ended ≡ true) ⊎ ((passed (j .scanner) + length cs ≤ passed (bytesOf j cs .scanner)) × Within (bytesOf j cs))
-unfolding bytesOf byteOf
+brought : (j : Judge) (cs : List ℕ) → Within j → (behindBytes j cs .scanner .ended ≡ true) ⊎ ((passed (j .scanner) + length cs ≤ passed (behindBytes j cs .scanner)) × Within (behindBytes j cs))
+unfolding behindBytes behindByte
 brought j [] w = inr (omega arith, w)
 brought j (c ∷ cs) w =
-    ⊎-elim (λ e. inl (stays-ended (byteOf j c) cs e))
-    (λ q. ⊎-elim inl (λ k. inr (omega (arith, k .0, q .0), k .1)) (brought (byteOf j c) cs (q .1)))
+    ⊎-elim (λ e. inl (stays-ended (behindByte j c) cs e))
+    (λ q. ⊎-elim inl (λ k. inr (omega (arith, k .0, q .0), k .1)) (brought (behindByte j c) cs (q .1)))
     (byte-on (j .scanner) c w)
 
-pub leaves : (j : Judge) (cs : List ℕ) → Within j → 0 < length cs → Leaves j (bytesOf j cs) (not (bytesOf j cs .scanner .ended))
+pub leaves : (j : Judge) (cs : List ℕ) → Within j → 0 < length cs → Leaves j (behindBytes j cs) (not (behindBytes j cs .scanner .ended))
 leaves j cs w some on =
-    ⊎-elim (λ e. absurd (true≢false (sym e ∙ not-true (bytesOf j cs .scanner .ended) on))) (λ k. (omega (arith, k .0), k .1)) (brought j cs w)
+    ⊎-elim (λ e. absurd (true≢false (sym e ∙ not-true (behindBytes j cs .scanner .ended) on))) (λ k. (omega (arith, k .0), k .1)) (brought j cs w)
 
 -- by which the loop falls
 pub falls : (j next : Judge) (on : Bool) → Within j → Leaves j next on → cond on (mostBytes - passed (next .scanner)) 0 < mostBytes - passed (j .scanner)

@@ -25,7 +25,7 @@ use Rattle.yard.specs.declared.Judged.{Judged}
 use Rattle.yard.specs.declared.Checked.{Checked}
 use Rattle.yard.proofs.Keeps.{none-good, word-good}
 use Rattle.yard.proofs.Goodness.{step-word}
-use Rattle.myard.specs.Judging.{judgedBy, verdictFrom, waiting, verdictOn, unheard, byteOf, bytesOf, lastOf}
+use Rattle.myard.specs.Judging.{judgedBy, verdictFrom, waiting, verdictOn, unheard, behindByte, behindBytes, lastOf}
 use Rattle.myard.specs.declared.Judge.{Judge}
 use Rattle.myard.specs.declared.Verdict.{Verdict}
 use Rattle.myard.specs.declared.Verdict.the-variants.{Yes, No}
@@ -41,13 +41,13 @@ told-says y v (found.Bad n ∷ fs) = told-says _ _ fs
 told-says y v (found.Over ∷ fs) = told-says _ _ fs
 told-says y v (found.End ∷ fs) = told-says _ _ fs
 
-by-bytes : (j : Judge) (input : List ℕ) → lastOf (bytesOf j input) .verdict ≡ verdictFrom (j .yard) (j .verdict) (allFound (j .scanner) input)
-unfolding lastOf bytesOf byteOf verdictFrom allFound
+by-bytes : (j : Judge) (input : List ℕ) → lastOf (behindBytes j input) .verdict ≡ verdictFrom (j .yard) (j .verdict) (allFound (j .scanner) input)
+unfolding lastOf behindBytes behindByte verdictFrom allFound
 by-bytes j [] = refl
-by-bytes j (c ∷ cs) = by-bytes (byteOf j c) cs
+by-bytes j (c ∷ cs) = by-bytes (behindByte j c) cs
 
 -- the program says of its input what is said of the recording in it
-pub says : (input : List ℕ) → lastOf (bytesOf unheard input) .verdict ≡ verdictOn input
+pub says : (input : List ℕ) → lastOf (behindBytes unheard input) .verdict ≡ verdictOn input
 unfolding verdictOn
 says input = by-bytes unheard input ∙ sym (told-says waiting Yes (allFound unfed input)) ∙ ap (verdictFrom waiting Yes) (scanned input)
 

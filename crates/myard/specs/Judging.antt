@@ -1,4 +1,4 @@
--- What is said of a recording: "`Y`, or `N` and the line of the first impossible word"; "a bad line is `E` and its number".
+-- What is said of a recording: `Y`, or `N` and the line of the first impossible word; a bad line is `E` and its number.
 use Prim.Native.Nat.{ℕ}
 use mathlib.Core.Bool.{Bool, cond}
 use mathlib.Core.List.{List, [], _∷_, _++_}
@@ -86,12 +86,12 @@ heard j next f = judge next (yardAfter (j .yard) f) (verdictAfter (j .yard) (j .
 abbrev pub scannedTo : Judge → Scan → Judge
 scannedTo j s = heard j (s .next) (s .found)
 
-unfoldable pub byteOf : Judge → ℕ → Judge
-byteOf j c = scannedTo j (scannedByte (j .scanner) c)
+unfoldable pub behindByte : Judge → ℕ → Judge
+behindByte j c = scannedTo j (scannedByte (j .scanner) c)
 
-unfoldable pub bytesOf : Judge → List ℕ → Judge
-bytesOf j [] = j
-bytesOf j (c ∷ cs) = bytesOf (byteOf j c) cs
+unfoldable pub behindBytes : Judge → List ℕ → Judge
+behindBytes j [] = j
+behindBytes j (c ∷ cs) = behindBytes (behindByte j c) cs
 
 unfoldable pub lastOf : Judge → Judge
 lastOf j = let k = scannedTo j (closedOf (j .scanner)) in scannedTo k (endOf (k .scanner))

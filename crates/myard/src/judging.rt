@@ -1,7 +1,7 @@
 // A recording, judged byte by byte: the scanner, the check behind it, and what is to be said.
 ghost use mathlib.Core.Path.{_≡_};
 ghost use Rattle.text.specs.Growth.{textOf};
-ghost use Rattle.myard.specs.Judging.{unheard, judgedBy, heard, byteOf, bytesOf, lastOf, numbered, yes, over, lineFor};
+ghost use Rattle.myard.specs.Judging.{unheard, judgedBy, heard, behindByte, behindBytes, lastOf, numbered, yes, over, lineFor};
 use crate::Judge;
 use crate::Verdict;
 use listing::Found;
@@ -135,7 +135,7 @@ impl Judge {
 
     // A byte.
     fn byte(self, b: u8) -> Judge
-        ensures { λ r. ⌜ r ≡ byteOf self b ⌝ }
+        ensures { λ r. ⌜ r ≡ behindByte self b ⌝ }
     {
         let scanner = self.scanner;
         let s = scanner.byte(b);
@@ -146,7 +146,7 @@ impl Judge {
 
     // Bytes, one after the other.
     pub(crate) fn bytes(self, bytes: &[u8]) -> Judge
-        ensures { λ r. ⌜ r ≡ bytesOf self (now (bytes .entry)) ⌝ }
+        ensures { λ r. ⌜ r ≡ behindBytes self (now (bytes .entry)) ⌝ }
     {
         let mut judge = self;
         let mut at: usize = 0;

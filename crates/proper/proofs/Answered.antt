@@ -84,12 +84,12 @@ module _ (f : Format) (words : List ℕ) (a : Checked) (told : CheckPromise (let
   pub only : CanSend f words → a ≡ judgement (length words) (length words)
   only c = let e = sent-passes f words c in is-checked ∙ rw (all-words (noneGone (letterOf f)) words e, e)
 
-  pub before : a .refusal ≡ success → (b : BallBox) → FreshPromise b → SendsFrom b f (take (a .sendable) words)
+  pub before : a .refusal ≡ success → (b : BallBox) → FreshPromise b → (s : SendsFrom b f (take (a .sendable) words)) × (allHanded (s .events) ≡ true)
   before h b p =
       let n : a .sendable ≡ count = ap (λ (c : Checked). c .sendable) (judged h) in
       let e = sendable-front (noneGone (letterOf f)) count words (omega arith) in
       let l = length-take-le count words (sendable-most (noneGone (letterOf f)) words) in
-      rw n (passing-sent f b (take count words) (fresh-is-good b p) (fresh-awake b p) (e ∙ sym l) .0)
+      rw n (passing-sent f b (take count words) (fresh-is-good b p) (fresh-awake b p) (e ∙ sym l))
 
   pub beyond : a .refusal ≡ success → (n : ℕ) → a .sendable < n → n ≤ length words → CanSend f (take n words) → ⊥
   beyond h n l m c =

@@ -21,7 +21,7 @@ use Rattle.yard.specs.State.{yard}
 use Rattle.yard.specs.declared.Yard.{Yard}
 use native.Mathlib.Omega.{arith}
 
--- "Movement is held to -127..127 in the eight-bit formats and to -2048..2047 in B", and in A it is the position; U's second pair likewise
+-- "Movement is held to -127..127 in the eight-bit formats [..] and to -2048..2047 in B", and in A it is the position; U's second pair likewise
 abbrev pub secondLimits : Format → Range
 secondLimits Mm = pos 0 to pos 0
 secondLimits Microsoft = pos 0 to pos 0

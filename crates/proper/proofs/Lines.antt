@@ -23,7 +23,7 @@ use Rattle.wire.proofs.Front.{size-between}
 use Rattle.wire.proofs.Codec.{bytes-length, fits-byte}
 use Rattle.yard.specs.Stands.{barredBy, stands, standsBy}
 use Rattle.yard.specs.State.{noneGone}
-use Rattle.yard.specs.Rules.{can, firstWith, oneMore, byteOf, silenceOf, wordOf}
+use Rattle.yard.specs.Rules.{can, firstWith, oneMore, byteCan, silenceOf, wordOf}
 use Rattle.yard.specs.Log.{sendable}
 use Rattle.yard.specs.declared.Yard.{Yard}
 use Rattle.proper.proofs.Latchable.{Latchable, strict, lastOf, having}
@@ -62,18 +62,18 @@ module _ (f : Format) where
       n = omega (arith, length-append k (b ∷ []))
 
   -- a byte: one that stands, the last or not, and one that does not
-  byte-word : (y : Yard) (b : ℕ) → b < 256 → y .ended ≡ false → wordOf y b ≡ byteOf y b
+  byte-word : (y : Yard) (b : ℕ) → b < 256 → y .ended ≡ false → wordOf y b ≡ byteCan y b
   unfolding wordOf
   byte-word y b l e = rw (le-leb b silence (omega arith), e, le-leb b 255 (omega arith))
 
   pub more-word : (k : List ℕ) (b : ℕ) → strict f .fits k b ≡ true → suc (length k) < sizeOf f → wordOf (having f k) b ≡ can (having f (k ++ (b ∷ [])))
-  unfolding byteOf
+  unfolding byteCan
   more-word k b h l =
       byte-word (having f k) b (stood-byte (length k) (at 0 k) (lastOf k) b h) refl
       ∙ rw (stands-by (length k) (at 0 k) (lastOf k) b, h, size-is, ne-eqb (length k + 1) (sizeOf f) (λ e. omega arith), having-more k b)
 
   pub last-word : (k : List ℕ) (b : ℕ) → strict f .fits k b ≡ true → suc (length k) ≡ sizeOf f → wordOf (having f k) b ≡ can (noneGone (letterOf f))
-  unfolding byteOf
+  unfolding byteCan
   last-word k b h l =
       byte-word (having f k) b (stood-byte (length k) (at 0 k) (lastOf k) b h) refl
       ∙ rw (stands-by (length k) (at 0 k) (lastOf k) b, h, size-is, eq-eqb (length k + 1) (sizeOf f) (omega arith))

@@ -19,7 +19,7 @@ use Rattle.wire.specs.declared.Format.{Format}
 use Rattle.wire.proofs.Front.{size-between}
 use Rattle.yard.specs.Stands.{stands}
 use Rattle.yard.specs.State.{noneGone}
-use Rattle.yard.specs.Rules.{byteOf, silenceOf, wordOf}
+use Rattle.yard.specs.Rules.{byteCan, silenceOf, wordOf}
 use Rattle.yard.specs.Log.{sendable}
 use Rattle.yard.specs.declared.Judged.{Judged}
 use Rattle.proper.proofs.Latchable.{Latchable, strict, lastOf, having}
@@ -60,8 +60,8 @@ module _ (f : Format) where
   none [] e = refl
   none (b ∷ k) e = absurd (omega arith)
 
-  byte-told : (k : List ℕ) (w : ℕ) → length k < sizeOf f → wordOf (having f k) w ≡ byteOf (having f k) w → byteOf (having f k) w .can ≡ true → Sent k w
-  unfolding byteOf
+  byte-told : (k : List ℕ) (w : ℕ) → length k < sizeOf f → wordOf (having f k) w ≡ byteCan (having f k) w → byteCan (having f k) w .can ≡ true → Sent k w
+  unfolding byteCan
   byte-told k w l is c = go (strict f .fits k w) refl (eqb (length k + 1) (sizeOf f)) refl
     where
       go : (s : Bool) → strict f .fits k w ≡ s → (t : Bool) → eqb (length k + 1) (sizeOf f) ≡ t → Sent k w

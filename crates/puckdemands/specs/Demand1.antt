@@ -1,11 +1,11 @@
 -- Demand 1 of the device and its reader: "Every public entry takes every event, line word, state and buffer and ends with an answer. A refusal has a number from the list, hands back the old
 -- state and writes nothing; a reader given many words does all before the bad one and stops there."
-use Prim.Native.Nat.{ℕ, _<_}
+use Prim.Native.Nat.{ℕ, _*_, _<_, _≤_}
 use mathlib.Core.Path.{_≡_}
 use mathlib.Core.Bool.{Bool, true, false}
-use mathlib.Core.List.{List, [], _∷_, _++_}
+use mathlib.Core.List.{List, _∷_, _++_}
 use mathlib.Core.Logic.{_⊎_}
-use lib.ListN.{length, getD}
+use lib.ListN.{length, drop, getD}
 use lib.IntN.{ℤ}
 use Rattle.frames.specs.Words.{silence}
 use Rattle.fold.specs.Counting.{stopped, unused, asOne}
@@ -23,7 +23,7 @@ use Rattle.puck.proofs.Refusals as device-refusals
 use Rattle.puck.proofs.Goodness as device-goodness
 use Rattle.puckreader.specs.Rules.{refusing}
 use Rattle.puckreader.specs.Good as readers
-use Rattle.puckreader.specs.Line.{whole}
+use Rattle.puckreader.specs.Line.{reportsIn, whole, wordAnd, Bounds}
 use Rattle.puckreader.specs.Promises as reader
 use Rattle.puckreader.specs.declared.PuckReader.{PuckReader}
 use Rattle.puckreader.specs.declared.PuckRead.{PuckRead}
@@ -32,6 +32,7 @@ use Rattle.puckreader.proofs.Permitted as permitted
 use Rattle.puckreader.proofs.Refusals as refusals
 use Rattle.puckreader.proofs.Goodness as goodness
 use Rattle.puckreader.proofs.Joining as joined
+use Rattle.puckreader.proofs.Room as room
 
 -- `Puck::made`, `good`, `step`
 pub made-one : (buttons revision maker : ℕ) (p q : Puck) → puck.MadePromise buttons revision maker p → puck.MadePromise buttons revision maker q → p ≡ q
@@ -102,6 +103,42 @@ pub joining : (r : PuckReader) (p q : List ℕ) (out : List ℤ) (a b c : PuckRe
     → reader.ReadPromise r (p ++ q) out a x
     → whole a x ≡ asOne 6 (whole b y) (whole c z)
 joining = joined.joining
+
+-- "It stops, with answer 0, before a word that would finish a report when fewer than" six "places are left"; any other word is taken, and the rest is read by
+-- the reader that came back, with the places that are left
+pub stops-for-room : (r : PuckReader) (w : ℕ) (q : List ℕ) (out : List ℤ) (s : PuckRead) (a : PuckReading) (x : List ℤ)
+    → readers.good r ≡ true
+    → reader.StepPromise r w s
+    → reader.ReadPromise r (w ∷ q) out a x
+    → s .refusal ≡ success
+    → length out < 6 * reportsIn (s .answer)
+    → whole a x ≡ stopped success r out
+stops-for-room = room.stops-for-room
+
+pub goes-on : (r : PuckReader) (w : ℕ) (q : List ℕ) (out : List ℤ) (s : PuckRead) (a : PuckReading) (x : List ℤ)
+    → readers.good r ≡ true
+    → reader.StepPromise r w s
+    → reader.ReadPromise r (w ∷ q) out a x
+    → (b : PuckReading) (y : List ℤ)
+    → s .refusal ≡ success
+    → 6 * reportsIn (s .answer) ≤ length out
+    → reader.ReadPromise (s .next) q (drop (6 * reportsIn (s .answer)) out) b y
+    → whole a x ≡ wordAnd (s .answer) (whole b y)
+goes-on = room.goes-on
+
+-- "a bad word behind a stop for room is not reached": where words are left, what follows them changes nothing
+pub not-reached : (r : PuckReader) (p q : List ℕ) (out : List ℤ) (a b : PuckReading) (x y : List ℤ)
+    → reader.ReadPromise r p out b y
+    → b .taken < length p
+    → reader.ReadPromise r (p ++ q) out a x
+    → whole a x ≡ whole b y
+not-reached = room.not-reached
+
+-- no further than the words, the places and the bytes that there are
+pub within : (r : PuckReader) (words : List ℕ) (out : List ℤ) (a : PuckReading) (after : List ℤ)
+    → reader.ReadPromise r words out a after
+    → Bounds r words out a
+within = room.within
 
 -- a device is good when made and a reader when fresh, and every step of a good one gives a good one
 pub made-good : (buttons revision maker : ℕ) (p : Puck) → puck.MadePromise buttons revision maker p → devices.good p ≡ true

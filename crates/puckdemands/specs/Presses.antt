@@ -1,17 +1,18 @@
 -- Presses that outlive a busy line, of a device: one that streams, with nothing going, over events of which no byte of the host's is D, P or T.
 use Prim.Native.Nat.{ℕ, suc, _*_, _≤_}
 use mathlib.Core.Path.{_≡_, refl, sym, _∙_, ap}
-use mathlib.Core.Bool.{Bool, true, false, not, cond, _&&_, _||_}
+use mathlib.Core.Bool.{Bool, true, false, not, cond, _||_}
 use mathlib.Core.List.{List, [], _∷_, _++_, map}
 use lib.ListN.{length}
 use lib.Dec.{eqb}
 use borrow.Author.Tests.{eqb-true, ltb-false, not-true}
 use native.Mathlib.Omega.{arith}
-use Rattle.numbers.proofs.Choices.{cases, both, or-else, neither}
+use Rattle.numbers.proofs.Choices.{cases, both, neither}
 use Rattle.numbers.proofs.Tested.{left, right, holds}
-use Rattle.frames.specs.Passages.{Passage, UnderWay, nothing, passageWords, partWords, finishedBy}
+use Rattle.frames.specs.Passages.{Passage, silent, finished, broken, nothing, Sub, none, gone, stays, finishedBy}
+use Rattle.frames.specs.Retold.{passagesAs}
 use Rattle.wire.specs.Line.{letterOf, sizeBy, known, namedBy}
-use Rattle.wire.specs.Messages.{Message}
+use Rattle.wire.specs.Messages.{Message, report, reply}
 use Rattle.wire.specs.declared.Format.the-variants.{Mm}
 use Rattle.ballbox.specs.Box.{modeD}
 use Rattle.ballbox.specs.Commands.{letterP}
@@ -23,7 +24,7 @@ use Rattle.history.specs.History as box-history
 use Rattle.history.specs.Asked.{allHosts}
 use Rattle.history.specs.Presses.{nothing-going, empties, noneEmpties, noHost, changesIn, statesOver, neverNinth, shownIn, ShownAgain, slotsIn}
 use Rattle.history.proofs.Asking.{SetTo, hosts-by}
-use Rattle.vsxxx.specs.Reports.{PuckMessage, of-box, of-test, puckBytes}
+use Rattle.vsxxx.specs.Reports.{PuckReport, movement, self-test, PuckMessage, of-box, of-test}
 use Rattle.puck.specs.Device.{testing}
 use Rattle.puck.specs.Rules.{modeR, letterT, isBoxes, noCommand, asBox}
 use Rattle.puck.specs.Good.{good}
@@ -33,13 +34,13 @@ use Rattle.puck.proofs.Parts.{Good, parts}
 use Rattle.puckreader.specs.HandedOut.{HandsOut, finishedReports}
 use Rattle.puckreader.proofs.Handed.{followed}
 use Rattle.puckhistory.specs.Runs.{RunPromise, wordsGiven, lastPuck, asBoxAnswer, withoutT}
-use Rattle.puckhistory.specs.History.{passagesOf, goingAfter}
-use Rattle.puckhistory.proofs.Bridge.{Holds, by-box, run-passages, run-sound}
+use Rattle.puckhistory.specs.History.{inBox, passagesOf, goingAfter}
+use Rattle.puckhistory.proofs.Bridge.{Holds, in-box, by-box, run-passages, run-sound}
 use Rattle.puckhistory.proofs.AsBox.{box-run, last-ball, box-passages, finished-as}
 use Rattle.demands.specs.Presses as presses
 use Rattle.demands.specs.Presses.{AllShown}
 
--- "any host byte but D, P and T"
+-- any byte of the host's but D, P and T
 abbrev pub leaves : ℕ → Bool
 leaves byte = not (eqb byte modeD || eqb byte letterP || eqb byte letterT)
 
@@ -59,6 +60,36 @@ pub record Streaming (p : Puck) (events : List Event) (answers : List PuckSteppe
 abbrev pub shownInPuck : PuckMessage → List ℕ
 shownInPuck (of-box m) = shownIn m
 shownInPuck (of-test t) = []
+
+-- the passages of its box: those that are no self-test
+abbrev pub ofBox : List (Passage PuckMessage) → List (Passage Message)
+ofBox [] = []
+ofBox (silent ∷ passages) = silent ∷ ofBox passages
+ofBox (finished (of-box m) ∷ passages) = finished m ∷ ofBox passages
+ofBox (finished (of-test t) ∷ passages) = ofBox passages
+ofBox (broken n (of-box m) ∷ passages) = broken n m ∷ ofBox passages
+ofBox (broken n (of-test t) ∷ passages) = ofBox passages
+
+-- the buttons of a report that is handed out
+abbrev pub buttonsIn : PuckReport → ℕ
+buttonsIn (movement r) = r .buttons
+buttonsIn (self-test t) = t .buttons
+
+box-again : (l : List (Passage Message)) → ofBox (passagesAs of-box l) ≡ l
+box-again [] = refl
+box-again (silent ∷ l) = rw (box-again l)
+box-again (finished m ∷ l) = rw (box-again l)
+box-again (broken n m ∷ l) = rw (box-again l)
+
+-- each state that was shown is among the buttons handed out
+shown-among : (l : List (Passage PuckMessage)) → Sub (finishedBy shownInPuck l) (map buttonsIn (finishedReports l))
+shown-among [] = none
+shown-among (silent ∷ l) = shown-among l
+shown-among (finished (of-box (report r)) ∷ l) =
+    cases (λ (states : List ℕ). Sub (states ++ finishedBy shownInPuck l) (r .report .buttons ∷ map buttonsIn (finishedReports l))) (r .shows) (λ _. stays (shown-among l)) (λ _. gone (shown-among l))
+shown-among (finished (of-box (reply bytes)) ∷ l) = shown-among l
+shown-among (finished (of-test t) ∷ l) = gone (shown-among l)
+shown-among (broken n m ∷ l) = shown-among l
 
 -- its bytes are no T, and what the box is handed of them empties no memory
 leaves-T : (byte : ℕ) → leaves byte ≡ true → not (eqb byte letterT) ≡ true
@@ -147,6 +178,12 @@ module _ {p : Puck} {events : List Event} {answers : List PuckStepped} (run : St
       → remembered (p .ball .memory) ++ changesIn (p .ball) (map asBox events) ≡ shown ++ remembered (last .ball .memory)
   in-order-plainly never = rw (same-shown, same-last) at (presses.in-order-plainly box never)
 
+  -- "so a broken-off report is followed by another with the same buttons"
+  pub shown-again : ShownAgain (ofBox sent) (inBox (goingAfter p nothing events))
+  shown-again =
+      let s = box-passages p nothing events (run .good) none-left no-T in
+      rw (s .0, box-again (presses.sent box), s .1, in-box (box-history.goingAfter (p .ball) nothing (map asBox events))) (presses.shown-again box)
+
   -- within so many slots: with k remembered, after (k + 1) times the three slots of a report those k have been shown
   pub within-slots : noHost events ≡ true
       → suc (length (remembered (p .ball .memory))) * 3 ≤ slotsIn events
@@ -163,3 +200,7 @@ module _ {p : Puck} {events : List Event} {answers : List PuckStepped} (run : St
       let h : Holds p nothing = by-box nothing none-left k in
       let s = run-sound p nothing events (run .good) h in
       rw (run-passages p nothing events answers (run .good) h (run .permitted)) (followed sent (goingAfter p nothing events) (s .0) (s .1))
+
+  -- so each state that was shown is seen, in order
+  pub each-seen : Sub shown (map buttonsIn (finishedReports sent))
+  each-seen = shown-among sent

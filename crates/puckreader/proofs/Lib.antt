@@ -1,5 +1,6 @@
--- The laws of the reader of the VSXXX: what it keeps (Kept), what a word does (Word), what is counted (Counting), the long read's loop (Loop), its one answer (Permitted), good readers
--- (Goodness), refusals (Refusals), long reads joined (Joining), what the reader of the frame does (Framed), there and back (There), what is handed out of a line (Handed) and wrong answers (Wrong).
+-- The laws of the reader of the VSXXX: what it keeps (Kept), what a word does (Word), what is counted (Counting), the long read's loop (Loop), its one answer
+-- (Permitted), good readers (Goodness), refusals (Refusals), long reads joined (Joining) and where they stop (Room), what the reader of the frame does (Framed),
+-- there and back (There), what is handed out of a line (Handed), what a step and a long read count (Counts) and wrong answers (Wrong).
 pub mod Kept
 pub mod Word
 pub mod Counting
@@ -12,4 +13,5 @@ pub mod Framed
 pub mod Handed
 pub mod There
 pub mod Counts
+pub mod Room
 pub mod Wrong

@@ -1,5 +1,5 @@
 -- "Over many words": a line of words, word by word, and a lent slice; what is counted.
-use Prim.Native.Nat.{ℕ, _+_, _*_}
+use Prim.Native.Nat.{ℕ, _+_, _*_, _≤_}
 use mathlib.Core.Path.{_≡_}
 use mathlib.Core.Bool.{true, cond}
 use mathlib.Core.List.{List, [], _∷_, _++_}
@@ -68,6 +68,24 @@ whole a out = record { refusal = a .refusal; next = a .next; taken = a .taken; r
 -- "It stops, with answer 0, before a word that would finish a report when fewer than" six "places are left."
 abbrev pub lineOf : PuckReader → List ℕ → List ℤ → Long PuckReader ℤ
 lineOf r words out = longRead counts r words out
+
+-- a word that was taken, and then what the rest of the line gives
+abbrev pub wordAnd : PuckAnswer → Long PuckReader ℤ → Long PuckReader ℤ
+wordAnd a later =
+    record {
+      refusal = later .refusal;
+      next = later .next;
+      taken = 1 + later .taken;
+      reports = reportsIn a + later .reports;
+      dropped = droppedIn a + later .dropped;
+      out = numbers (reportOf a) ++ later .out;
+    }
+
+-- how far a long read goes: no more words than there are, no more reports than have room, no more bytes dropped and kept than it took and had kept
+pub record Bounds (r : PuckReader) (words : List ℕ) (out : List ℤ) (a : PuckReading) : Type 0 where
+  pub some : a .taken ≤ length words
+  pub room : 6 * a .reports ≤ length out
+  pub few : a .dropped + a .next .count ≤ a .taken + r .count
 
 -- what is given back for words at the front of a line, by a reader that stays good; where no word is taken the line ends there
 pub record Begins (r : PuckReader) (words : List ℕ) (before : List ℤ) (t : PuckReading) (after : List ℤ) : Type 0 where

@@ -20,7 +20,7 @@ use Rattle.replies.specs.declared.HeardLine.{HeardLine}
 use Rattle.replies.proofs.Permitted.{step-is, read-is}
 use Rattle.replies.proofs.Goodness.{step-word, read-line}
 
--- "stops before a word that would finish a report without room, the reply still pending": nothing is taken, told or written, and the reader comes back as it was
+-- it stops before a word that would finish a report without room, the reply still pending: nothing is taken, told or written, and the reader comes back as it was
 pub stops-for-room : (s : ToldReader) (w : ℕ) (q : List ℕ) (out : List ℤ) (h : Heard) (a : HeardLine) (after : List ℤ) → good s ≡ true → StepPromise s w h → ReadPromise s (w ∷ q) out a after
     → h .refusal ≡ success
     → length out < 5 * reportsIn (h .answer)

@@ -52,7 +52,7 @@ hears =
       writes = λ a. writtenIn (a .answer);
     }
 
--- "what became of the reply", of which there is at most one in a call: the first that tells something
+-- what became of the reply, of which there is at most one in a call: the first that tells something
 abbrev pub orElse : Reply → Reply → Reply
 orElse reply.Nothing second = second
 orElse reply.Ack second = reply.Ack

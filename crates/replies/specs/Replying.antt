@@ -2,8 +2,6 @@
 -- ignored."
 use Prim.Native.Nat.{ℕ, _+_, _*_, _%_}
 use mathlib.Core.Bool.{Bool, true, false, not, cond, _&&_, _||_}
-use mathlib.Core.List.{List, [], _∷_}
-use lib.ListN.{take}
 use lib.Dec.{eqb, ltb}
 use Rattle.wire.specs.Line.{letterOf, known}
 use Rattle.wire.specs.declared.Format.{Format}
@@ -23,9 +21,6 @@ came count first second = record { count = count; first = first; second = second
 
 abbrev pub none : Came
 none = came 0 0 0
-
-abbrev pub cameBytes : Came → List ℕ
-cameBytes c = take (c .count) (c .first ∷ c .second ∷ [])
 
 abbrev pub awaiting : Kind → Came → Awaited
 awaiting kind came = record { kind = kind; came = came }

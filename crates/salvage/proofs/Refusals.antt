@@ -78,3 +78,9 @@ rightly letter words before =
 -- whatever meets the promise is no refusal, or one of the four, which leaves the slice and counts nothing
 pub refusals : (letter : ℕ) (words before after : List ℕ) (a : Picked) → PickPromise letter words before a after → PickRefusal before (whole a after)
 refusals letter words before after a p = rw p (rightly letter words before)
+
+-- which of them it is
+pub refused-with : (letter : ℕ) (words before after : List ℕ) (a : Picked) (n : ℕ) → refusalOf letter words ≡ n → eqb n success ≡ false → PickPromise letter words before a after
+    → whole a after ≡ refused n before
+unfolding pickOf
+refused-with letter words before after a n e some p = p ∙ rw (e, some)

@@ -20,7 +20,7 @@ validBy letter bytes = ofNamed false (λ f. valid f bytes) (namedBy letter)
 abbrev pub startsBy : ℕ → List ℕ → Bool
 startsBy letter words = starts (sizeBy letter) (validBy letter) words
 
--- the starting places that are picked; that they are the best choice is shown in proofs/Best.antt
+-- the starting places that are picked; that they are the best choice is `best-of-all` in proofs/Picks.antt
 abbrev pub pickedBy : ℕ → List ℕ → List ℕ
 pickedBy letter words = earliest (sizeBy letter) (validBy letter) words
 

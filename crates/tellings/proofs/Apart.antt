@@ -56,12 +56,6 @@ done-are s (word w ∷ is) (items.told t ∷ done) p = absurd (p .0)
 done-are s (telling asked ∷ is) (items.heard h ∷ done) p = absurd (p .0)
 done-are s (telling asked ∷ is) (items.told t ∷ done) p = let e = p .0 in let r = done-are (t .next) is done (p .1) in cc
 
-pub done-permitted : (s : ToldReader) (is : List Item) → ItemsPromise s is (doneOf s is)
-unfolding doneOf ItemsPromise
-done-permitted s [] = tt
-done-permitted s (word w ∷ is) = (refl, done-permitted _ is)
-done-permitted s (telling asked ∷ is) = (refl, done-permitted _ is)
-
 -- the words that the report reader is given
 abbrev pub givenOf : Awaited → ℕ → List ℕ
 givenOf a w = cond (continues a w) [] (w ∷ [])

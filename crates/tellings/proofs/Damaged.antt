@@ -258,7 +258,7 @@ module _ (f : Format) (passages : List (Passage Message)) (going : UnderWay Mess
   replies-with : (ws : List ℕ) → repliesOver replying.nothing (pre ++ (asItems ws ++ post)) ≡ repliesOver replying.nothing pre ++ repliesOver replying.nothing post
   replies-with ws = replies-append pre (asItems ws ++ post) replying.nothing ∙ rw (l .clear, replies-append (asItems ws) post replying.nothing, words-replies ws, words-behind ws)
 
-  -- "each whole reply is answered as sent"
+  -- each whole reply is answered as sent
   pub replies-as-sent : TellsReplies f line (repliesSent passages)
   replies-as-sent =
       tells-replies f line line-legal (repliesSent passages)

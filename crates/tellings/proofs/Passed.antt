@@ -163,7 +163,7 @@ module _ (f : Format) where
   abbrev pub HeldOrReply : Message → Type 0
   HeldOrReply m = HeldWith IsReply f m
 
-  -- the line without its replies; a broken one "counts as a broken-off report", of which no byte has gone
+  -- the line without its replies; a broken one "counts in demand 3 as a broken-off report", of which no byte has gone
   abbrev zeroReport : Message
   zeroReport = latchedIn f (reading.report 0 (pos 0) (pos 0))
 

@@ -10,18 +10,24 @@ use Rattle.numbers.proofs.Choices.{both}
 use Rattle.ballbox.specs.Commands.{ack, commandOf}
 use Rattle.ballbox.specs.Commands as box
 use Rattle.ballbox.specs.Good.{good}
+use Rattle.ballbox.specs.Promises.{StepPromise}
 use Rattle.ballbox.specs.declared.BallBox.{BallBox}
+use Rattle.ballbox.specs.declared.Event.{Event}
+use Rattle.ballbox.specs.declared.Event.the-variants.{Host}
+use Rattle.ballbox.specs.declared.Stepped.{Stepped}
+use Rattle.history.specs.Runs.{RunPromise, wordsGiven}
+use Rattle.history.specs.Presses.{noHost}
 use Rattle.reader.specs.Runs.{stepsOf}
 use Rattle.reader.specs.declared.Reader.{Reader}
 use Rattle.reader.specs.declared.Answer.{Answer}
 use Rattle.reader.specs.declared.Answer.the-variants as answer
 use Rattle.replies.specs.Good as told
-use Rattle.replies.specs.Replying.{none, awaiting, isNone, fits, more}
+use Rattle.replies.specs.Replying.{none, awaiting, isNone, sizeOf, fits, more}
 use Rattle.replies.specs.Rules.{replyTo, kindOf}
 use Rattle.replies.specs.Line.{toldIn}
 use Rattle.tellings.specs.Items.{telling, asItems, legalItems, Done, afterDone, ItemsPromise, ownAnswersOf, repliesOf}
 use Rattle.tellings.specs.Lines.{ReadsReply}
-use Rattle.tellings.specs.Runs.{hasReply, answerOf}
+use Rattle.tellings.specs.Runs.{hasReply, answerOf, sendsIn}
 use Rattle.replies.specs.declared.Asked.{Asked}
 use Rattle.replies.specs.declared.Asked.the-variants.{Command, Waking}
 use Rattle.replies.specs.declared.Awaited.{Awaited}
@@ -32,6 +38,7 @@ use Rattle.tellings.proofs.Apart.{done-are, given, ownOver, repliesOver
 use Rattle.tellings.proofs.Passed.{WholeFrom, valueFrom, over-whole}
 use Rattle.tellings.proofs.Damaged.{legal-words, legal-reply}
 use Rattle.tellings.proofs.Answering.{asks-by, asks-reply, asks-for, asks-told}
+use Rattle.tellings.proofs.Sent.{reply-sent, ack-sent}
 
 -- the bytes of a reply are answered by nothing
 own-reply : (bytes : List ℕ) (a : Awaited) (r : Reader) → WholeFrom a bytes → ownOver a r (asItems bytes) ≡ replicate (length bytes) answer.Nothing
@@ -73,3 +80,26 @@ there b byte s done g h k p =
 pub woken : (s : ToldReader) (done : List Done) → told.good s ≡ true → ItemsPromise s (telling Waking ∷ asItems ack) done → ReadsReply s ack reply.Ack done
 unfolding fits
 woken s done k p = whole-read s Waking ack reply.Ack done k refl (refl, refl) refl p
+
+-- the same of the words that a box sends
+pub there-sent : (b : BallBox) (byte : ℕ) (a : Stepped) (events : List Event) (answers : List Stepped) (s : ToldReader) (done : List Done) → good b ≡ true → b .dormant ≡ false → hasReply byte ≡ true → StepPromise b (Host byte) a
+    → noHost events ≡ true
+    → sendsIn events ≡ sizeOf (replyTo byte)
+    → RunPromise (a .next) events answers
+    → told.good s ≡ true
+    → ItemsPromise s (telling (Command byte) ∷ asItems (wordsGiven answers)) done
+    → ReadsReply s (wordsGiven answers) (answerOf b byte) done
+there-sent b byte a events answers s done g d h p q k run t items =
+    let is = reply-sent b byte a events answers g d (asks-by byte h) p q k run in
+    rw is (there b byte s done g h t (rw is at items))
+
+pub woken-sent : (b : BallBox) (byte : ℕ) (a : Stepped) (events : List Event) (answers : List Stepped) (s : ToldReader) (done : List Done) → good b ≡ true → b .dormant ≡ true → StepPromise b (Host byte) a
+    → noHost events ≡ true
+    → sendsIn events ≡ 1
+    → RunPromise (a .next) events answers
+    → told.good s ≡ true
+    → ItemsPromise s (telling Waking ∷ asItems (wordsGiven answers)) done
+    → ReadsReply s (wordsGiven answers) reply.Ack done
+woken-sent b byte a events answers s done g d p q k run t items =
+    let is = ack-sent b byte a events answers g d p q k run in
+    rw is (woken s done t (rw is at items))

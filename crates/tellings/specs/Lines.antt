@@ -36,7 +36,7 @@ cameOf [] = none
 cameOf (b ∷ []) = came 1 b 0
 cameOf (b ∷ c ∷ bytes) = came 2 b c
 
--- "each whole reply is answered as sent", and a broken one as broken, behind the bytes that had gone
+-- each whole reply is answered as sent, and a broken one as broken, behind the bytes that had gone
 abbrev pub repliesIn : Passage Message → List Reply
 repliesIn silent = []
 repliesIn (finished (report l)) = []

@@ -1,5 +1,5 @@
 -- Runs of the box with commands that have a reply: what reaches the host's half of them.
-use Prim.Native.Nat.{ℕ}
+use Prim.Native.Nat.{ℕ, suc}
 use mathlib.Core.Bool.{Bool, not, cond, _||_}
 use mathlib.Core.List.{List, [], _∷_, _++_}
 use lib.Dec.{eqb}
@@ -49,3 +49,13 @@ abbrev pub itemsGiven : List Event → List Stepped → List Item
 itemsGiven [] answers = []
 itemsGiven (e ∷ events) [] = []
 itemsGiven (e ∷ events) (a ∷ answers) = asItems (sentWords (a .sent)) ++ (tellingOf e ++ itemsGiven events answers)
+
+-- the Sends among events
+abbrev pub sendsIn : List Event → ℕ
+sendsIn [] = 0
+sendsIn (Motion dx dy ∷ events) = sendsIn events
+sendsIn (Buttons n ∷ events) = sendsIn events
+sendsIn (Host byte ∷ events) = sendsIn events
+sendsIn (Latch ∷ events) = sendsIn events
+sendsIn (Send ∷ events) = suc (sendsIn events)
+sendsIn (Period ∷ events) = sendsIn events

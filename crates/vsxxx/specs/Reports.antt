@@ -24,11 +24,11 @@ pub data PuckReport : Type 0 where
 unfoldable pub sizeFrom : ℕ → ℕ
 sizeFrom first = cond (isTest first) 4 3
 
--- which bytes may begin a report; the others, 110 and 111, are "taken by no rule"
+-- which bytes may begin a report; the others, 110 and 111, none of the rules takes
 unfoldable pub fitsStart : ℕ → Bool
 fitsStart b = fitsFirst Mm b || isTest b
 
--- and which may stand at a later place behind a first byte: "0 X6 .. X0", "0 Y6 .. Y0", "0 M2 M1 M0 ..", "0 E6 .. E0", and in byte 4 of a self-test,
+-- and which may stand at a later place behind a first byte: 0 and X6 to X0, 0 and Y6 to Y0, "0 M2 M1 M0 [..]", 0 and E6 to E0, and in byte 4 of a self-test,
 -- whose place is 3, "0 0 0 0 0 L M R"
 unfoldable pub fitsBehind : ℕ → ℕ → ℕ → Bool
 fitsBehind first place b = cond (isTest first && eqb place 3) (isButtons b) (fitsLater Mm b)

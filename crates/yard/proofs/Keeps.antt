@@ -19,7 +19,7 @@ use Rattle.wire.proofs.Letters.{size-positive}
 use Rattle.yard.specs.Stands.{leastW, barred, barredBy, standsBy}
 use Rattle.yard.specs.State.{noneGone, over}
 use Rattle.yard.specs.Good.{goneRightly, good}
-use Rattle.yard.specs.Rules.{can, cannot, refusing, firstWith, oneMore, byteOf, silenceOf, wordOf}
+use Rattle.yard.specs.Rules.{can, cannot, refusing, firstWith, oneMore, byteCan, silenceOf, wordOf}
 use Rattle.yard.specs.declared.Yard.{Yard}
 use Rattle.yard.specs.declared.Judged.{Judged}
 
@@ -60,7 +60,7 @@ pub by-word : (P : Judged → Type 0) (y : Yard) (w : ℕ)
     → (leb w silence ≡ true → P (can (noneGone (y .format))))
     → (leb w silence ≡ true → standsBy (y .format) (y .count) (y .first) (y .last) w ≡ true → eqb (y .count + 1) (sizeBy (y .format)) ≡ false → P (can (oneMore y w)))
     → P (wordOf y w)
-unfolding wordOf byteOf silenceOf
+unfolding wordOf byteCan silenceOf
 by-word P y w bad stop none more =
     cases P (leb w silence)
     (λ l. cases P (y .ended) (λ _. stop l)

@@ -29,8 +29,8 @@ unfoldable pub oneMore : Yard → ℕ → Yard
 oneMore y b = yard (y .format) (firstWith y b) b (y .count + 1) false
 
 -- a byte that can stand in the next place of the report; behind the last of its bytes none has gone
-unfoldable pub byteOf : Yard → ℕ → Judged
-byteOf y b =
+unfoldable pub byteCan : Yard → ℕ → Judged
+byteCan y b =
     cond (standsBy (y .format) (y .count) (y .first) (y .last) b)
     (cond (eqb (y .count + 1) (sizeBy (y .format))) (can (noneGone (y .format))) (can (oneMore y b)))
     (cannot (y .format))
@@ -45,7 +45,7 @@ unfoldable pub wordOf : Yard → ℕ → Judged
 wordOf y w =
     cond (leb w silence)
     (cond (y .ended) (cannot (y .format))
-    (cond (isByte w) (byteOf y w)
+    (cond (isByte w) (byteCan y w)
     (cond (eqb w break) (can (noneGone (y .format)))
     (silenceOf y))))
     (refusing badWord y)

@@ -3,7 +3,7 @@ ghost use mathlib.Core.Path.{_≡_};
 ghost use Prim.Native.Nat.{_<_};
 ghost use Rattle.wire.specs.Line.{sizeBy};
 ghost use Rattle.yard.specs.State.{noneGone, over};
-ghost use Rattle.yard.specs.Rules.{can, cannot, refusing, firstWith, oneMore, byteOf, silenceOf, wordOf};
+ghost use Rattle.yard.specs.Rules.{can, cannot, refusing, firstWith, oneMore, byteCan, silenceOf, wordOf};
 use crate::BAD_WORD;
 use crate::BREAK;
 use crate::Judged;
@@ -98,7 +98,7 @@ impl Yard {
     // A byte: behind the last of a report nothing has gone.
     fn byte(self, byte: u8) -> Judged
         requires { ⌜ self .count < sizeBy (self .format) ⌝ }
-        ensures { λ r. ⌜ r ≡ byteOf self byte ⌝ }
+        ensures { λ r. ⌜ r ≡ byteCan self byte ⌝ }
     {
         if !stands(self.format, self.count, self.first, self.last, byte) {
             return cannot(self.format);

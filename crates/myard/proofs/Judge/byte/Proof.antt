@@ -1,6 +1,6 @@
 -- `byte`: what the scanner finds.
 use borrow.Author.Needs.{needs}
-use Rattle.myard.specs.Judging.{byteOf}
+use Rattle.myard.specs.Judging.{behindByte}
 use Rattle.myard.proofs.Judge.byte.Statement.{statement}
 use Rattle.myard.proofs.Judge.byte.Tie as tie
 
@@ -11,7 +11,7 @@ heard-requires : tie.Need-heard-requires
 heard-requires c κs = search needs
 
 returns : tie.Need-returns
-unfolding byteOf
+unfolding behindByte
 returns c = rw (c .heard .ensures, c .before .before .byte .ensures)
 
 pub byte-spec : {M : Type 1} → statement M

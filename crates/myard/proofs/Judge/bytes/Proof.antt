@@ -6,12 +6,12 @@ use native.Mathlib.Numerals.{add-one}
 use lib.ListN.{length, drop, drop-of-length-le}
 use lib.Seq.{drop-cons}
 use borrow.Author.Needs.{needs}
-use Rattle.myard.specs.Judging.{bytesOf}
+use Rattle.myard.specs.Judging.{behindBytes}
 use Rattle.myard.proofs.Judge.bytes.Statement.{statement}
 use Rattle.myard.proofs.Judge.bytes.Tie as tie
 
 abbrev Inv-loop : tie.InvT-loop
-Inv-loop bytes judge₀ at₀ judge at = (bytesOf judge₀ bytes ≡ bytesOf judge (drop at bytes)) × (at ≤ length bytes)
+Inv-loop bytes judge₀ at₀ judge at = (behindBytes judge₀ bytes ≡ behindBytes judge (drop at bytes)) × (at ≤ length bytes)
 
 abbrev μ-loop : tie.MeasureT-loop
 μ-loop bytes judge₀ at₀ judge at = length bytes - at
@@ -32,13 +32,13 @@ loop-less : tie.Need-loop-less Inv-loop μ-loop
 loop-less c = omega arith
 
 loop-again : tie.Need-loop-again Inv-loop μ-loop
-unfolding bytesOf
+unfolding behindBytes
 loop-again c = let l = c .before .before .before .loop in
     let a = c .before .before .before .before .before .args in
     (l .inv .0 ∙ rw (drop-cons (a .bytes .now) (l .at) 0 (omega arith), c .byte .ensures, add-one), omega arith)
 
 returns : tie.Need-returns Inv-loop μ-loop
-unfolding bytesOf
+unfolding behindBytes
 returns c = let l = c .before .loop in
     let a = c .before .before .before .args in
     sym (l .inv .0 ∙ rw (drop-of-length-le (a .bytes .now) {i = l .at} (omega arith)))

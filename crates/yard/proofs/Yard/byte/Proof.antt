@@ -2,7 +2,7 @@
 use borrow.Author.Needs.{needs}
 use mathlib.Core.Path.{sym, _∙_}
 use borrow.Author.Tests.{not-true, not-false, eq-eqb, ne-eqb}
-use Rattle.yard.specs.Rules.{byteOf}
+use Rattle.yard.specs.Rules.{byteCan}
 use Rattle.yard.proofs.Yard.byte.Statement.{statement}
 use Rattle.yard.proofs.Yard.byte.Tie as tie
 
@@ -13,7 +13,7 @@ cannot-requires : tie.Need-cannot-requires
 cannot-requires c κs = search needs
 
 returns : tie.Need-returns
-unfolding byteOf
+unfolding byteCan
 returns c = simp (sym (c .before .before .stands .ensures) ∙ not-true _ (c .before .if1 .taken)) (c .cannot .ensures)
 
 cast-gone : tie.Need-cast-gone
@@ -32,7 +32,7 @@ can-requires : tie.Need-can-requires
 can-requires c κs = search needs
 
 returns-2 : tie.Need-returns-2
-unfolding byteOf
+unfolding byteCan
 returns-2 c = simp (sym (c .before .before .before .before .before .before .stands .ensures) ∙ not-false _ (c .before .before .before .before .before .if1 .left), eq-eqb _ _ (c .before .before .if2 .taken ∙ c .before .before .before .size .ensures)) (rw (c .before .none-gone .ensures) at (c .can .ensures))
 
 one-more-requires : tie.Need-one-more-requires
@@ -42,7 +42,7 @@ can-requires-2 : tie.Need-can-requires-2
 can-requires-2 c κs = search needs
 
 returns-3 : tie.Need-returns-3
-unfolding byteOf
+unfolding byteCan
 returns-3 c = simp (sym (c .before .before .before .before .before .before .stands .ensures) ∙ not-false _ (c .before .before .before .before .before .if1 .left), ne-eqb _ _ (λ e. c .before .before .if2 .left (e ∙ sym (c .before .before .before .size .ensures)))) (rw (c .before .one-more .ensures) at (c .can2 .ensures))
 
 pub byte-spec : {M : Type 1} → statement M
