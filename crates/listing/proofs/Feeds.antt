@@ -1,25 +1,37 @@
 -- A turn of the feeding loop, and the end.
 use Prim.Native.Nat.{ℕ, _+_, _-_, _<_, _≤_}
 use mathlib.Core.Path.{_≡_, sym, _∙_, ap}
-use mathlib.Core.Bool.{true, false}
-use mathlib.Core.List.{List, [], _++_, append-assoc}
-use native.Mathlib.Nat.{zero-add}
+use mathlib.Core.Bool.{Bool, true, false, not, _&&_}
+use mathlib.Core.List.{List, [], _∷_, _++_, append-assoc}
+use native.Mathlib.Nat.{add-zero, zero-add}
 use native.Mathlib.Omega.{arith}
-use lib.Dec.{leb}
-use lib.ListN.{length, take, drop, length-drop}
-use lib.Seq.{drop-drop}
-use borrow.Author.Tests.{lt-ltb, le-ltb, leb-true, leb-false, le-leb}
-use Rattle.numbers.proofs.Tested.{right}
-use Rattle.fold.specs.Fold.{ran, run, Part}
-use Rattle.fold.proofs.Parts.{none, part-within, part-room, part-long, joins, part-ends, part-all}
-use Rattle.text.specs.Growth.{shown, textOf, fitsAt, putOf}
+use lib.Dec.{leb, eqb}
+use lib.ListN.{length, getD, take, drop, length-drop, take-append-drop}
+use lib.Seq.{drop-drop, getD-drop}
+use borrow.Author.Tests.{lt-ltb, le-ltb, leb-true, leb-false, le-leb, eqb-true, not-true}
+use borrow.Rule.Slice.PartMut.{putMid}
+use Rattle.numbers.proofs.Tested.{left, right}
+use Rattle.fold.specs.Fold.{ran, run}
+use Rattle.fold.proofs.Parts.{rest-is, back, none, part-within, part-room, part-left, part-long, part-none, joins, part-ends, part-all}
+use Rattle.text.specs.Growth.{shown, textOf, slice, filledBy, fitsAt, putOf}
 use Rattle.text.specs.declared.Text.{Text}
 use Rattle.text.proofs.Laws.{text-shows, text-long, put-none}
-use Rattle.listing.specs.Feeding.{lastOf, feeds, Together, Goes, feedIn, finishIn, good}
+use Rattle.text.proofs.Filled.{filled-all}
+use Rattle.reader.specs.declared.Reader.{Reader}
+use Rattle.listing.specs.Lines.{Tells}
+use Rattle.listing.specs.Scanning.{width, mostLines}
+use Rattle.listing.specs.Items.{itemsIn, wordGave}
+use Rattle.listing.specs.Printing.{allBytes}
+use Rattle.listing.specs.Feeding.{passedTo, Turning, fedByte, lastOf, feeds, Stands, Begins, feedIn, finishIn, good}
 use Rattle.listing.specs.Promises.{whole, written, feedOf, finishOf}
+use Rattle.listing.specs.declared.Gave.{Gave}
 use Rattle.listing.specs.declared.Lister.{Lister}
 use Rattle.listing.specs.declared.Listed.{Listed}
 use Rattle.listing.specs.declared.Front.{Front}
+use Rattle.listing.specs.declared.Told.{Told}
+use Rattle.listing.proofs.Few.{few-byte}
+use Rattle.listing.proofs.Five.{five-is}
+use Rattle.listing.proofs.Fronts.{Together, byte-goes, byte-stops, few-word, word-goes}
 
 -- a text that is put into a slice, or is not
 module _ (t : Text) (at : ℕ) (out : List ℕ) where
@@ -44,13 +56,35 @@ module _ (l : List ℕ) (t : Text) (is : t ≡ textOf l) (few : length l ≤ 40)
 abbrev pub answerOf : ℕ → Lister → ℕ → ℕ → Listed
 answerOf refusal m taken written = record { refusal = refusal; next = m; taken = taken; written = written; ended = m .scanner .ended }
 
--- where the loop stands: the texts of the bytes taken, the lister behind them, and the slice
-pub record Stands (m₀ : Lister) (input out₀ : List ℕ) (m : Lister) (at used : ℕ) (out : List ℕ) : Type 0 where
-  pub texts : List (List ℕ)
-  pub part : Part feeds m₀ input out₀ texts at used m out
-
 pub starts : (m : Lister) (input out : List ℕ) → Stands m input out m 0 0 out
 starts m input out = record { texts = []; part = none feeds m input out }
+
+-- bytes that are taken together, with their text in the slice
+stood : {m : Lister} {input : List ℕ} {t : Turning} {taken : ℕ} (out : List ℕ) → Together m input (length out) taken t
+    → Stands m input out (t .next) taken (length (t .text)) (t .text ++ drop (length (t .text)) out)
+stood out t = record { texts = t .texts; part = record { words-are = sym (t .many); places-are = sym (ap length (t .wrote)); wrote = rw (t .wrote); is = t .runs } }
+
+-- the first byte of a piece, whose text is put, or is not
+module _ (input : List ℕ) (m : Lister) (out out′ : List ℕ) (some : 0 < length input) (t : Text) (is : t ≡ textOf (fedByte m (getD input 0 0) .text)) (put : out′ ≡ putOf t 0 out) where
+  abbrev fed : Turning
+  fed = fedByte m (getD input 0 0)
+
+  few : length (fed .text) ≤ 40
+  few = few-byte m (getD input 0 0)
+
+  pub first-stops : fitsAt t 0 out ≡ false → Begins m input out (record { next = m; taken = 0; used = 0 }) out′
+  first-stops e =
+      record {
+        stands = rw (put ∙ put-none t 0 out e) (starts m input out);
+        stops = λ _. byte-stops input m (length out) some (omega (arith, put-short (fed .text) t is few 0 out e, size (fed .text) t is few 0 out));
+      }
+
+  pub first-goes : fitsAt t 0 out ≡ true → Begins m input out (record { next = fed .next; taken = 1; used = t .len }) out′
+  first-goes e =
+      let long = size (fed .text) t is few 0 out in
+      let room : length (fed .text) ≤ length out = omega (arith, put-room t 0 out e, long) in
+      let wrote : out′ ≡ fed .text ++ drop (t .len) out = put ∙ put-wrote (fed .text) t is few 0 out e ∙ rw zero-add in
+      record { stands = rw (wrote, long) (stood out (byte-goes input m (length out) some room)); stops = λ z. absurd (omega arith) }
 
 module _ {m₀ : Lister} {input out₀ : List ℕ} {m : Lister} {at used : ℕ} {out : List ℕ} (s : Stands m₀ input out₀ m at used out) where
   -- how far it has come
@@ -65,24 +99,76 @@ module _ {m₀ : Lister} {input out₀ : List ℕ} {m : Lister} {at used : ℕ} 
   pub ends-all : length input ≤ at → whole (answerOf 0 m at used) out ≡ written (feedIn m₀ input (length out₀)) out₀
   ends-all h = ends (part-all feeds (s .part) h)
 
-  -- the front of what is left, whose text has no room, or was put
-  module _ {f : Front} (g : Goes m (drop at input) (length out - used) f) where
-    abbrev text : List ℕ
-    text = g .turns .text
+  -- bytes of what is left
+  then : {next : Lister} {taken places : ℕ} {last : List ℕ} → Stands m (drop at input) (drop used out) next taken places last
+      → Stands m₀ input out₀ next (at + taken) (used + places) (take used out ++ last)
+  then q = record { texts = s .texts ++ q .texts; part = joins feeds (s .part) (q .part) }
 
-    pub stops : length out < used + length text → whole (answerOf 0 m at used) out ≡ written (feedIn m₀ input (length out₀)) out₀
-    stops h = ends (part-ends feeds (s .part) 0 (rw (far .2) at (g .stops (omega (arith, far)))))
+  -- as the code lends it, with the slice back
+  module _ {f : Front} {last : List ℕ} (b : Begins m (take (length input - at) (drop at input)) (take (length out - used) (drop used out)) f last) where
+    begins : Begins m (drop at input) (drop used out) f last
+    begins = rw (rest-is input at, rest-is out used) at b
 
-    joined : Together m (drop at input) (length out - used) (f .taken) (g .turns)
-        → Stands m₀ input out₀ (g .turns .next) (at + f .taken) (used + length text) (take used out ++ text ++ drop (used + length text) out)
-    joined t =
-        let part : Part feeds m (drop at input) (drop used out) (t .texts) (f .taken) (length text) (g .turns .next) (text ++ drop (length text) (drop used out)) =
-        record { words-are = sym (t .many); places-are = sym (ap length (t .wrote)); wrote = rw (t .wrote); is = rw (length-drop used out) (t .runs) } in
-        record { texts = s .texts ++ t .texts; part = rw (← drop-drop (length text) used out, append-assoc) (joins feeds (s .part) part) }
+    pub more : Stands m₀ input out₀ (f .next) (at + f .taken) (used + f .used) (putMid used (length out - used) out last)
+    more = rw (back out last used) (then (begins .stands))
 
-    pub again : (out′ : List ℕ) (n : ℕ) → n ≡ length text → used + n ≤ length out → out′ ≡ take used out ++ text ++ drop (used + n) out
-        → Stands m₀ input out₀ (g .turns .next) (at + f .taken) (used + n) out′
-    again out′ n long room wrote = rw (wrote, long) (joined (g .goes (omega arith)))
+    -- it took no byte: the slice is as it was, and the piece ends
+    module _ (z : f .taken ≡ 0) where
+      pub unchanged : putMid used (length out - used) out last ≡ out
+      unchanged = rw (back out last used, part-none feeds (begins .stands .part) z) (take-append-drop used out)
+
+      pub ends-before : whole (answerOf 0 m at used) out ≡ written (feedIn m₀ input (length out₀)) out₀
+      ends-before = ends (part-ends feeds (s .part) 0 (rw (part-left feeds (s .part), length-drop used out₀) at (begins .stops z)))
+
+-- a lister at the start of a line, that holds nothing
+abbrev pub atLine : Lister → Bool
+atLine m =
+    let h = m .scanner .held in
+    eqb (m .scanner .count) 0 && not (m .scanner .ended) && (eqb (getD h 0 0) 0 && eqb (getD h 1 0) 0 && eqb (getD h 2 0) 0 && eqb (getD h 3 0) 0 && eqb (getD h 4 0) 0)
+
+pub is-passed : (m : Lister) → length (m .scanner .held) ≡ 5 → atLine m ≡ true → passedTo (m .scanner .line) (m .reader) ≡ m
+is-passed m five e =
+    let s = m .scanner in
+    let h = s .held in
+    let c = eqb (s .count) 0 in
+    let n = not (s .ended) in
+    let z0 = eqb (getD h 0 0) 0 in
+    let z1 = eqb (getD h 1 0) 0 in
+    let z2 = eqb (getD h 2 0) 0 in
+    let z3 = eqb (getD h 3 0) 0 in
+    let z4 = eqb (getD h 4 0) 0 in
+    let front = left (c && n) (z0 && z1 && z2 && z3 && z4) e in
+    let four = left (z0 && z1 && z2 && z3) z4 (right (c && n) (z0 && z1 && z2 && z3 && z4) e) in
+    let three = left (z0 && z1 && z2) z3 four in
+    let two = left (z0 && z1) z2 three in
+    let zeros : h ≡ 0 ∷ 0 ∷ 0 ∷ 0 ∷ 0 ∷ [] =
+    sym (five-is h five)
+    ∙ rw (eqb-true (getD h 0 0) 0 (left z0 z1 two), eqb-true (getD h 1 0) 0 (right z0 z1 two), eqb-true (getD h 2 0) 0 (right (z0 && z1) z2 three), eqb-true (getD h 3 0) 0 (right (z0 && z1 && z2) z3 four), eqb-true (getD h 4 0) 0 (right (z0 && z1 && z2 && z3) z4 (right (c && n) (z0 && z1 && z2 && z3 && z4) e))) in
+    let count : s .count ≡ 0 = eqb-true _ _ (left c n front) in
+    let ended : s .ended ≡ false = not-true _ (right c n front) in
+    sym
+    (ap (λ (l : List ℕ). record { scanner = record { line = s .line; ended = s .ended; held = l; count = s .count }; reader = m .reader }) zeros
+    ∙ ap (λ (k : ℕ). record { scanner = record { line = s .line; ended = s .ended; held = 0 ∷ 0 ∷ 0 ∷ 0 ∷ 0 ∷ []; count = k }; reader = m .reader }) count
+    ∙ ap (λ (b : Bool). record { scanner = record { line = s .line; ended = b; held = 0 ∷ 0 ∷ 0 ∷ 0 ∷ 0 ∷ []; count = 0 }; reader = m .reader }) ended)
+
+-- a line of a word more, printed into the slice
+pub word-more : {m₀ : Lister} {input out₀ : List ℕ} {n : ℕ} {r : Reader} {at used : ℕ} {out : List ℕ} → Stands m₀ input out₀ (passedTo n r) at used out
+    → (t : Told) → at + 6 ≤ length input → 0 < n → n < mostLines → 40 ≤ length out - used
+    → Tells (getD input at 0 ∷ getD input (at + 1) 0 ∷ getD input (at + 2) 0 ∷ getD input (at + 3) 0 ∷ getD input (at + 4) 0 ∷ getD input (at + 5) 0 ∷ []) t → (t .taken ≡ 0 → ⊥)
+    → (g : Gave) → g ≡ wordGave r (n + 1) (t .word) → (out′ : List ℕ) (used′ : ℕ) → slice out′ used′ ≡ filledBy (slice out used) (allBytes width (itemsIn (g .given)))
+    → Stands m₀ input out₀ (passedTo (n + 1) (g .next)) (at + t .taken) used′ out′
+word-more {m₀} {input} {out₀} {n} {r} {at} {used} {out} s t there some few room tells taken g is out′ used′ wrote =
+    let text = allBytes width (itemsIn (g .given)) in
+    let short : length text ≤ 40 = rw is (few-word n r (t .word) some few) in
+    let filled = wrote ∙ filled-all text (slice out used) (omega (arith, far s)) in
+    let place : used′ ≡ used + length text = ap (λ (t : Text). t .len) filled in
+    let slice-is : out′ ≡ take used out ++ text ++ drop (used + length text) out = ap (λ (t : Text). t .bytes) filled in
+    let w = allBytes width (itemsIn (wordGave r (n + 1) (t .word) .given)) in
+    let left = drop used out in
+    let here : Tells (getD (drop at input) 0 0 ∷ getD (drop at input) 1 0 ∷ getD (drop at input) 2 0 ∷ getD (drop at input) 3 0 ∷ getD (drop at input) 4 0 ∷ getD (drop at input) 5 0 ∷ []) t =
+    rw (getD-drop at input 0 0, getD-drop at input 1 0, getD-drop at input 2 0, getD-drop at input 3 0, getD-drop at input 4 0, getD-drop at input 5 0, add-zero at) tells in
+    let goes = word-goes (drop at input) (length left) n r t (omega (arith, length-drop at input)) some few (omega (arith, length-drop used out)) here taken in
+    rw (place, slice-is, is, ← drop-drop (length w) used out, append-assoc) (then s (stood left goes))
 
 -- a lister that is not good is refused
 pub feed-refused : (m : Lister) (input out : List ℕ) (r : Listed) → good m ≡ false → r ≡ answerOf 6 m 0 0 → whole r out ≡ feedOf m input out

@@ -1,24 +1,35 @@
--- What is at the front of a piece: a byte, or a line that lies whole in it.
+-- What is at the front of a piece: a byte, or a line of a word that lies whole in it.
 use Prim.Native.Nat.{ℕ, suc, _+_, _-_, _<_, _≤_}
-use mathlib.Core.Path.{_≡_, refl, sym, _∙_, ap}
-use mathlib.Core.Bool.{Bool, true, false, _&&_}
+use mathlib.Core.Path.{_≡_, refl, sym, _∙_, ap, subst}
+use mathlib.Core.Bool.{Bool, true, false}
 use mathlib.Core.List.{List, [], _∷_, _++_, append-nil}
 use native.Mathlib.Omega.{arith}
 use native.Mathlib.Numerals.{add-one}
-use lib.Dec.{eqb, ltb, leb}
-use lib.ListN.{length, getD, take, length-set, length-append}
+use lib.Dec.{eqb}
+use lib.ListN.{length, getD, take, drop, length-set, length-append}
 use lib.Seq.{take-append-le, take-suc-set, append-snoc}
-use borrow.Author.Tests.{eqb-true, ltb-true, leb-true, lt-leb}
-use Rattle.numbers.proofs.Tested.{left, right}
-use Rattle.fold.specs.Fold.{run}
+use borrow.Author.Tests.{ne-eqb, lt-leb}
+use Rattle.fold.specs.Fold.{ran, behind, written, run}
 use Rattle.fold.proofs.Laws as laws
-use Rattle.listing.specs.Lines.{newline, lengthIn, saidBy}
-use Rattle.listing.specs.Scanning.{unfinished, more, takenOf, scannedByte}
-use Rattle.listing.specs.Items.{gaveOf}
-use Rattle.listing.specs.Feeding.{Turning, frontOf, turning, fedByte, turned, feeds, Together, Goes}
+use Rattle.reader.specs.declared.Reader.{Reader}
+use Rattle.listing.specs.Lines.{newline, lengthIn, saidBy, Tells}
+use Rattle.listing.specs.Scanning.{width, mostLines, lineIn, unfinished, more, takenOf, scannedByte}
+use Rattle.listing.specs.Items.{itemsIn, wordGave, gaveOf}
+use Rattle.listing.specs.Printing.{allBytes}
+use Rattle.listing.specs.Feeding.{Turning, frontOf, passedTo, turning, fedByte, feeds}
 use Rattle.listing.specs.declared.Lister.{Lister}
-use Rattle.listing.proofs.Few.{few-line, few-byte}
+use Rattle.listing.specs.declared.Told.{Told}
+use Rattle.listing.specs.declared.Line.{Line}
+use Rattle.listing.specs.declared.Line.the-variants.{Word}
+use Rattle.listing.proofs.Few.{few-line}
 use Rattle.listing.proofs.Whole.{opened, byte-opened}
+
+-- bytes at the front of a piece that are taken together: the lister after them, and their text
+pub record Together (m : Lister) (input : List ℕ) (room taken : ℕ) (t : Turning) : Type 0 where
+  pub texts : List (List ℕ)
+  pub many : length texts ≡ taken
+  pub wrote : written feeds texts ≡ t .text
+  pub runs : run feeds m input room ≡ behind texts (run feeds (t .next) (drop taken input) (room - length (t .text)))
 
 -- one byte
 one : (m : Lister) (c : ℕ) (rest : List ℕ) (room : ℕ) → length (fedByte m c .text) ≤ room → Together m (c ∷ rest) room 1 (fedByte m c)
@@ -26,18 +37,15 @@ unfolding run
 one m c rest room h =
     record { texts = fedByte m c .text ∷ []; many = refl; wrote = append-nil (fedByte m c .text); runs = rw (laws.taken feeds m c room refl h) }
 
-pub goes-byte : (input : List ℕ) (m : Lister) (room : ℕ) → 0 < length input → Goes m input room (record { taken = 1; turn = turned (fedByte m (getD input 0 0)) })
+-- the first of a piece, whose text has room, or has none
+pub byte-goes : (input : List ℕ) (m : Lister) (room : ℕ) → 0 < length input → length (fedByte m (getD input 0 0) .text) ≤ room → Together m input room 1 (fedByte m (getD input 0 0))
+byte-goes [] m room some h = absurd (omega arith)
+byte-goes (c ∷ rest) m room some h = one m c rest room h
+
+pub byte-stops : (input : List ℕ) (m : Lister) (room : ℕ) → 0 < length input → room < length (fedByte m (getD input 0 0) .text) → run feeds m input room ≡ ran 0 m []
 unfolding run
-goes-byte [] m room h = absurd (omega arith)
-goes-byte (c ∷ rest) m room h =
-    record {
-      turns = fedByte m c;
-      is = refl;
-      few = few-byte m c;
-      some = omega arith;
-      goes = one m c rest room;
-      stops = λ h. rw (laws.stops feeds m c room (λ _. h));
-    }
+byte-stops [] m room some h = absurd (omega arith)
+byte-stops (c ∷ rest) m room some h = rw (laws.stops feeds m c room (λ _. h))
 
 -- a whole line, and the lister that holds a byte more of it
 abbrev lineTurn : Lister → List ℕ → Turning
@@ -124,39 +132,36 @@ length-front (c ∷ l) rest h = go (length-front l rest) (eqb c newline) refl
     go ih true e = rw e
     go ih false e = rw e (ap suc (ih (omega (arith, rw e at h))))
 
-goes-line : (input : List ℕ) (m : Lister) (room : ℕ) → length (m .scanner .held) ≡ 5 → m .scanner .count ≡ 0 → lengthIn input < length input → lengthIn input ≤ 5 → 40 ≤ room
-    → Goes m input room (record { taken = lengthIn input + 1; turn = turned (lineTurn m (take (lengthIn input) input)) })
-goes-line input m room five none there few h =
-    let n = lengthIn input in
-    let line = saidBy (take n input) in
-    let start : unfinished (m .scanner) ++ take n input ≡ take n input = rw none in
-    record {
-      turns = lineTurn m (take n input);
-      is = refl;
-      few = few-line m line;
-      some = omega arith;
-      goes = λ k. rw (start, ← add-one) at (line-together input m room five there (omega arith) (rw start k));
-      stops = λ k. absurd (omega (arith, few-line m line));
-    }
+-- a line of a word, behind n others: what it writes, and the lister behind it
+abbrev wordTurn : ℕ → Reader → ℕ → Turning
+wordTurn n r w = let g = wordGave r (n + 1) w in record { next = passedTo (n + 1) (g .next); text = allBytes width (itemsIn (g .given)) }
 
-pub below-six : (count n room : ℕ) → eqb count 0 && ltb n 6 && leb 40 room ≡ true → n < 6
-below-six count n room h = ltb-true n 6 (right (eqb count 0) (ltb n 6) (left (eqb count 0 && ltb n 6) (leb 40 room) h))
+word-turn : (n : ℕ) (r : Reader) (w : ℕ) → 0 < n → n < mostLines → turning (passedTo n r) (takenOf (passedTo n r .scanner) (Word w)) ≡ wordTurn n r w
+unfolding takenOf lineIn frontOf gaveOf
+word-turn n r w some few = rw (lt-leb mostLines n few, ne-eqb n 0 (λ e. omega arith))
 
-pub goes-six : (input : List ℕ) (m : Lister) (room n : ℕ) → 6 ≤ length input
-    → n ≡ lengthIn (getD input 0 0 ∷ getD input 1 0 ∷ getD input 2 0 ∷ getD input 3 0 ∷ getD input 4 0 ∷ getD input 5 0 ∷ [])
-    → length (m .scanner .held) ≡ 5 → eqb (m .scanner .count) 0 && ltb n 6 && leb 40 room ≡ true
-    → Goes m input room (record { taken = n + 1; turn = turned (lineTurn m (take n (getD input 0 0 ∷ getD input 1 0 ∷ getD input 2 0 ∷ getD input 3 0 ∷ getD input 4 0 ∷ []))) })
-goes-six (a ∷ b ∷ c ∷ d ∷ e ∷ f ∷ rest) m room n there is five goes =
+pub few-word : (n : ℕ) (r : Reader) (w : ℕ) → 0 < n → n < mostLines → length (wordTurn n r w .text) ≤ 40
+few-word n r w some few = subst (λ (t : Turning). length (t .text) ≤ 40) (word-turn n r w some few) (few-line (passedTo n r) (Word w))
+
+pub word-goes : (input : List ℕ) (room n : ℕ) (r : Reader) (t : Told) → 6 ≤ length input → 0 < n → n < mostLines → 40 ≤ room
+    → Tells (getD input 0 0 ∷ getD input 1 0 ∷ getD input 2 0 ∷ getD input 3 0 ∷ getD input 4 0 ∷ getD input 5 0 ∷ []) t → (t .taken ≡ 0 → ⊥)
+    → Together (passedTo n r) input room (t .taken) (wordTurn n r (t .word))
+word-goes (a ∷ b ∷ c ∷ d ∷ e ∷ f ∷ rest) room n r t there some few h tells taken =
     let six = a ∷ b ∷ c ∷ d ∷ e ∷ f ∷ [] in
-    let begun = left (eqb (m .scanner .count) 0 && ltb n 6) (leb 40 room) goes in
-    let below : n < 6 = below-six (m .scanner .count) n room goes in
-    let same : lengthIn (six ++ rest) ≡ n = length-front six rest (rw is at below) ∙ sym is in
-    let line : take n (six ++ rest) ≡ take n (a ∷ b ∷ c ∷ d ∷ e ∷ []) = take-append-le n (a ∷ b ∷ c ∷ d ∷ e ∷ []) (f ∷ rest) (omega arith) in
-    rw (same, line) at (goes-line (six ++ rest) m room five (eqb-true _ _ (left (eqb (m .scanner .count) 0) (ltb n 6) begun)) (omega (arith, same)) (omega (arith, same))
-    (leb-true 40 room (right (eqb (m .scanner .count) 0 && ltb n 6) (leb 40 room) goes)))
-goes-six [] m room n there is five goes = absurd (omega arith)
-goes-six (a ∷ []) m room n there is five goes = absurd (omega arith)
-goes-six (a ∷ b ∷ []) m room n there is five goes = absurd (omega arith)
-goes-six (a ∷ b ∷ c ∷ []) m room n there is five goes = absurd (omega arith)
-goes-six (a ∷ b ∷ c ∷ d ∷ []) m room n there is five goes = absurd (omega arith)
-goes-six (a ∷ b ∷ c ∷ d ∷ e ∷ []) m room n there is five goes = absurd (omega arith)
+    let input = six ++ rest in
+    let m = passedTo n r in
+    let told = tells taken in
+    let same : lengthIn input ≡ lengthIn six = length-front six rest (told .1) in
+    let long : suc (lengthIn input) ≡ t .taken = omega (arith, same, told .0) in
+    let line : take (lengthIn input) input ≡ take (lengthIn six) six = ap (λ (k : ℕ). take k input) same ∙ take-append-le (lengthIn six) six rest (omega (arith, told .1)) in
+    let turn : lineTurn m (take (lengthIn input) input) ≡ wordTurn n r (t .word) =
+    ap (lineTurn m) line ∙ ap (λ (l : Line). turning m (takenOf (m .scanner) l)) (told .2) ∙ word-turn n r (t .word) some few in
+    let fits : length (lineTurn m (take (lengthIn input) input) .text) ≤ room = subst (λ (u : Turning). length (u .text) ≤ room) (sym turn) (omega (arith, few-word n r (t .word) some few)) in
+    subst (λ (k : ℕ). Together m input room k (wordTurn n r (t .word))) long
+    (subst (λ (u : Turning). Together m input room (suc (lengthIn input)) u) turn (line-together input m room refl (omega (arith, same, told .1)) (omega (arith, same, told .1)) fits))
+word-goes [] room n r t there some few h tells taken = absurd (omega arith)
+word-goes (a ∷ []) room n r t there some few h tells taken = absurd (omega arith)
+word-goes (a ∷ b ∷ []) room n r t there some few h tells taken = absurd (omega arith)
+word-goes (a ∷ b ∷ c ∷ []) room n r t there some few h tells taken = absurd (omega arith)
+word-goes (a ∷ b ∷ c ∷ d ∷ []) room n r t there some few h tells taken = absurd (omega arith)
+word-goes (a ∷ b ∷ c ∷ d ∷ e ∷ []) room n r t there some few h tells taken = absurd (omega arith)

@@ -2,6 +2,7 @@
 -- calls worked out (Worked); its items go up line by line to an end (Ordered); listers stay good (Keeps) and end (Ended); two permitted answers are equal (Answers), and what a refusal leaves
 -- (Refusals); and what the functions' proofs share.
 pub mod Answers
+pub mod Bytes
 pub mod Calls
 pub mod Ended
 pub mod Feeds

@@ -1,19 +1,21 @@
 -- The lister: the scanner and the reader behind it, fed byte by byte, with the text of each byte; and a piece of the input, which stops for room.
-use Prim.Native.Nat.{ℕ, _-_, _<_, _≤_}
+use Prim.Native.Nat.{ℕ}
 use mathlib.Core.Path.{_≡_}
-use mathlib.Core.Bool.{Bool, not, cond, _&&_}
+use mathlib.Core.Bool.{Bool, false, not, cond, _&&_}
 use mathlib.Core.List.{List, [], _++_}
-use lib.ListN.{length, drop}
+use lib.ListN.{length}
 use lib.Dec.{ltb, eqb}
-use Rattle.fold.specs.Fold.{Machine, Ran, ran, behind, written, run}
+use Rattle.fold.specs.Fold.{Machine, Ran, ran, written, run, Part}
 use Rattle.reader.specs.Good as reader
+use Rattle.reader.specs.declared.Reader.{Reader}
 use Rattle.text.specs.Growth.{grownBy, textOf}
 use Rattle.text.specs.declared.Text.{Text}
 use Rattle.listing.specs.Scanning as scanner
-use Rattle.listing.specs.Scanning.{width, unfed, scannedByte, closedOf, endOf}
+use Rattle.listing.specs.Scanning.{width, scan, unfed, scannedByte, closedOf, endOf}
 use Rattle.listing.specs.Items.{gaveOf, itemsIn}
 use Rattle.listing.specs.Printing.{lineOf, opening, allBytes}
 use Rattle.listing.specs.Listing.{waiting}
+use Rattle.listing.specs.declared.Found.the-variants.{Nothing}
 use Rattle.listing.specs.declared.Item.{Item}
 use Rattle.listing.specs.declared.Scan.{Scan}
 use Rattle.listing.specs.declared.Scanner.{Scanner}
@@ -38,6 +40,10 @@ after m s = record { scanner = s .next; reader = gaveOf (m .reader) (s .found) .
 
 abbrev pub itemsOf : Lister → Scan → List Item
 itemsOf m s = itemsIn (gaveOf (m .reader) (s .found) .given)
+
+-- the lister at the start of a line, behind n others
+abbrev pub passedTo : ℕ → Reader → Lister
+passedTo n r = record { scanner = scan n false Nothing .next; reader = r }
 
 -- a lister, and the text that it writes
 pub record Turning : Type 0 where
@@ -87,21 +93,15 @@ fed f = record { next = f .next; taken = length (f .answers); text = written fee
 unfoldable pub feedIn : Lister → List ℕ → ℕ → Feed
 feedIn m input room = fed (run feeds m input room)
 
--- bytes at the front of a piece that are taken together: the lister after them, and their text
-pub record Together (m : Lister) (input : List ℕ) (room taken : ℕ) (t : Turning) : Type 0 where
+-- bytes at the front of a piece are taken: the lister behind them, their texts, and the slice
+pub record Stands (m : Lister) (input before : List ℕ) (next : Lister) (taken used : ℕ) (after : List ℕ) : Type 0 where
   pub texts : List (List ℕ)
-  pub many : length texts ≡ taken
-  pub wrote : written feeds texts ≡ t .text
-  pub runs : run feeds m input room ≡ behind texts (run feeds (t .next) (drop taken input) (room - length (t .text)))
+  pub part : Part feeds m input before texts taken used next after
 
--- where their text has room; else the piece ends before them
-pub record Goes (m : Lister) (input : List ℕ) (room : ℕ) (f : Front) : Type 0 where
-  pub turns : Turning
-  pub is : f .turn ≡ turned turns
-  pub few : length (turns .text) ≤ 40
-  pub some : 1 ≤ f .taken
-  pub goes : length (turns .text) ≤ room → Together m input room (f .taken) turns
-  pub stops : room < length (turns .text) → run feeds m input room ≡ ran 0 m []
+-- what is given back for them; where no byte is taken the piece ends there
+pub record Begins (m : Lister) (input before : List ℕ) (f : Front) (after : List ℕ) : Type 0 where
+  pub stands : Stands m input before (f .next) (f .taken) (f .used) after
+  pub stops : f .taken ≡ 0 → run feeds m input (length before) ≡ ran 0 m []
 
 -- the end: all of it, or nothing where it has no room
 unfoldable pub finishIn : Lister → ℕ → Feed

@@ -1,9 +1,11 @@
 -- The lines of an input, and what each says.
-use Prim.Native.Nat.{ℕ, suc}
+use Prim.Native.Nat.{ℕ, suc, _+_, _<_}
+use mathlib.Core.Path.{_≡_}
 use mathlib.Core.Bool.{cond, _&&_}
 use mathlib.Core.List.{List, [], _∷_}
 use lib.Dec.{leb, eqb}
 use lib.IntN.{pos, negsuc}
+use lib.ListN.{take}
 use Rattle.frames.specs.Words.{break, silence}
 use Rattle.wire.specs.Line.{known}
 use Rattle.text.specs.Decimals.{plain, numberIn}
@@ -11,6 +13,7 @@ use Rattle.text.specs.declared.Number.{Number}
 use Rattle.text.specs.declared.Number.the-variants.{None, Is}
 use Rattle.listing.specs.declared.Line.{Line}
 use Rattle.listing.specs.declared.Line.the-variants as line
+use Rattle.listing.specs.declared.Told.{Told}
 
 abbrev pub newline : ℕ
 newline = 0x0A
@@ -62,3 +65,7 @@ saidBy (a ∷ []) = markIn a
 saidBy (a ∷ b ∷ []) = line.Bad
 saidBy (a ∷ b ∷ c ∷ cs) =
     cond (eqb a 0x46 && eqb b tab) (formatIn c cs) (cond (eqb a 0x42 && eqb b tab) (byteIn (c ∷ cs)) line.Bad)
+
+-- a line of a word lies whole at the front of six bytes: so many with its newline, and the word
+abbrev pub Tells : List ℕ → Told → Type 0
+Tells six t = (t .taken ≡ 0 → ⊥) → (t .taken ≡ lengthIn six + 1) × (lengthIn six < 6) × (saidBy (take (lengthIn six) six) ≡ line.Word (t .word))

@@ -3,7 +3,7 @@ ghost use mathlib.Core.Path.{_≡_};
 ghost use Prim.Native.Nat.{_<_};
 ghost use lib.ListN.{length};
 ghost use Rattle.text.specs.Growth.{textOf};
-ghost use Rattle.listing.specs.Feeding.{frontOf, turning, lastOf, turnOf, turned, Goes, feedIn, good};
+ghost use Rattle.listing.specs.Feeding.{frontOf, turning, lastOf, turnOf, turned, passedTo, Stands, Begins, feedIn, good};
 ghost use Rattle.listing.specs.Promises.{FreshPromise, FeedPromise, FinishPromise, whole, written};
 use crate::Front;
 use crate::Listed;
@@ -15,6 +15,7 @@ use crate::WIDTH;
 use crate::items;
 use crate::lines;
 use crate::printing;
+use crate::scanning::most_lines;
 use reader::Reader;
 use text::Text;
 
@@ -30,6 +31,70 @@ fn answer(refusal: u8, next: Lister, taken: usize, written: usize) -> Listed
         written: written,
         ended: scanner.ended,
     }
+}
+
+// Bytes taken, the lister behind them, and the places used.
+fn front(next: Lister, taken: usize, used: usize) -> Front
+    ensures { λ r. ⌜ r ≡ record { next = next; taken = taken; used = used } ⌝ }
+{
+    Front {
+        next: next,
+        taken: taken,
+        used: used,
+    }
+}
+
+// The same at the start of a line, behind n others.
+fn passed(n: u32, reader: Reader, taken: usize, used: usize) -> Front
+    ensures { λ r. ⌜ r ≡ record { next = passedTo n reader; taken = taken; used = used } ⌝ }
+{
+    let next = Lister {
+        scanner: Scanner {
+            line: n,
+            ended: false,
+            held: [0, 0, 0, 0, 0],
+            count: 0,
+        },
+        reader: reader,
+    };
+    front(next, taken, used)
+}
+
+// The lines of words at the front of a piece, behind some lines: each is read and printed at once, as long as any text has room.
+fn words(line: u32, reader: Reader, input: &[u8], out: &mut [u8]) -> Front
+    requires { ⌜ 0 < line ⌝ }
+    ensures { λ r. ⌜ Stands (passedTo line reader) (now (input .entry)) (now (out .entry)) (r .next) (r .taken) (r .used) (now (out .exit)) ⌝ }
+{
+    let most = most_lines();
+    let mut n = line;
+    let mut r = reader;
+    let mut at: usize = 0;
+    let mut used: usize = 0;
+    while at + 6 <= input.len() {
+        if out.len() - used < 40 {
+            return passed(n, r, at, used);
+        }
+        if n >= most {
+            return passed(n, r, at, used);
+        }
+        let a = input[at];
+        let b = input[at + 1];
+        let c = input[at + 2];
+        let d = input[at + 3];
+        let e = input[at + 4];
+        let told = lines::word_at(a, b, c, d, e, input[at + 5]);
+        if told.taken == 0 {
+            return passed(n, r, at, used);
+        }
+        n = n + 1;
+        let gave = items::word(r, n, told.word);
+        let next = gave.next;
+        let given = gave.given;
+        used = printing::put(out, used, WIDTH, given);
+        r = next;
+        at = at + told.taken;
+    }
+    passed(n, r, at, used)
 }
 
 impl Lister {
@@ -77,31 +142,46 @@ impl Lister {
         answer(0, next, 0, n)
     }
 
-    // What is at the front of a piece: a line, where it lies whole in it and its text has room, or else a byte.
-    fn first(self, input: &[u8], room: usize) -> Front
+    // The first byte of a piece, and its text to the front of a slice; none where its text has no room.
+    fn first(self, input: &[u8], out: &mut [u8]) -> Front
         requires { ⌜ 0 < length (now input) ⌝ }
-        ensures { λ r. ⌜ Goes self (now (input .entry)) room r ⌝ }
+        ensures { λ r. ⌜ Begins self (now (input .entry)) (now (out .entry)) r (now (out .exit)) ⌝ }
     {
         let scanner = self.scanner;
-        if input.len() >= 6 {
-            let a = input[0];
-            let b = input[1];
-            let c = input[2];
-            let d = input[3];
-            let e = input[4];
-            let n = lines::length(a, b, c, d, e, input[5]);
-            if (scanner.count == 0) & (n < 6) & (room >= 40) {
-                let line = lines::said_by(n, a, b, c, d, e);
-                return Front {
-                    taken: n + 1,
-                    turn: self.opened(scanner.taken(line)),
-                };
-            }
+        let t = self.opened(scanner.byte(input[0]));
+        let text = t.text;
+        let n = text.len;
+        if !text.put(out, 0) {
+            return front(self, 0, 0);
         }
-        Front {
-            taken: 1,
-            turn: self.opened(scanner.byte(input[0])),
+        let next = t.next;
+        front(next, 1, n)
+    }
+
+    // The lines of words at the front of a piece, where it begins with a line.
+    fn quickly(self, input: &[u8], out: &mut [u8]) -> Front
+        ensures { λ r. ⌜ Stands self (now (input .entry)) (now (out .entry)) (r .next) (r .taken) (r .used) (now (out .exit)) ⌝ }
+    {
+        let scanner = self.scanner;
+        let h = scanner.held;
+        let empty = (h[0] == 0) & (h[1] == 0) & (h[2] == 0) & (h[3] == 0) & (h[4] == 0);
+        let starts = (scanner.count == 0) & !scanner.ended & empty;
+        if !(starts & (scanner.line > 0)) {
+            return front(self, 0, 0);
         }
+        words(scanner.line, self.reader, input, out)
+    }
+
+    // The front of a piece: lines of words, or else a byte.
+    fn part(self, input: &[u8], out: &mut [u8]) -> Front
+        requires { ⌜ 0 < length (now input) ⌝ }
+        ensures { λ r. ⌜ Begins self (now (input .entry)) (now (out .entry)) r (now (out .exit)) ⌝ }
+    {
+        let q = self.quickly(input, out);
+        if q.taken != 0 {
+            return q;
+        }
+        self.first(input, out)
     }
 
     // The bytes of a piece, one front after the other.
@@ -112,17 +192,14 @@ impl Lister {
         let mut at: usize = 0;
         let mut used: usize = 0;
         while at < input.len() {
-            let front = m.first(&input[at..], out.len() - used);
-            let t = front.turn;
-            let text = t.text;
-            let n = text.len;
-            if !text.put(out, used) {
+            let f = m.part(&input[at..], &mut out[used..]);
+            if f.taken == 0 {
                 return answer(0, m, at, used);
             }
-            let next = t.next;
+            let next = f.next;
             m = next;
-            at = at + front.taken;
-            used = used + n;
+            at = at + f.taken;
+            used = used + f.used;
         }
         answer(0, m, at, used)
     }

@@ -64,7 +64,7 @@ fn answered(letter: u8, n: u32, answer: Answer) -> Given
 }
 
 // A word of line n.
-fn word(reader: Reader, n: u32, word: u16) -> Gave
+pub(crate) fn word(reader: Reader, n: u32, word: u16) -> Gave
     ensures { λ r. ⌜ r ≡ wordGave reader n word ⌝ }
 {
     let read = reader.step(word);

@@ -109,10 +109,17 @@ pub(crate) struct Turn {
     pub text: Text,
 }
 
-// The bytes at the front of a piece that are taken together, and the turn that they make.
+// The bytes at the front of a piece that are taken together: the lister behind them, how many they are, and the places of their text.
 pub(crate) struct Front {
+    pub next: Lister,
     pub taken: usize,
-    pub turn: Turn,
+    pub used: usize,
+}
+
+// The bytes of a line with its newline, 0 where there is none, and its word.
+pub(crate) struct Told {
+    pub taken: usize,
+    pub word: u16,
 }
 
 // The first line of a salvage: `S` and the width of line numbers.

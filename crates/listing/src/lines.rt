@@ -2,8 +2,10 @@
 ghost use mathlib.Core.Path.{_≡_};
 ghost use mathlib.Core.List.{[], _∷_};
 ghost use lib.ListN.{take};
-ghost use Rattle.listing.specs.Lines.{lengthIn, byteOf, byteIn, markIn, formatIn, saidBy};
+ghost use Rattle.text.specs.Decimals.{isDigit};
+ghost use Rattle.listing.specs.Lines.{tab, byteOf, byteIn, markIn, formatIn, saidBy, Tells};
 use crate::Line;
+use crate::Told;
 use text::Number;
 
 // A line of one byte.
@@ -52,31 +54,6 @@ fn decimal(n: usize, c: u8, d: u8, e: u8) -> Line
     byte(Number::read(&digits, 1))
 }
 
-// The bytes in front of the first newline of six; 6 where none of them is one.
-pub(crate) fn length(a: u8, b: u8, c: u8, d: u8, e: u8, f: u8) -> usize
-    ensures { λ r. ⌜ r ≡ lengthIn (a ∷ b ∷ c ∷ d ∷ e ∷ f ∷ []) ⌝ }
-{
-    if a == b'\n' {
-        return 0;
-    }
-    if b == b'\n' {
-        return 1;
-    }
-    if c == b'\n' {
-        return 2;
-    }
-    if d == b'\n' {
-        return 3;
-    }
-    if e == b'\n' {
-        return 4;
-    }
-    if f == b'\n' {
-        return 5;
-    }
-    6
-}
-
 // The line that the first n of five bytes are.
 pub(crate) fn said_by(n: usize, a: u8, b: u8, c: u8, d: u8, e: u8) -> Line
     ensures { λ r. ⌜ r ≡ saidBy (take n (a ∷ b ∷ c ∷ d ∷ e ∷ [])) ⌝ }
@@ -97,4 +74,74 @@ pub(crate) fn said_by(n: usize, a: u8, b: u8, c: u8, d: u8, e: u8) -> Line
         return decimal(n - 2, c, d, e);
     }
     Line::Bad
+}
+
+// The bytes of a line, and its word.
+fn told(taken: usize, word: u16) -> Told
+    ensures { λ r. ⌜ r ≡ record { taken = taken; word = word } ⌝ }
+{
+    Told {
+        taken: taken,
+        word: word,
+    }
+}
+
+fn is_digit(c: u8) -> bool
+    ensures { λ r. ⌜ r ≡ isDigit c ⌝ }
+{
+    (b'0' <= c) & (c <= b'9')
+}
+
+// The byte of a line that begins with `B` and a tab.
+fn byte_at(c: u8, d: u8, e: u8, f: u8) -> Told
+    ensures { λ r. ⌜ Tells (0x42 ∷ tab ∷ c ∷ d ∷ e ∷ f ∷ []) r ⌝ }
+{
+    if !is_digit(c) {
+        return told(0, 0);
+    }
+    let one = (c - 48) as u16;
+    if d == b'\n' {
+        return told(4, one);
+    }
+    if !is_digit(d) {
+        return told(0, 0);
+    }
+    if c == b'0' {
+        return told(0, 0);
+    }
+    let two = 10 * one + (d - 48) as u16;
+    if e == b'\n' {
+        return told(5, two);
+    }
+    if !is_digit(e) {
+        return told(0, 0);
+    }
+    if f != b'\n' {
+        return told(0, 0);
+    }
+    let three = 10 * two + (e - 48) as u16;
+    if three > 255 {
+        return told(0, 0);
+    }
+    told(6, three)
+}
+
+// The word of a line that lies whole at the front of six bytes.
+pub(crate) fn word_at(a: u8, b: u8, c: u8, d: u8, e: u8, f: u8) -> Told
+    ensures { λ r. ⌜ Tells (a ∷ b ∷ c ∷ d ∷ e ∷ f ∷ []) r ⌝ }
+{
+    if a == b'B' {
+        if b != b'\t' {
+            return told(0, 0);
+        }
+        return byte_at(c, d, e, f);
+    }
+    if b != b'\n' {
+        return told(0, 0);
+    }
+    match a {
+        b'Q' => told(2, 257),
+        b'X' => told(2, 256),
+        _ => told(0, 0),
+    }
 }

@@ -1,13 +1,15 @@
-// Items, to bytes behind a text: a line is a letter and its fields, each behind a tab.
+// Items, to bytes in a slice or behind a text: a line is a letter and its fields, each behind a tab.
 ghost use mathlib.Core.Path.{_≡_};
-ghost use mathlib.Core.List.{_∷_};
-ghost use Rattle.text.specs.Growth.{grownBy, textOf};
+ghost use mathlib.Core.List.{[], _∷_};
+ghost use lib.IntN.{pos};
+ghost use Rattle.text.specs.Decimals.{decimalOf};
+ghost use Rattle.text.specs.Growth.{grownBy, textOf, slice, filledBy};
 ghost use Rattle.listing.specs.Lines.{tab};
 ghost use Rattle.listing.specs.Items.{itemsIn};
 ghost use Rattle.listing.specs.Promises.{LinePromise};
-ghost use Rattle.listing.specs.Printing.{pressed, middle, three, over, fieldOf, formOf, headOf, lineOf, firstLetter, openingOf, allBytes};
+ghost use Rattle.listing.specs.Printing.{pressed, middle, three, over, form, formOf, headOf, lineOf, firstLetter, openingOf, allBytes};
+ghost use Rattle.listing.specs.declared.Field.the-variants.{Number};
 use crate::Buttons;
-use crate::Field;
 use crate::Given;
 use crate::Item;
 use crate::Middle;
@@ -33,78 +35,106 @@ fn middle(of: Middle) -> u8
     }
 }
 
-fn three(front: Text, buttons: Buttons) -> Text
-    ensures { λ r. ⌜ r ≡ grownBy front (three buttons) ⌝ }
+// The buttons behind a tab.
+fn three(out: &mut [u8], at: usize, buttons: Buttons) -> usize
+    ensures { λ r. ⌜ slice (now (out .exit)) r ≡ filledBy (slice (now (out .entry)) at) (tab ∷ three buttons) ⌝ }
 {
     let mid = buttons.middle;
-    front
-        .with(pressed(buttons.left, b'L'))
-        .with(middle(mid))
-        .with(pressed(buttons.right, b'R'))
+    let left = Text::byte_to(out, at, b'\t');
+    let second = Text::byte_to(out, left, pressed(buttons.left, b'L'));
+    let right = Text::byte_to(out, second, middle(mid));
+    Text::byte_to(out, right, pressed(buttons.right, b'R'))
 }
 
-fn over(front: Text) -> Text
-    ensures { λ r. ⌜ r ≡ grownBy front over ⌝ }
+fn over(out: &mut [u8], at: usize) -> usize
+    ensures { λ r. ⌜ slice (now (out .exit)) r ≡ filledBy (slice (now (out .entry)) at) (tab ∷ over) ⌝ }
 {
-    front.with(b'o').with(b'v').with(b'e').with(b'r')
+    let o = Text::byte_to(out, at, b'\t');
+    let v = Text::byte_to(out, o, b'o');
+    let e = Text::byte_to(out, v, b'v');
+    let r = Text::byte_to(out, e, b'e');
+    Text::byte_to(out, r, b'r')
 }
 
-// A field behind a tab, line numbers at a width.
-fn field(front: Text, width: u8, field: Field) -> Text
-    ensures { λ r. ⌜ r ≡ grownBy front (tab ∷ fieldOf width field) ⌝ }
+// A number behind a tab, at a width.
+fn number(out: &mut [u8], at: usize, width: usize, x: i64) -> usize
+    ensures { λ r. ⌜ slice (now (out .exit)) r ≡ filledBy (slice (now (out .entry)) at) (tab ∷ decimalOf width x) ⌝ }
 {
-    let behind = front.with(b'\t');
-    match field {
-        Field::Line(n) => behind.decimal(width as usize, n as i64),
-        Field::Number(x) => behind.decimal(PLAIN, x),
-        Field::Pressed(buttons) => three(behind, buttons),
-        Field::Over => over(behind),
-    }
+    let behind = Text::byte_to(out, at, b'\t');
+    Text::decimal_to(out, behind, width, x)
 }
 
-// A letter and the first field of its line.
-fn letter(front: Text, width: u8, letter: u8, first: Field) -> Text
-    ensures { λ r. ⌜ r ≡ grownBy front (letter ∷ tab ∷ fieldOf width first) ⌝ }
-{
-    field(front.with(letter), width, first)
-}
-
-// The letter and the fields of an item.
-fn fields(front: Text, width: u8, item: Item) -> Text
-    ensures { λ r. ⌜ r ≡ grownBy front (headOf width (formOf item)) ⌝ }
+// The letter and the fields of an item, line numbers at a width.
+fn fields(out: &mut [u8], at: usize, width: u8, item: Item) -> usize
+    ensures { λ r. ⌜ slice (now (out .exit)) r ≡ filledBy (slice (now (out .entry)) at) (headOf width (formOf item)) ⌝ }
 {
     match item {
-        Item::D(n, k) => field(
-            letter(front, width, b'D', Field::Line(n)),
-            width,
-            Field::Number(k as i64),
-        ),
-        Item::R(n, buttons, x, y) => {
-            let pressed = field(
-                letter(front, width, b'R', Field::Line(n)),
-                width,
-                Field::Pressed(buttons),
-            );
-            field(
-                field(pressed, width, Field::Number(x)),
-                width,
-                Field::Number(y),
-            )
+        Item::D(n, k) => {
+            let first = Text::byte_to(out, at, b'D');
+            let second = number(out, first, width as usize, n as i64);
+            number(out, second, PLAIN, k as i64)
         }
-        Item::H(k) => letter(front, width, b'H', Field::Number(k as i64)),
-        Item::E(n) => letter(front, width, b'E', Field::Line(n)),
-        Item::Over => letter(front, width, b'E', Field::Over),
+        Item::R(n, buttons, x, y) => {
+            let first = Text::byte_to(out, at, b'R');
+            let second = number(out, first, width as usize, n as i64);
+            let third = three(out, second, buttons);
+            let fourth = number(out, third, PLAIN, x);
+            number(out, fourth, PLAIN, y)
+        }
+        Item::H(k) => {
+            let first = Text::byte_to(out, at, b'H');
+            number(out, first, PLAIN, k as i64)
+        }
+        Item::E(n) => {
+            let first = Text::byte_to(out, at, b'E');
+            number(out, first, width as usize, n as i64)
+        }
+        Item::Over => {
+            let first = Text::byte_to(out, at, b'E');
+            over(out, first)
+        }
     }
+}
+
+// The line of an item, to a slice at a place, and the place behind it.
+fn line_to(out: &mut [u8], at: usize, width: u8, item: Item) -> usize
+    ensures { λ r. ⌜ slice (now (out .exit)) r ≡ filledBy (slice (now (out .entry)) at) (lineOf width (formOf item)) ⌝ }
+{
+    let end = fields(out, at, width, item);
+    Text::byte_to(out, end, b'\n')
 }
 
 // The line of what is given, if anything.
+pub(crate) fn put(out: &mut [u8], at: usize, width: u8, given: Given) -> usize
+    ensures { λ r. ⌜ slice (now (out .exit)) r ≡ filledBy (slice (now (out .entry)) at) (allBytes width (itemsIn given)) ⌝ }
+{
+    match given {
+        Given::Nothing => at,
+        Given::One(item) => line_to(out, at, width, item),
+    }
+}
+
+// The same behind a text.
 pub(crate) fn printed(front: Text, width: u8, given: Given) -> Text
     ensures { λ r. ⌜ r ≡ grownBy front (allBytes width (itemsIn given)) ⌝ }
 {
-    match given {
-        Given::Nothing => front,
-        Given::One(item) => fields(front, width, item).with(b'\n'),
+    let mut bytes = front.bytes;
+    let len = put(&mut bytes, front.len, width, given);
+    Text {
+        bytes: bytes,
+        len: len,
     }
+}
+
+// A first line: its letter, and the width of line numbers.
+fn headed(letter: u8, width: u8) -> Text
+    ensures { λ r. ⌜ r ≡ textOf (lineOf width (form letter (Number (pos width) ∷ []))) ⌝ }
+{
+    Text::none()
+        .with(letter)
+        .with(b'\t')
+        .decimal(PLAIN, width as i64)
+        .with(b'\n')
 }
 
 // The letter that a listing begins with, or a salvage's.
@@ -118,12 +148,7 @@ fn first(salvage: bool) -> u8
 pub(crate) fn opening(salvage: bool, width: u8) -> Text
     ensures { λ r. ⌜ r ≡ textOf (lineOf width (openingOf salvage width)) ⌝ }
 {
-    letter(
-        Text::none(),
-        width,
-        first(salvage),
-        Field::Number(width as i64),
-    ).with(b'\n')
+    headed(first(salvage), width)
 }
 
 impl Given {
@@ -133,7 +158,7 @@ impl Given {
     {
         match self {
             Given::Nothing => opening(salvage, width),
-            Given::One(item) => fields(Text::none(), width, item).with(b'\n'),
+            Given::One(item) => printed(Text::none(), width, Given::One(item)),
         }
     }
 }

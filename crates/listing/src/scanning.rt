@@ -12,7 +12,7 @@ use crate::WIDTH;
 use crate::lines;
 
 // The most lines: as many as the width of line numbers holds.
-fn most_lines() -> u32
+pub(crate) fn most_lines() -> u32
     ensures { λ r. ⌜ r ≡ mostLines ⌝ }
 {
     let tens = [1u32, 10, 100, 1_000, 10_000, 100_000, 1_000_000];

@@ -1,11 +1,12 @@
 -- Two answers that meet a promise are equal.
 use Prim.Native.Nat.{ℕ}
-use mathlib.Core.Path.{_≡_, sym, _∙_}
+use mathlib.Core.Path.{_≡_, sym, _∙_, ap}
 use mathlib.Core.Bool.{Bool, false}
 use mathlib.Core.List.{List}
 use lib.IntN.{ℤ}
+use Rattle.text.specs.Growth.{slice}
 use Rattle.text.proofs.Laws.{put-none}
-use Rattle.text.specs.Promises.{NonePromise, WithPromise, DecimalPromise, NumberPromise, PutPromise}
+use Rattle.text.specs.Promises.{NonePromise, WithPromise, DecimalPromise, NumberPromise, PutPromise, ByteToPromise, DecimalToPromise}
 use Rattle.text.specs.declared.Number.{Number}
 use Rattle.text.specs.declared.Text.{Text}
 
@@ -28,3 +29,14 @@ one-put t at before p q = (p .0 ∙ sym (q .0), p .1 ∙ sym (q .1))
 -- what is not put leaves the slice as it was
 pub put-leaves : (t : Text) (at : ℕ) (before after : List ℕ) → PutPromise t at before false after → after ≡ before
 put-leaves t at before after p = p .1 ∙ put-none t at before (sym (p .0))
+
+same-slice : {a b : ℕ} {left right : List ℕ} → slice left a ≡ slice right b → (a ≡ b) × (left ≡ right)
+same-slice e = (ap (λ (t : Text). t .len) e, ap (λ (t : Text). t .bytes) e)
+
+pub one-byte-to : (before : List ℕ) (at byte : ℕ) {a b : ℕ} {left right : List ℕ} → ByteToPromise before at byte a left → ByteToPromise before at byte b right
+    → (a ≡ b) × (left ≡ right)
+one-byte-to before at byte p q = same-slice (p ∙ sym q)
+
+pub one-decimal-to : (before : List ℕ) (at width : ℕ) (x : ℤ) {a b : ℕ} {left right : List ℕ} → DecimalToPromise before at width x a left
+    → DecimalToPromise before at width x b right → (a ≡ b) × (left ≡ right)
+one-decimal-to before at width x p q = same-slice (p ∙ sym q)

@@ -9,34 +9,30 @@ use native.Mathlib.Nat.{add-zero, zero-add, not-suc-le-zero}
 use lib.Dec.{T, ltb, leb, eqb}
 use lib.IntN.{ℤ, pos, negsuc, negℤ, _-ℤ_, natAbs, +ℤ-idl}
 use lib.Signed.{ltZ}
-use lib.ListN.{length, getD, drop, length-append, drop-of-length-le}
-use lib.Seq.{drop-cons}
+use lib.ListN.{length, getD, set, drop, length-append, drop-of-length-le}
+use lib.Seq.{drop-cons, sets}
 use borrow.Author.Tests.{ltb-true, ltb-false, lt-ltb, le-ltb, leb-true, le-leb, lt-leb, eqb-true, eq-eqb, ne-eqb}
 use mir.Syntax.{w64}
 use mir.Val.{SFits}
 use Rattle.numbers.proofs.Tested.{left, right}
 use Rattle.numbers.proofs.Choices.{cases}
-use Rattle.text.specs.Growth.{grown, grownBy}
 use Rattle.text.specs.Decimals.{digitOf, digitsOf, sizeIn, sizeOf, placesOf, unsignedOf, decimalOf, isDigit, allDigits, valueOf, most, readable, plusIn, minus, hasMinus, numberIn}
 use Rattle.text.specs.declared.Number.{Number}
 use Rattle.text.specs.declared.Number.the-variants.{None, Is}
-use Rattle.text.specs.declared.Text.{Text}
-use Rattle.text.proofs.Laws.{both}
+use Rattle.text.proofs.Filled.{last-first}
 
 -- digits
-pub no-digits : (t : Text) (places n : ℕ) → places ≡ 0 → t ≡ grownBy t (digitsOf places n)
-unfolding digitsOf
-no-digits t places n h = rw h
-
-pub one-digit : (t r s : Text) (places n d : ℕ) → (places ≡ 0 → ⊥) → r ≡ grownBy t (digitsOf (places - 1) (n / 10)) → d ≡ digitOf n → s ≡ grown r d → s ≡ grownBy t (digitsOf places n)
-unfolding digitsOf
-one-digit t r s zero n d h e f g = absurd (h refl)
-one-digit t r s (suc places) n d h e f g = let z : suc places - 1 ≡ places = omega arith in g ∙ rw (e, z, f) (both t (digitsOf places (n / 10)) (digitOf n ∷ []))
-
 pub digits-long : (places n : ℕ) → length (digitsOf places n) ≡ places
 unfolding digitsOf
 digits-long zero n = refl
 digits-long (suc places) n = length-append (digitsOf places (n / 10)) _ ∙ omega (arith, digits-long places (n / 10))
+
+pub one-digit : (l : List ℕ) (at k n : ℕ) → 1 ≤ k → sets (set l (at + (k - 1)) (digitOf n)) at (digitsOf (k - 1) (n / 10)) ≡ sets l at (digitsOf k n)
+unfolding digitsOf
+one-digit l at zero n h = absurd (omega arith)
+one-digit l at (suc k) n h =
+    let z : suc k - 1 ≡ k = omega arith in
+    rw z (sym (last-first (digitsOf k (n / 10)) l at (digitOf n) ∙ rw (digits-long k (n / 10))))
 
 -- the digits that a number needs
 size-in : (f g n : ℕ) → n ≤ f → n ≤ g → sizeIn f n ≡ sizeIn g n
@@ -152,6 +148,10 @@ places-hold width n =
 pub places-few : (width n p : ℕ) → width ≤ suc p → n < 10 ^ suc p → placesOf width n ≤ suc p
 unfolding placesOf
 places-few width n p h k = cases (λ (q : ℕ). q ≤ suc p) (ltb (sizeOf n) width) (λ _. h) (λ _. size-few n p n k)
+
+pub places-six : (n : ℕ) → n < 10 ^ 6 → placesOf 6 n ≡ 6
+unfolding placesOf
+places-six n h = cases (λ (q : ℕ). q ≡ 6) (ltb (sizeOf n) 6) (λ _. refl) (λ e. omega (arith, size-few n 5 n h, ltb-false (sizeOf n) 6 e))
 
 pub decimal-few : (width p : ℕ) (x : ℤ) → width ≤ suc p → natAbs x < 10 ^ suc p → length (decimalOf width x) ≤ suc (suc p)
 unfolding decimalOf

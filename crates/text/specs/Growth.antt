@@ -30,6 +30,18 @@ grownBy t (b ∷ bs) = grownBy (grown t b) bs
 abbrev pub textOf : List ℕ → Text
 textOf bs = grownBy none bs
 
+-- the places of a slice, of which so many are taken
+abbrev pub slice : List ℕ → ℕ → Text
+slice out at = record { bytes = out; len = at }
+
+-- a byte more in the next of them; where none is left all stays as it is
+unfoldable pub filled : Text → ℕ → Text
+filled t b = cond (leb (length (t .bytes)) (t .len)) t (record { bytes = set (t .bytes) (t .len) b; len = t .len + 1 })
+
+abbrev pub filledBy : Text → List ℕ → Text
+filledBy t [] = t
+filledBy t (b ∷ bs) = filledBy (filled t b) bs
+
 -- whether a text has room in a slice from a place on
 abbrev pub fitsAt : Text → ℕ → List ℕ → Bool
 fitsAt t at out = leb (t .len) capacity && leb (at + t .len) (length out)

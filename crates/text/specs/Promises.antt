@@ -4,7 +4,7 @@ use mathlib.Core.Path.{_≡_}
 use mathlib.Core.Bool.{Bool}
 use mathlib.Core.List.{List}
 use lib.IntN.{ℤ}
-use Rattle.text.specs.Growth.{none, grown, grownBy, fitsAt, putOf}
+use Rattle.text.specs.Growth.{none, grown, grownBy, slice, filled, filledBy, fitsAt, putOf}
 use Rattle.text.specs.Decimals.{decimalOf, numberIn}
 use Rattle.text.specs.declared.Number.{Number}
 use Rattle.text.specs.declared.Text.{Text}
@@ -28,3 +28,11 @@ NumberPromise bytes width r = r ≡ numberIn width bytes
 -- `Text::put(self, out, at)`: whether it was put, and every byte of the slice
 abbrev pub PutPromise : Text → ℕ → List ℕ → Bool → List ℕ → Type 0
 PutPromise t at before r after = (r ≡ fitsAt t at before) × (after ≡ putOf t at before)
+
+-- `Text::byte_to(out, at, b)`: a byte to a slice, and the place behind it
+abbrev pub ByteToPromise : List ℕ → ℕ → ℕ → ℕ → List ℕ → Type 0
+ByteToPromise before at b r after = slice after r ≡ filled (slice before at) b
+
+-- `Text::decimal_to(out, at, width, x)`: the decimal of a number to a slice, and the place behind it
+abbrev pub DecimalToPromise : List ℕ → ℕ → ℕ → ℤ → ℕ → List ℕ → Type 0
+DecimalToPromise before at width x r after = slice after r ≡ filledBy (slice before at) (decimalOf width x)

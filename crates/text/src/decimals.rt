@@ -1,9 +1,9 @@
 // Numbers as decimals, written and read at a width.
 ghost use mathlib.Core.Path.{_≡_};
 ghost use lib.IntN.{natAbs};
-ghost use Rattle.text.specs.Growth.{grownBy};
+ghost use Rattle.text.specs.Growth.{slice, filledBy};
 ghost use Rattle.text.specs.Decimals.{digitOf, digitsOf, sizeOf, placesOf, isDigit, plusIn, minus, hasMinus};
-ghost use Rattle.text.specs.Promises.{DecimalPromise, NumberPromise};
+ghost use Rattle.text.specs.Promises.{DecimalToPromise, DecimalPromise, NumberPromise};
 use crate::Number;
 use crate::Text;
 
@@ -40,10 +40,15 @@ fn size(n: u64) -> usize
     k
 }
 
-// And at a width.
+// And at a width. At a width of six, that of line numbers, those of six digits need not be counted.
 fn places(width: usize, n: u64) -> usize
     ensures { λ r. ⌜ r ≡ placesOf width n ⌝ }
 {
+    if width == 6 {
+        if n < 1_000_000 {
+            return 6;
+        }
+    }
     let needs = size(n);
     if needs < width {
         return width;
@@ -115,37 +120,52 @@ impl Number {
     }
 }
 
+// The last digits of a number, as many as there are places, to a slice: the last is written first.
+fn digits(out: &mut [u8], at: usize, places: usize, n: u64) -> usize
+    ensures { λ r. ⌜ slice (now (out .exit)) r ≡ filledBy (slice (now (out .entry)) at) (digitsOf places n) ⌝ }
+{
+    if at >= out.len() {
+        return at;
+    }
+    let room = out.len() - at;
+    let mut k = places;
+    let mut v = n;
+    while k > 0 {
+        k = k - 1;
+        if k < room {
+            out[at + k] = digit(v);
+        }
+        v = v / 10;
+    }
+    if places < room {
+        return at + places;
+    }
+    at + room
+}
+
 impl Text {
-    // The last digits of a number, as many as there are places.
-    fn digits(self, places: usize, n: u64) -> Text
-        ensures { λ r. ⌜ r ≡ grownBy self (digitsOf places n) ⌝ }
+    // The decimal of a number, of so many digits at least, to a slice at a place, and the place behind it.
+    pub fn decimal_to(out: &mut [u8], at: usize, width: usize, x: i64) -> usize
+        ensures { λ r. ⌜ DecimalToPromise (now (out .entry)) at width x r (now (out .exit)) ⌝ }
     {
-        if places == 0 {
-            return self;
+        let n = magnitude(x);
+        let size = places(width, n);
+        if x < 0 {
+            let behind = Text::byte_to(out, at, b'-');
+            return digits(out, behind, size, n);
         }
-        if places == 1 {
-            return self.with(digit(n));
-        }
-        let tens = n / 10;
-        if places == 2 {
-            return self.with(digit(tens)).with(digit(n));
-        }
-        let hundreds = tens / 10;
-        self.digits(places - 3, hundreds / 10)
-            .with(digit(hundreds))
-            .with(digit(tens))
-            .with(digit(n))
+        digits(out, at, size, n)
     }
 
     // The decimal of a number, of so many digits at least.
     pub fn decimal(self, width: usize, x: i64) -> Text
         ensures { λ r. ⌜ DecimalPromise self width x r ⌝ }
     {
-        let n = magnitude(x);
-        let digits = places(width, n);
-        if x < 0 {
-            return self.with(b'-').digits(digits, n);
+        let mut bytes = self.bytes;
+        let len = Text::decimal_to(&mut bytes, self.len, width, x);
+        Text {
+            bytes: bytes,
+            len: len,
         }
-        self.digits(digits, n)
     }
 }

@@ -3,7 +3,7 @@ ghost use mathlib.Core.Path.{_≡_};
 ghost use Prim.Native.Nat.{_+_, _≤_};
 ghost use lib.ListN.{length};
 ghost use lib.Seq.{paste};
-ghost use Rattle.text.specs.Promises.{NonePromise, WithPromise, PutPromise};
+ghost use Rattle.text.specs.Promises.{NonePromise, WithPromise, ByteToPromise, PutPromise};
 use crate::Text;
 
 // The first n bytes, to a slice from a place on.
@@ -43,6 +43,17 @@ impl Text {
             bytes: bytes,
             len: n + 1,
         }
+    }
+
+    // A byte to a slice at a place, and the place behind it; a full slice stays as it is.
+    pub fn byte_to(out: &mut [u8], at: usize, b: u8) -> usize
+        ensures { λ r. ⌜ ByteToPromise (now (out .entry)) at b r (now (out .exit)) ⌝ }
+    {
+        if at >= out.len() {
+            return at;
+        }
+        out[at] = b;
+        at + 1
     }
 
     // To a slice from a place on, and whether there was room.

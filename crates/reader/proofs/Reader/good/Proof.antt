@@ -1,59 +1,61 @@
--- `good`: what is below the size is of a known format, and the array has five places.
-use mathlib.Core.Path.{_≡_, sym}
-use lib.ListN.{length}
-use borrow.Author.Tests.{eq-eqb}
-use Rattle.reader.specs.Good.{good}
-use Rattle.wire.proofs.Letters.{known-below}
+-- `good`: each letter of the table; a reader of another is not good.
 use borrow.Author.Needs.{needs}
+use mathlib.Core.Path.{refl, sym}
+use borrow.Author.Tests.{ne-eqb}
+use Rattle.wire.specs.Line.{namedBy, sizeBy, markedBy, known}
+use Rattle.reader.specs.Good.{good}
 use Rattle.reader.proofs.Reader.good.Statement.{statement}
 use Rattle.reader.proofs.Reader.good.Tie as tie
 
-cast-below : tie.Need-cast-below
-cast-below c = search needs
+keeps-requires : tie.Need-keeps-requires
+unfolding sizeBy markedBy namedBy
+keeps-requires c κs = (sym (c .match .keys1), refl, refl)
 
-size-requires : tie.Need-size-requires
-size-requires c κs = search needs
+keeps-requires-2 : tie.Need-keeps-requires-2
+unfolding sizeBy markedBy namedBy
+keeps-requires-2 c κs = (sym (c .match .keys2), refl, refl)
 
-holds-requires : tie.Need-holds-requires
-holds-requires c κs = search needs
+keeps-requires-3 : tie.Need-keeps-requires-3
+unfolding sizeBy markedBy namedBy
+keeps-requires-3 c κs = (sym (c .match .keys3), refl, refl)
 
-holds-requires-2 : tie.Need-holds-requires-2
-holds-requires-2 c κs = search needs
+keeps-requires-4 : tie.Need-keeps-requires-4
+unfolding sizeBy markedBy namedBy
+keeps-requires-4 c κs = (sym (c .match .keys4), refl, refl)
 
-holds-requires-3 : tie.Need-holds-requires-3
-holds-requires-3 c κs = search needs
+keeps-requires-5 : tie.Need-keeps-requires-5
+unfolding sizeBy markedBy namedBy
+keeps-requires-5 c κs = (sym (c .match .keys5), refl, refl)
 
-holds-requires-4 : tie.Need-holds-requires-4
-holds-requires-4 c κs = search needs
+keeps-requires-6 : tie.Need-keeps-requires-6
+unfolding sizeBy markedBy namedBy
+keeps-requires-6 c κs = (sym (c .match .keys6), refl, refl)
 
-holds-requires-5 : tie.Need-holds-requires-5
-holds-requires-5 c κs = search needs
+keeps-requires-7 : tie.Need-keeps-requires-7
+unfolding sizeBy markedBy namedBy
+keeps-requires-7 c κs = (sym (c .match .keys7), refl, refl)
 
-marked-requires : tie.Need-marked-requires
-marked-requires c κs = search needs
-
-five : (c : tie.Start) → length (c .args .self .kept) ≡ 5
-five c = search needs
-
-returns : tie.Need-returns
-unfolding good
-returns c = let m = c .before .before in
-    let h = m .before in
-    let z = h .before .before .before .before .before in
-    let s = z .before .before in
-    simp
-    (known-below (s .args .self .format) (s .args .self .count), eq-eqb _ _ (five s), z .size .ensures, m .marked .ensures, sym (h .holds5 .ensures), sym (h .before .holds4 .ensures), sym (h .before .before .holds3 .ensures), sym (h .before .before .before .holds2 .ensures), sym (h .before .before .before .before .holds .ensures))
+returns-8 : tie.Need-returns-8
+unfolding good known namedBy
+returns-8 c = let r = c .match .rest in
+    simp (ne-eqb _ _ (r .0 .0 .0 .0 .0 .0 .1), ne-eqb _ _ (r .0 .0 .0 .0 .0 .1), ne-eqb _ _ (r .0 .0 .0 .0 .1), ne-eqb _ _ (r .0 .0 .0 .1), ne-eqb _ _ (r .0 .0 .1), ne-eqb _ _ (r .0 .1), ne-eqb _ _ (r .1))
 
 pub good-spec : {M : Type 1} → statement M
 good-spec =
     tie.close
     (tie.spec
-    cast-below
-    size-requires
-    holds-requires
-    holds-requires-2
-    holds-requires-3
-    holds-requires-4
-    holds-requires-5
-    marked-requires
-    returns)
+    keeps-requires
+    keeps-requires-2
+    keeps-requires-3
+    keeps-requires-4
+    keeps-requires-5
+    keeps-requires-6
+    keeps-requires-7
+    (λ c. search needs)
+    (λ c. search needs)
+    (λ c. search needs)
+    (λ c. search needs)
+    (λ c. search needs)
+    (λ c. search needs)
+    (λ c. search needs)
+    returns-8)
