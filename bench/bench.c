@@ -534,7 +534,7 @@ static void check_one(const char *part, const char *format, const char *name) {
     } else {
         check_words();
         make_recording();
-        check_recording(ends[WORDS - 1]);
+        check_recording(0, ends[WORDS - 1]);
     }
 }
 

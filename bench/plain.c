@@ -1,4 +1,4 @@
-/* Reader, encoder, box and lister in plain C99, written from the paper and its change requests 1, 3, 5, 6 and 14, as a C programmer would write them. */
+/* Reader, encoder, box and lister in plain C99, written from the paper and its change requests 1, 3, 5, 6, 13 and 14, as a C programmer would write them. */
 #include "plain.h"
 #include <string.h>
 

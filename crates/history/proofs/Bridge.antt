@@ -96,7 +96,7 @@ rules-bridge b events k h =
     bridge messageBytes nextBox (λ b e. stepOf b e .words) toldBy Holds step b nothing events (k, h)
 
 -- any answers that the promise permits give the words of the rules
-permitted : (b : BallBox) (events : List Event) (answers : List Stepped) → RunPromise b events answers → wordsGiven answers ≡ givenOver nextBox (λ b e. stepOf b e .words) b events
+pub permitted : (b : BallBox) (events : List Event) (answers : List Stepped) → RunPromise b events answers → wordsGiven answers ≡ givenOver nextBox (λ b e. stepOf b e .words) b events
 unfolding RunPromise givenOver
 permitted b [] [] p = refl
 permitted b [] (a ∷ answers) p = absurd p

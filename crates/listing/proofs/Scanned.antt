@@ -68,19 +68,19 @@ module _ (n : ℕ) (fs : List Found) where
   tell-end = cases Tells (eqb n 0) (λ _. refl) (λ _. refl)
 
 -- bytes in front of the first line
-abbrev ahead : List ℕ → List (List ℕ) → List (List ℕ)
+abbrev pub ahead : List ℕ → List (List ℕ) → List (List ℕ)
 ahead [] ls = ls
 ahead (c ∷ cs) ls = front c (ahead cs ls)
 
-ahead-none : (c : ℕ) (cs : List ℕ) → ahead (c ∷ cs) [] ≡ (c ∷ cs) ∷ []
+pub ahead-none : (c : ℕ) (cs : List ℕ) → ahead (c ∷ cs) [] ≡ (c ∷ cs) ∷ []
 ahead-none c [] = refl
 ahead-none c (d ∷ cs) = ap (front c) (ahead-none d cs)
 
-ahead-line : (p l : List ℕ) (ls : List (List ℕ)) → ahead p (l ∷ ls) ≡ (p ++ l) ∷ ls
+pub ahead-line : (p l : List ℕ) (ls : List (List ℕ)) → ahead p (l ∷ ls) ≡ (p ++ l) ∷ ls
 ahead-line [] l ls = refl
 ahead-line (c ∷ p) l ls = ap (front c) (ahead-line p l ls)
 
-ahead-more : (p : List ℕ) (c : ℕ) (ls : List (List ℕ)) → ahead (p ++ (c ∷ [])) ls ≡ ahead p (front c ls)
+pub ahead-more : (p : List ℕ) (c : ℕ) (ls : List (List ℕ)) → ahead (p ++ (c ∷ [])) ls ≡ ahead p (front c ls)
 ahead-more [] c ls = refl
 ahead-more (d ∷ p) c ls = ap (front d) (ahead-more p c ls)
 

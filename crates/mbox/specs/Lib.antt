@@ -1,0 +1,2 @@
+-- What the program promises of its parts.
+pub mod Blocks
