@@ -1,7 +1,6 @@
 -- All that a worked line computes with: what says `unfolding computing` sees through the rules, and what they rest on.
 use Rattle.numbers.specs.Bits.{bit, bits, number}
 use Rattle.numbers.specs.Signed.{signed, twos, untwos, held, excess}
-use Rattle.numbers.specs.Parity.{withParity}
 use Rattle.fold.specs.Fold.{run}
 use Rattle.wire.specs.Line.{namedBy, sizeBy, markedBy, known}
 use Rattle.wire.specs.Table.{bytesV, rowsV}

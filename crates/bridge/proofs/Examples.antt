@@ -1,17 +1,15 @@
 -- Worked reports and lines of the bridge.
-use Prim.Native.Nat.{ℕ}
 use mathlib.Core.Path.{_≡_, refl}
 use mathlib.Core.Bool.{true, false}
-use mathlib.Core.List.{List, [], _∷_}
+use mathlib.Core.List.{[], _∷_}
 use lib.ListN.{length, replicate}
-use lib.IntN.{ℤ, pos}
+use lib.IntN.{pos}
 use Rattle.numbers.specs.Signed.{minus}
 use Rattle.wire.specs.Reading.{report}
-use Rattle.wire.specs.declared.Report.{Report}
 use Rattle.reader.specs.State.{ready}
 use Rattle.bridge.specs.Remembered.{none, noBase, baseAt}
 use Rattle.bridge.specs.Splitting.{becomes}
-use Rattle.bridge.specs.Line.{Long, whole}
+use Rattle.bridge.specs.Line.{whole}
 use Rattle.bridge.specs.Promises.{withNone, convertOf}
 use Rattle.bridge.specs.declared.Past.{Past}
 use Rattle.bridge.specs.declared.Bridge.{Bridge}

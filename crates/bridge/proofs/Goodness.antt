@@ -5,7 +5,6 @@ use mathlib.Core.Bool.{true}
 use mathlib.Core.List.{List}
 use lib.ListN.{length}
 use Rattle.fold.proofs.Laws.{stays}
-use Rattle.reader.specs.Good as reader
 use Rattle.reader.specs.Promises as reader-promises
 use Rattle.reader.proofs.Word.{word-format}
 use Rattle.reader.proofs.Goodness as reader-goodness

@@ -15,7 +15,7 @@ use Rattle.bridge.specs.Promises.{ConvertPromise, convertOf}
 use Rattle.bridge.specs.declared.Bridge.{Bridge}
 use Rattle.bridge.specs.declared.Converted.{Converted}
 use Rattle.bridge.proofs.Counted.{three-sent, counted-both}
-use Rattle.bridge.proofs.Goodness.{convert-line, convert-stays-good}
+use Rattle.bridge.proofs.Goodness.{convert-stays-good}
 
 -- what was converted, and then what is of a part behind it
 abbrev thenLine : Long → List ℕ → Long

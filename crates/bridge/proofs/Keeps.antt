@@ -1,14 +1,11 @@
 -- A word leaves a good bridge good.
 use Prim.Native.Nat.{ℕ}
-use mathlib.Core.Path.{_≡_, refl, sym, _∙_, ap}
-use mathlib.Core.Bool.{Bool, true, false, not, cond, _&&_, _||_}
-use lib.Dec.{eqb}
-use lib.IntN.{pos}
+use mathlib.Core.Path.{_≡_, refl, _∙_, ap}
+use mathlib.Core.Bool.{true}
 use borrow.Author.Tests.{eqb-true}
-use Rattle.numbers.proofs.Choices.{cases, both}
+use Rattle.numbers.proofs.Choices.{cases}
 use Rattle.numbers.proofs.Tested.{left, right}
 use Rattle.wire.specs.Line.{letterOf, namedBy}
-use Rattle.wire.specs.Holds.{_to_, within}
 use Rattle.wire.specs.declared.Report.{Report}
 use Rattle.wire.specs.declared.Format.the-variants.{Absolute}
 use Rattle.wire.proofs.Letters.{letter-named}
@@ -20,11 +17,10 @@ use Rattle.reader.specs.declared.Answer.the-variants as answer
 use Rattle.reader.proofs.Word.{word-format}
 use Rattle.reader.proofs.Keeps.{word-good}
 use Rattle.reader.proofs.Back.{reported, reported-accepted}
-use Rattle.bridge.specs.Remembered.{isA, baseAt, baseBehind, noted, goodBase}
+use Rattle.bridge.specs.Remembered.{isA, baseAt, noted, goodBase}
 use Rattle.bridge.specs.Good.{good}
 use Rattle.bridge.specs.Line.{pastFor, behind}
 use Rattle.bridge.specs.declared.Base.{Base}
-use Rattle.bridge.specs.declared.Past.{Past}
 use Rattle.bridge.specs.declared.Bridge.{Bridge}
 
 module _ (b : Bridge) where

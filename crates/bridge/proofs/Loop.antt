@@ -1,5 +1,5 @@
 -- The long call's loop: where it stands, the first word of what is left, and how it goes on and ends.
-use mathlib.Core.Path.{_≡_, refl, sym, _∙_, ap}
+use mathlib.Core.Path.{_≡_, refl, ap}
 use mathlib.Core.Bool.{Bool, true, false}
 use mathlib.Core.List.{List, [], _∷_, _++_, append-nil}
 use Prim.Native.Nat.{ℕ, _+_, _-_, _*_, _<_, _≤_}
@@ -14,8 +14,7 @@ use Rattle.fold.proofs.Laws.{taken, stops, within, over-taken}
 use Rattle.fold.proofs.Parts.{rest-is, back, none, one, joins, part-within, part-room, part-long, part-left, part-none, part-all, part-ends}
 use Rattle.wire.specs.declared.Report.{Report}
 use Rattle.reader.specs.Rules.{wordOf}
-use Rattle.reader.specs.Counts.{byteIn, reportsIn, droppedIn, droppedAmong}
-use Rattle.reader.specs.declared.Reader.{Reader}
+use Rattle.reader.specs.Counts.{reportsIn, droppedIn, droppedAmong}
 use Rattle.reader.specs.declared.Read.{Read}
 use Rattle.reader.specs.declared.Answer.the-variants as answer
 use Rattle.reader.proofs.Word.{word-kept}
@@ -23,7 +22,7 @@ use Rattle.reader.proofs.Bounds.{one-byte}
 use Rattle.reader.proofs.Counted.{reports-first}
 use Rattle.bridge.specs.Splitting.{becomes, bytesAll}
 use Rattle.bridge.specs.Good.{good}
-use Rattle.bridge.specs.Line.{Given, Long, heardIn, sentIn, sentFor, given, behind, bridges, whole, stopped, lineOf}
+use Rattle.bridge.specs.Line.{Long, heardIn, given, behind, bridges, whole, lineOf}
 use Rattle.bridge.specs.Parts.{reportedOf, Reported, Stands, Begins}
 use Rattle.bridge.specs.declared.Bridge.{Bridge}
 use Rattle.bridge.specs.declared.Converted.{Converted}

@@ -1,13 +1,13 @@
 -- The presses counted are the changes of the middle button from up to down, held at 65,535; and in V there are none.
 use Prim.Native.Nat.{ℕ, _+_, _≤_, min}
-use mathlib.Core.Path.{_≡_, refl, sym, _∙_, ap}
+use mathlib.Core.Path.{_≡_, refl, _∙_, ap}
 use mathlib.Core.Bool.{Bool, true, false, not, cond, _&&_}
 use mathlib.Core.List.{List, [], _∷_}
 use native.Mathlib.Omega.{arith}
 use lib.ListN.{length}
 use lib.Dec.{ltb}
 use borrow.Author.Tests.{ltb-true, ltb-false}
-use Rattle.numbers.specs.Bits.{O, number, bit}
+use Rattle.numbers.specs.Bits.{O, bit}
 use Rattle.numbers.proofs.Rows.{bit-in}
 use Rattle.fold.proofs.Laws.{stays}
 use Rattle.wire.specs.Line.{letterOf, namedBy}

@@ -1,16 +1,15 @@
 -- What the bridge sends is what the reader handed out, report by report.
 use Prim.Native.Nat.{ℕ, _*_}
-use mathlib.Core.Path.{_≡_, refl, sym, _∙_, ap}
+use mathlib.Core.Path.{_≡_, refl, _∙_, ap}
 use mathlib.Core.Bool.{true}
-use mathlib.Core.List.{List, [], _∷_, _++_}
+use mathlib.Core.List.{List, _∷_, _++_}
 use lib.ListN.{length, take, drop}
-use Rattle.fold.specs.Fold.{Ran, written, run}
+use Rattle.fold.specs.Fold.{written, run}
 use Rattle.fold.proofs.Laws.{over-taken}
 use Rattle.wire.specs.declared.Report.{Report}
 use Rattle.reader.specs.Rules.{wordOf}
 use Rattle.reader.specs.Counts.{handedOut, droppedAmong}
 use Rattle.reader.specs.Runs.{stepsOf, StepsPromise, answers, readerAfter}
-use Rattle.reader.specs.declared.Reader.{Reader}
 use Rattle.reader.specs.declared.Read.{Read}
 use Rattle.reader.specs.declared.Answer.{Answer}
 use Rattle.reader.specs.declared.Answer.the-variants as answer
@@ -19,7 +18,7 @@ use Rattle.reader.proofs.Permitted.{steps-are}
 use Rattle.reader.proofs.Goodness.{step-word}
 use Rattle.bridge.specs.Splitting.{bytesAll}
 use Rattle.bridge.specs.Good.{good}
-use Rattle.bridge.specs.Line.{Given, Long, whole, sentFor, pastFor, bridges, heardIn, sentIn, counted, lineOf}
+use Rattle.bridge.specs.Line.{Given, Long, sentFor, pastFor, bridges, heardIn, sentIn, lineOf}
 use Rattle.bridge.specs.Promises.{ConvertPromise}
 use Rattle.bridge.specs.Sent.{sends, pastAfter, Told}
 use Rattle.bridge.specs.declared.Past.{Past}

@@ -1,22 +1,21 @@
 -- The V reports that a report becomes: they add up to its movement, each in reach, and no fewer do; they carry its L and R, and as much as they can.
-use Prim.Native.Nat.{ℕ, zero, suc, _+_, _-_, _*_, _/_, _≤_, max}
-use mathlib.Core.Path.{_≡_, refl, sym, _∙_, ap, ap₂}
-use mathlib.Core.Bool.{Bool, true, false}
+use Prim.Native.Nat.{ℕ, zero, suc, _+_, _-_, _*_, _≤_}
+use mathlib.Core.Path.{_≡_, sym, _∙_, ap}
 use mathlib.Core.List.{List, [], _∷_, _++_}
 use native.Mathlib.Omega.{arith}
 use lib.ListN.{length, getD, drop, length-append}
 use lib.Dec.{ltb}
-use lib.IntN.{ℤ, pos, negsuc, natAbs, negℤ, _+ℤ_, _-ℤ_, +ℤ-idl, +ℤ-idr, +ℤ-assoc, +ℤ-comm, -ℤ-+ℤ-cancel, +ℤ-negℤ-cancel, negℤ-+ℤ}
-use borrow.Author.Tests.{ltb-true, ltb-false}
-use Rattle.numbers.specs.Bits.{O, number, bit}
-use Rattle.numbers.specs.Signed.{minus, held, excess}
+use lib.IntN.{ℤ, pos, negsuc, natAbs, negℤ, _+ℤ_, _-ℤ_, +ℤ-idr, +ℤ-assoc, +ℤ-comm, -ℤ-+ℤ-cancel, +ℤ-negℤ-cancel, negℤ-+ℤ}
+use borrow.Author.Tests.{ltb-true}
+use Rattle.numbers.specs.Bits.{O, bit}
+use Rattle.numbers.specs.Signed.{minus}
 use Rattle.numbers.proofs.Choices.{cases}
 use Rattle.numbers.proofs.Held.{held-excess}
 use Rattle.numbers.proofs.Rows.{bit-in}
 use Rattle.wire.specs.declared.Report.{Report}
 use Rattle.wire.proofs.Codec.Ranges.{magnitude}
 use Rattle.bridge.specs.Remembered.{movement}
-use Rattle.bridge.specs.Splitting.{carries, leaves, rest, needs, countOf, reportV, split, becomes}
+use Rattle.bridge.specs.Splitting.{carries, leaves, rest, countOf, reportV, split, becomes}
 use Rattle.bridge.specs.Sums.{sumX, sumY, Every, InReach, BothInReach, AddsUp, SameButtons}
 use Rattle.bridge.specs.declared.Past.{Past}
 use Rattle.bridge.specs.declared.Move.{Move}

@@ -8,14 +8,14 @@ use lib.ListN.{length, take, drop, length-append, length-drop}
 use lib.Seq.{length-take-le, take-at, drop-at, drop-drop}
 use lib.IntN.{ℤ, pos}
 use borrow.Author.Tests.{le-leb, lt-leb}
-use Rattle.numbers.specs.Bits.{number, O, bit}
+use Rattle.numbers.specs.Bits.{O, bit}
 use Rattle.numbers.specs.Signed.{minus}
 use Rattle.numbers.proofs.Rows.{number-below}
 use Rattle.numbers.proofs.Held.{held-inside}
 use Rattle.wire.specs.Line.{letterOf}
 use Rattle.wire.specs.Table.{bytesOf}
 use Rattle.wire.specs.Holds.{_to_, within, xRange, yRange, accepted}
-use Rattle.wire.specs.Encoder.{Encoding, outcome, written as writes}
+use Rattle.wire.specs.Encoder.{outcome, written as writes}
 use Rattle.wire.specs.Promises.{EncodePromise}
 use Rattle.wire.specs.declared.Report.{Report}
 use Rattle.wire.specs.declared.Encoded.{Encoded}

@@ -1,17 +1,16 @@
 -- Wrong answers, two for each promise, that it does not permit.
 use mathlib.Core.Path.{ap, sym}
 use mathlib.Core.Bool.{true, false}
-use mathlib.Core.List.{List, [], _∷_}
+use mathlib.Core.List.{[], _∷_}
 use native.Mathlib.Omega.{arith}
-use lib.ListN.{getD, replicate}
+use lib.ListN.{replicate}
 use lib.IntN.{pos}
 use Rattle.numbers.proofs.Tested.{holds}
 use Rattle.reader.specs.State.{fresh, ready}
-use Rattle.bridge.specs.Remembered.{none, baseAt}
+use Rattle.bridge.specs.Remembered.{baseAt}
 use Rattle.bridge.specs.Line.{Long}
 use Rattle.bridge.specs.Promises.{FreshPromise, GoodPromise, ConvertPromise, withNone}
 use Rattle.bridge.specs.declared.NewBridge.{NewBridge}
-use Rattle.bridge.specs.declared.Bridge.{Bridge}
 use Rattle.bridge.proofs.Computing.{computing}
 
 -- a bridge of U for the letter T; and a letter that is not in the table taken without a word

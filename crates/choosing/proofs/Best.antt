@@ -1,16 +1,16 @@
 -- The earliest choice is a best one, and there is no other.
 use Prim.Native.Nat.{ℕ, zero, suc, _+_, _-_, _*_, _<_, _≤_}
 use mathlib.Core.Path.{_≡_, refl, sym, ap, _∙_}
-use mathlib.Core.Bool.{Bool, true, false, cond, _&&_}
+use mathlib.Core.Bool.{Bool, true, false, _&&_}
 use mathlib.Core.List.{List, [], _∷_}
 use mathlib.Core.Logic.{_⊎_, inl, inr}
 use native.Mathlib.Omega.{arith}
-use lib.ListN.{length, take, drop, length-take, length-drop}
+use lib.ListN.{length, take, drop, length-drop}
 use lib.Seq.{drop-drop}
 use lib.Dec.{leb, ltb}
 use borrow.Author.Tests.{le-leb, leb-true, ltb-true, ltb-false}
 use Rattle.numbers.proofs.Tested.{left, right}
-use Rattle.choosing.specs.Choice.{allBytes, bytesIn, Smaller, here, there, run, Run, ChoiceFrom, Choice, leftFrom, leftOut, Best}
+use Rattle.choosing.specs.Choice.{allBytes, bytesIn, Smaller, here, there, Run, ChoiceFrom, Choice, leftOut, Best}
 use Rattle.choosing.specs.Earliest.{starts, earliestFrom, earliest}
 use Rattle.choosing.proofs.Left.{never, inRuns, in-runs, parts}
 

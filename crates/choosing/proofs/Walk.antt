@@ -1,6 +1,6 @@
 -- A walk through a line from left to right: at each place a run starts, or a byte is left out, or a 256 or 257 is passed.
 use Prim.Native.Nat.{ℕ, zero, suc, _+_, _-_, _<_, _≤_}
-use mathlib.Core.Path.{_≡_, refl, sym, ap, _∙_}
+use mathlib.Core.Path.{_≡_, refl, ap, _∙_}
 use mathlib.Core.Bool.{Bool, true, false, cond, _&&_}
 use mathlib.Core.List.{List, [], _∷_, _++_}
 use native.Mathlib.Omega.{arith}
@@ -14,7 +14,7 @@ use Rattle.frames.specs.Words.{isByte}
 use Rattle.choosing.specs.Choice.{allBytes, bytesIn}
 use Rattle.choosing.specs.Earliest.{starts, earliestFrom}
 use Rattle.choosing.specs.Pieces as piece
-use Rattle.choosing.specs.Pieces.{Piece, behind, piecesFrom}
+use Rattle.choosing.specs.Pieces.{behind, piecesFrom}
 use Rattle.choosing.proofs.Left.{bytes-append, all-counted}
 
 -- the bytes of one word more

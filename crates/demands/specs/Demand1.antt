@@ -85,6 +85,26 @@ use Rattle.salvage.specs.Promises as salvage
 use Rattle.salvage.specs.declared.Picked.{Picked}
 use Rattle.salvage.proofs.Picks as salvage-answers
 use Rattle.salvage.proofs.Refusals as salvage-refusals
+use Rattle.readback.specs.Steps as readbacks
+use Rattle.readback.specs.Pieces as readback-pieces
+use Rattle.readback.specs.Pieces.{faultyLine}
+use Rattle.readback.specs.Rewriting as readback-rewriting
+use Rattle.readback.specs.Rewriting.{tooWide}
+use Rattle.readback.specs.Promises as readback
+use Rattle.readback.specs.declared.Readback.{Readback}
+use Rattle.readback.specs.declared.Back.{Back}
+use Rattle.readback.specs.declared.Rewritten.{Rewritten}
+use Rattle.readback.proofs.Answers as readback-answers
+use Rattle.readback.proofs.Refusals as readback-refusals
+use Rattle.readback.proofs.SameItems as readback-rewrites
+use Rattle.salvaged.specs.Promises as salvaged
+use Rattle.salvaged.proofs.Whole as salvaged-answers
+use Rattle.driver.specs.Feeding as drivers
+use Rattle.driver.specs.Promises as driver
+use Rattle.driver.specs.declared.Driver.{Driver}
+use Rattle.driver.specs.declared.Driven.{Driven}
+use Rattle.driver.proofs.Answers as driver-answers
+use Rattle.driver.proofs.Refusals as driver-refusals
 
 -- "Every public entry takes every event, line word, state and buffer and ends with an answer": that it takes every argument and ends is the check
 -- of the function itself, which has no condition. Its answer is one: two that the promise permits are equal, and with them every number of a lent slice.
@@ -534,3 +554,106 @@ module _ (letter : ℕ) (words before after : List ℕ) (a : Picked) (promise : 
       → lineWords words ≡ false
       → picking.whole a after ≡ picking.refused badWord before
   pick-bad-word k m l w = salvage-refusals.refused-with letter words before after a badWord (salvage-refusals.word-fourth letter words k m l w) refl promise
+
+-- `Readback::fresh`, `read`, `finish`, `rewrite`: one answer
+pub fresh-readback-one : One readback.FreshPromise
+fresh-readback-one a b = readback-answers.one-fresh
+
+pub readback-one : (r : Readback) (input : List ℕ) (before : List ℤ) → OneWith (readback.ReadPromise r input before)
+readback-one r input before a b after behind = readback-answers.one-read r input before
+
+pub readback-finish-one : (r : Readback) (left : ℕ) → One (readback.FinishPromise r left)
+readback-finish-one r left a b = readback-answers.one-finish r left
+
+pub rewrite-one : (r : Readback) (input before : List ℕ) → OneWith (readback.RewritePromise r input before)
+rewrite-one r input before a b after behind = readback-answers.one-rewrite r input before
+
+-- it tests 6, with the reader and the slice as they were and counts of 0, and then 7, and where it rewrites 7 or 15, whichever comes first
+pub readback-bad-state : (r : Readback) (piece : List ℕ) (before after : List ℤ) (a : Back)
+    → readbacks.good r ≡ false
+    → readback.ReadPromise r piece before a after
+    → readback-pieces.whole a after ≡ readback-pieces.whole (readback.refused r) before
+readback-bad-state = readback-refusals.bad-state-read
+
+pub readback-ends : (r : Readback) (piece : List ℕ) (before after : List ℤ) (a : Back)
+    → readbacks.good r ≡ true
+    → readback.ReadPromise r piece before a after
+    → (a .refusal ≡ success) ⊎ (a .refusal ≡ faultyLine)
+readback-ends = readback-refusals.good-read
+
+pub readback-finish-bad-state : (r : Readback) (left : ℕ) (a : Back)
+    → readbacks.good r ≡ false
+    → readback.FinishPromise r left a
+    → a ≡ readback.refused r
+readback-finish-bad-state = readback-refusals.bad-state-finish
+
+pub readback-finish-ends : (r : Readback) (left : ℕ) (a : Back)
+    → readbacks.good r ≡ true
+    → readback.FinishPromise r left a
+    → (a .refusal ≡ success) ⊎ (a .refusal ≡ faultyLine)
+readback-finish-ends = readback-refusals.good-finish
+
+pub rewrite-bad-state : (r : Readback) (piece before after : List ℕ) (a : Rewritten)
+    → readbacks.good r ≡ false
+    → readback.RewritePromise r piece before a after
+    → readback-rewriting.rewriting a after ≡ readback-rewriting.rewriting (readback-rewriting.rewritten badState r 0 0 0) before
+rewrite-bad-state = readback-rewrites.bad-state-rewrite
+
+pub rewrite-ends : (r : Readback) (piece before after : List ℕ) (a : Rewritten)
+    → readbacks.good r ≡ true
+    → readback.RewritePromise r piece before a after
+    → (a .refusal ≡ success) ⊎ (a .refusal ≡ faultyLine) ⊎ (a .refusal ≡ tooWide)
+rewrite-ends = readback-rewrites.good-rewrite
+
+-- `salvaged::list`, which refuses nothing: one answer
+pub salvage-list-one : (input before : List ℕ) → OneWith (salvaged.ListPromise input before)
+salvage-list-one input before a b after behind = salvaged-answers.one-list input before
+
+-- `Driver::fresh`, `feed`, `finish`: one answer; 6 alone, with the driver and the slice as they were and counts of 0; and no driver that they give is ever refused
+pub fresh-driver-one : One driver.FreshPromise
+fresh-driver-one a b = driver-answers.one-fresh
+
+pub drive-one : (m : Driver) (input before : List ℕ) → OneWith (driver.FeedPromise m input before)
+drive-one m input before a b after behind = driver-answers.one-feed m input before
+
+pub drive-finish-one : (m : Driver) (before : List ℕ) → OneWith (driver.FinishPromise m before)
+drive-finish-one m before a b after behind = driver-answers.one-finish m before
+
+pub drive-bad-state : (m : Driver) (input before after : List ℕ) (a : Driven)
+    → drivers.good m ≡ false
+    → driver.FeedPromise m input before a after
+    → driver.whole a after ≡ driver.refused m before
+drive-bad-state = driver-refusals.bad-state-feed
+
+pub drive-finish-bad-state : (m : Driver) (before after : List ℕ) (a : Driven)
+    → drivers.good m ≡ false
+    → driver.FinishPromise m before a after
+    → driver.whole a after ≡ driver.refused m before
+drive-finish-bad-state = driver-refusals.bad-state-finish
+
+pub drive-accepts : (m : Driver) (input before after : List ℕ) (a : Driven)
+    → drivers.good m ≡ true
+    → driver.FeedPromise m input before a after
+    → a .refusal ≡ success
+drive-accepts = driver-refusals.good-feed
+
+pub drive-finish-accepts : (m : Driver) (before after : List ℕ) (a : Driven)
+    → drivers.good m ≡ true
+    → driver.FinishPromise m before a after
+    → a .refusal ≡ success
+drive-finish-accepts = driver-refusals.good-finish
+
+pub fresh-driver-good : (m : Driver) → driver.FreshPromise m → drivers.good m ≡ true
+fresh-driver-good = driver-refusals.fresh-is-good
+
+pub drive-stays-good : (m : Driver) (input before after : List ℕ) (a : Driven)
+    → drivers.good m ≡ true
+    → driver.FeedPromise m input before a after
+    → drivers.good (a .next) ≡ true
+drive-stays-good = driver-refusals.feed-stays-good
+
+pub drive-finish-stays-good : (m : Driver) (before after : List ℕ) (a : Driven)
+    → drivers.good m ≡ true
+    → driver.FinishPromise m before a after
+    → drivers.good (a .next) ≡ true
+drive-finish-stays-good = driver-refusals.finish-stays-good

@@ -14,7 +14,7 @@ use Rattle.ballbox.specs.Box.{Bytes}
 use Rattle.ballbox.specs.declared.BallBox.{BallBox}
 use Rattle.driver.specs.Lines.{saidBy}
 use Rattle.driver.specs.Driving.{lineDone}
-use Rattle.driver.specs.Feeding.{Turning, longest, atLine, fresh, unfinished, owedBy, besides, takenOf, byteOf, slotOf, tickOf, feedIn}
+use Rattle.driver.specs.Feeding.{Turning, longest, atLine, fresh, unfinished, owedBy, besides, takenOf, byteOf, slotOf, feedIn}
 use Rattle.driver.specs.Promises.{Whole, FeedPromise}
 use Rattle.driver.specs.Calls.{Call, Permitted, driverAfter, takenBy}
 use Rattle.driver.specs.declared.Order.{Order}

@@ -8,7 +8,6 @@ use Rattle.listing.specs.Scanning.{mostLines}
 use Rattle.ballbox.specs.Box.{Step, freshBox}
 use Rattle.ballbox.specs.Promises.{stepOf}
 use Rattle.ballbox.specs.declared.BallBox.{BallBox}
-use Rattle.ballbox.specs.declared.Event.{Event}
 use Rattle.ballbox.specs.declared.Event.the-variants.{Host, Latch, Send}
 use Rattle.driver.specs.Lines.{saidBy}
 use Rattle.driver.specs.Recorded.{recordsIn, allLines}

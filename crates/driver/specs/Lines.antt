@@ -4,7 +4,7 @@ use mathlib.Core.Bool.{Bool, cond, _||_}
 use mathlib.Core.List.{List, [], _∷_}
 use lib.Dec.{leb, eqb}
 use lib.IntN.{ℤ, pos, negsuc}
-use lib.ListN.{length, take, drop}
+use lib.ListN.{take, drop}
 use lib.Signed.{ltZ}
 use Rattle.numbers.specs.Signed.{least, most}
 use Rattle.wire.specs.Line.{known}
@@ -13,7 +13,6 @@ use Rattle.text.specs.declared.Number.{Number}
 use Rattle.text.specs.declared.Number.the-variants.{None, Is}
 use Rattle.listing.specs.Lines.{tab, lengthTo}
 use Rattle.listing.specs.Scanning.{mostLines}
-use Rattle.ballbox.specs.declared.Event.{Event}
 use Rattle.ballbox.specs.declared.Event.the-variants.{Motion, Buttons, Host, Latch, Send, Period}
 use Rattle.driver.specs.declared.Order.{Order}
 use Rattle.driver.specs.declared.Order.the-variants as order

@@ -1,7 +1,6 @@
 // What lines of events do to a box, and what is recorded of them.
 ghost use mathlib.Core.Path.{_≡_};
 ghost use mathlib.Core.List.{map};
-ghost use Prim.Native.Nat.{_≤_};
 ghost use Rattle.ballbox.specs.Promises.{outcome, sentWords};
 ghost use Rattle.driver.specs.Recorded.{recordsIn};
 ghost use Rattle.driver.specs.Driving.{leaves, ending, eventDone, slot, firstLine, laterLine, lineDone};

@@ -1,7 +1,7 @@
 // What a line of events says.
 ghost use mathlib.Core.Path.{_≡_};
 ghost use Rattle.listing.specs.Lines.{lengthTo};
-ghost use Rattle.driver.specs.Lines.{aloneIn, formatIn, upTo, buttonsIn, hostIn, slotsIn, motionOf, motionIn, withFields, saidBy};
+ghost use Rattle.driver.specs.Lines.{aloneIn, formatIn, buttonsIn, hostIn, slotsIn, motionOf, motionIn, withFields, saidBy};
 use crate::MOST_LINES;
 use crate::Order;
 use crate::PLAIN;

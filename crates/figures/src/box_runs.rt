@@ -33,6 +33,16 @@ fn second_mark() {
     answers(b'S', &words);
 }
 
+// "108 and 236 are the same first byte": a report of V, and the same with bit 7 set in each byte, as no box sends it.
+fn eighth_bit() {
+    print::say(b"V");
+    let words = [0x6Cu16, 0x05, 0x3D];
+    answers(b'V', &words);
+    print::say(b"V");
+    let turned = [0xECu16, 0x85, 0xBD];
+    answers(b'V', &turned);
+}
+
 // "S, 94 sent, Host R: 256": the movement is lost, and "a broken-off report is followed by another with the same buttons".
 fn broken_off() {
     print::say(b"S");
@@ -49,5 +59,6 @@ pub(crate) fn figures() {
     print::say(b"Figures of the paper\n");
     held_movement();
     second_mark();
+    eighth_bit();
     broken_off();
 }

@@ -1,17 +1,15 @@
 -- Laws of a long read that counts reports and dropped bytes: joining, the words before a bad one, all words taken, and where its loop stands.
 use Prim.Native.Nat.{ℕ, _+_, _-_, _*_, _<_, _≤_}
 use mathlib.Core.Path.{_≡_, refl, sym, _∙_, ap}
-use mathlib.Core.Bool.{true}
 use mathlib.Core.List.{List, [], _∷_, _++_, append-assoc}
 use native.Mathlib.Omega.{arith}
-use native.Mathlib.Nat.{add-zero}
-use lib.ListN.{length, getD, take, drop, length-append, length-drop, take-append-drop}
+use lib.ListN.{length, getD, take, drop, length-append, length-drop}
 use lib.Seq.{take-append-seam, drop-append-seam, drop-drop, drop-cons}
 use borrow.Rule.Slice.PartMut.{putMid}
-use Rattle.fold.specs.Fold.{Machine, Ran, ran, behind, written, places, takes, run, Part}
-use Rattle.fold.specs.Counting.{Long, stopped, withRefusal, unused, asOne, total, Counter, counted, longRead, Stands, answersOver, stateOver}
+use Rattle.fold.specs.Fold.{Machine, Ran, ran, behind, written, places, run}
+use Rattle.fold.specs.Counting.{withRefusal, unused, asOne, total, Counter, counted, longRead, Stands, answersOver, stateOver}
 use Rattle.fold.proofs.Laws.{written-append, join, up-to, within, taken, stops}
-use Rattle.fold.proofs.Parts.{rest-is, back, none, one, joins, part-within, part-room, part-left, part-long, part-none, part-ends, part-all}
+use Rattle.fold.proofs.Parts.{rest-is, back, none, one, joins, part-within, part-room, part-left, part-long, part-ends, part-all}
 
 pub total-append : {A : Type 0} (count : A → ℕ) (l k : List A) → total count (l ++ k) ≡ total count l + total count k
 unfolding total

@@ -13,7 +13,7 @@ use Rattle.frames.proofs.Passages.{sound-append, sound-by, part-by}
 use Rattle.numbers.proofs.Choices.{cases, or-else, both}
 use Rattle.numbers.proofs.Tested.{left, right}
 use Rattle.wire.specs.Line.{letterOf, namedBy, known}
-use Rattle.wire.specs.Messages.{Latched, Message, report, reply, messageBytes, HeldBy, SoundIn, SoundEnd}
+use Rattle.wire.specs.Messages.{Message, report, reply, messageBytes, HeldBy, SoundIn, SoundEnd}
 use Rattle.wire.specs.declared.Format.{Format}
 use Rattle.wire.specs.declared.Format.the-variants.{FiveByte}
 use Rattle.wire.proofs.Letters.{letter-named}

@@ -9,7 +9,6 @@ use lib.IntN.{pos, natAbs}
 use lib.ListN.{length, length-append}
 use borrow.Author.Tests.{leb-false}
 use Rattle.numbers.proofs.Choices.{cases}
-use Rattle.reader.specs.Good as reader
 use Rattle.reader.specs.Promises.{stepOf}
 use Rattle.reader.specs.declared.Reader.{Reader}
 use Rattle.reader.specs.declared.Answer.{Answer}

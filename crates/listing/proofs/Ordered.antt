@@ -1,7 +1,7 @@
 -- The items of a listing: their line numbers go up, their other numbers have four digits at most, and the last item, and no other, is an `H` or an `E`.
 use Prim.Native.Nat.{ℕ, _+_, _<_, _≤_, _^_}
 use mathlib.Core.Path.{_≡_, refl}
-use mathlib.Core.Bool.{Bool, true, false, cond}
+use mathlib.Core.Bool.{true, cond}
 use mathlib.Core.List.{List, [], _∷_, _++_}
 use native.Mathlib.Omega.{arith}
 use lib.Dec.{leb, eqb}
@@ -16,7 +16,7 @@ use Rattle.reader.specs.declared.Answer.{Answer}
 use Rattle.reader.specs.declared.Answer.the-variants as answer
 use Rattle.reader.proofs.Goodness as read
 use Rattle.listing.specs.Lines.{linesIn, saidBy}
-use Rattle.listing.specs.Scanning.{mostAt, onLine, lineIn, ends, endIn, foundIn}
+use Rattle.listing.specs.Scanning.{mostAt, onLine, lineIn, ends, foundIn}
 use Rattle.listing.specs.Items.{answerGiven, gaveOf, itemsIn, itemsFrom}
 use Rattle.listing.specs.Listing.{waiting, itemsAt}
 use Rattle.listing.specs.declared.Line.{Line}

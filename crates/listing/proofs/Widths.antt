@@ -1,11 +1,10 @@
 -- An input that has no more lines than either of two widths has numbers for gives the same items at both.
 use Prim.Native.Nat.{ℕ, _+_, _<_, _≤_}
-use mathlib.Core.Path.{_≡_, refl, sym, _∙_, ap}
-use mathlib.Core.Bool.{false, cond}
+use mathlib.Core.Path.{_≡_, refl, ap}
+use mathlib.Core.Bool.{cond}
 use mathlib.Core.List.{List, [], _∷_}
 use native.Mathlib.Omega.{arith}
 use lib.ListN.{length}
-use lib.Dec.{leb}
 use borrow.Author.Tests.{lt-leb}
 use Rattle.listing.specs.Lines.{linesIn, saidBy}
 use Rattle.listing.specs.Scanning.{mostAt, onLine, lineIn, ends, foundIn}

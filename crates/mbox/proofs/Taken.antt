@@ -1,6 +1,6 @@
 -- Calls leave a driver that keeps its rules; each takes a byte or a slot, and a block brings the driver nearer to its end.
 use Prim.Native.Nat.{ℕ, zero, suc, _+_, _-_, _*_, _≤_, _<_}
-use mathlib.Core.Path.{_≡_, refl, sym, _∙_, ap, subst}
+use mathlib.Core.Path.{_≡_, refl, sym, _∙_, subst}
 use mathlib.Core.Bool.{Bool, true, false, not, cond, _&&_, _||_, true≢false}
 use mathlib.Core.Logic.{_⊎_, inl, inr, ⊎-elim}
 use mathlib.Core.List.{List, [], _∷_}
@@ -23,7 +23,7 @@ use Rattle.driver.specs.declared.Driven.{Driven}
 use Rattle.driver.proofs.Kept.{Kept}
 use Rattle.driver.proofs.Calls.{next-kept, takes-some, feed-within, ends-or-less}
 use Rattle.driver.proofs.Nearer.{passed, mostBytes, never-passed, goes-on, stays-ended}
-use Rattle.mbox.specs.Blocks.{Calls, none, more, Fed, Leaves}
+use Rattle.mbox.specs.Blocks.{Calls, none, more, Leaves}
 
 -- bytes, as the slice of a program tells them, and those of a part
 pub all-bytes : (bs : List ℕ) → ((i : ℕ) → Fits w8 (getD bs i 0)) → Bytes bs

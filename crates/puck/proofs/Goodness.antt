@@ -1,18 +1,17 @@
 -- A device is good when made, and a step of a good device gives a good one.
-use Prim.Native.Nat.{ℕ, _+_, _≤_, _%_}
+use Prim.Native.Nat.{ℕ, _≤_, _%_}
 use mathlib.Core.Path.{_≡_, refl, ap, _∙_}
 use mathlib.Core.Bool.{Bool, true, false, not, cond, _&&_, _||_}
 use mathlib.Core.Logic.{_⊎_, inl, inr}
 use native.Mathlib.Omega.{arith}
-use lib.Dec.{eqb, ltb, leb}
-use borrow.Author.Tests.{eqb-true, eqb-false, leb-true, leb-false, le-leb, le-ltb, ltb-true, ltb-false, lt-ltb}
+use lib.Dec.{eqb, leb}
+use borrow.Author.Tests.{eqb-true, leb-false, le-leb, le-ltb, lt-ltb}
 use Rattle.numbers.proofs.Choices.{cases, or-else}
-use Rattle.wire.specs.Line.{letterOf, sizeBy, known, namedBy}
-use Rattle.wire.specs.declared.Format.the-variants.{Mm}
+use Rattle.wire.specs.Line.{sizeBy, known, namedBy}
 use Rattle.ballbox.specs.Box.{modeD, goingFrom, Step}
 use Rattle.ballbox.specs.Latching.{latched}
-use Rattle.ballbox.specs.Commands.{letterP, isTimed, isStream, commandOf, obeyed}
-use Rattle.ballbox.specs.Events.{bytesLeft, wanted, latching, secondNow, withByteReady, after, moreBehind, nextByte, sending, dropped, onButtons, onHost, onPeriod, awake}
+use Rattle.ballbox.specs.Commands.{letterP, commandOf, obeyed}
+use Rattle.ballbox.specs.Events.{bytesLeft, wanted, latching, withByteReady, after, moreBehind, nextByte, sending, dropped, onButtons, onHost, onPeriod, awake}
 use Rattle.ballbox.specs.Good as boxes
 use Rattle.ballbox.specs.Promises.{aboveSeven}
 use Rattle.ballbox.specs.Promises as box
@@ -25,15 +24,14 @@ use Rattle.ballbox.proofs.Cases.{latching-idle, ready-plain}
 use Rattle.ballbox.proofs.Goodness.{stepped-good}
 use Rattle.ballbox.proofs.Parts.{good-buttons}
 use Rattle.ballbox.proofs.Refusals.{ruled, refused-next}
-use Rattle.puck.specs.Device.{testing, noTest, test, withTest, withBall, poweredBox, powered}
+use Rattle.puck.specs.Device.{test, withTest, withBall, poweredBox, powered}
 use Rattle.puck.specs.Rules.{modeR, letterT, isBoxes, noCommand, asBox, lessOne, byBox, byT, testByte, inTest, outOfTest, rules}
 use Rattle.puck.specs.Good.{good}
 use Rattle.puck.specs.Promises.{stepOf, MadePromise, StepPromise}
 use Rattle.puck.specs.declared.Puck.{Puck}
-use Rattle.puck.specs.declared.Testing.{Testing}
 use Rattle.puck.specs.declared.PuckStepped.{PuckStepped}
 use Rattle.puck.specs.Device as device
-use Rattle.puck.proofs.Parts.{Follows, Rests, Going, Tests, none-going, one-going, Good, parts, good-again, is-going}
+use Rattle.puck.proofs.Parts.{Follows, Rests, Going, Tests, none-going, one-going, Good, parts, good-again}
 
 -- a step of the box leaves it in S, in mode R or D, awake, with nothing or a report going
 dropped-follows : (b : BallBox) → Follows b → Follows (dropped b)

@@ -1,12 +1,12 @@
 -- The refusals in their order, and else the rules.
 use Prim.Native.Nat.{ℕ, _<_}
 use mathlib.Core.Path.{_≡_, refl, ap, _∙_}
-use mathlib.Core.Bool.{Bool, true, false}
+use mathlib.Core.Bool.{true, false}
 use mathlib.Core.List.{[], _∷_, List·Memᴰ, List·Memᴰ·head as here, List·Memᴰ·tail as there}
 use lib.Dec.{eqb}
 use borrow.Author.Tests.{lt-ltb}
 use Rattle.numbers.proofs.Choices.{cases}
-use Rattle.wire.specs.Numbers.{success, badState, badButtons, accepted, refusal}
+use Rattle.wire.specs.Numbers.{badState, badButtons, accepted, refusal}
 use Rattle.ballbox.specs.Box as box
 use Rattle.ballbox.specs.Good as boxes
 use Rattle.ballbox.specs.Promises as ballbox

@@ -5,7 +5,6 @@ use mathlib.Core.Bool.{true, false}
 use mathlib.Core.List.{[]}
 use lib.Dec.{eqb}
 use Rattle.wire.specs.Line.{known, namedBy}
-use Rattle.ballbox.specs.Box as box
 use Rattle.ballbox.specs.Commands.{commandOf, obeyed}
 use Rattle.ballbox.specs.Events.{brokenOff, dropped, onHost, awake}
 use Rattle.ballbox.specs.declared.Event.the-variants.{Host}

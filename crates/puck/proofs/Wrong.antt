@@ -1,16 +1,12 @@
 -- Wrong answers, two or more for each promise, that it does not permit.
 use mathlib.Core.Path.{_≡_, refl, sym, ap, subst, _∙_}
 use mathlib.Core.Bool.{true, false}
-use mathlib.Core.List.{[]}
 use native.Mathlib.Omega.{arith}
 use lib.Dec.{T}
 use lib.ListN.{length}
 use Rattle.wire.specs.Line.{namedBy, known}
-use Rattle.wire.specs.Numbers.{success, badState}
-use Rattle.ballbox.specs.Box.{modeD}
 use Rattle.ballbox.specs.Good as boxes
-use Rattle.ballbox.specs.declared.Event.the-variants.{Buttons, Host, Send}
-use Rattle.ballbox.specs.declared.Sent.the-variants.{Nothing, Word}
+use Rattle.ballbox.specs.declared.Event.the-variants.{Host}
 use Rattle.puck.specs.Device.{test, withTest, poweredBox, powered, made, Step}
 use Rattle.puck.specs.Rules.{modeR}
 use Rattle.puck.specs.Good.{follows, rests, goodTest, good}

@@ -1,5 +1,4 @@
 -- A good device.
-use Prim.Native.Nat.{ℕ}
 use mathlib.Core.Bool.{Bool, not, _&&_, _||_}
 use lib.Dec.{eqb, ltb, leb}
 use Rattle.wire.specs.Line.{letterOf}

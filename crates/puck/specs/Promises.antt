@@ -2,7 +2,7 @@
 use Prim.Native.Nat.{ℕ}
 use mathlib.Core.Path.{_≡_}
 use mathlib.Core.Bool.{Bool, cond}
-use mathlib.Core.List.{List, [], _∷_}
+use mathlib.Core.List.{[], _∷_}
 use Rattle.wire.specs.Numbers.{badState, badButtons, RefusesRightly}
 use Rattle.ballbox.specs.Promises.{sentWords}
 use Rattle.ballbox.specs.declared.Event.{Event}

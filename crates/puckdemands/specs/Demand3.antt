@@ -14,7 +14,7 @@ use Rattle.puck.specs.Promises.{MadePromise}
 use Rattle.puck.specs.declared.Puck.{Puck}
 use Rattle.puck.specs.declared.PuckStepped.{PuckStepped}
 use Rattle.puck.proofs.Goodness.{made-is-good}
-use Rattle.puckreader.specs.HandedOut.{HandsOut, HandsOutAt, SoundLine, SoundGoing, finishedReports, Replaced, Within, EndsAt}
+use Rattle.puckreader.specs.HandedOut.{HandsOut, HandsOutAt, SoundLine, SoundGoing, finishedReports, Within, EndsAt}
 use Rattle.puckreader.proofs.Handed as handed
 use Rattle.puckhistory.specs.Runs.{RunPromise, wordsGiven}
 use Rattle.puckhistory.specs.History.{passagesOf, goingAfter, atPowerUp}

@@ -2,19 +2,17 @@
 -- that lost a byte; each with its words, its passages and its answers computed.
 use Prim.Native.Nat.{ℕ}
 use mathlib.Core.Path.{_≡_, refl}
-use mathlib.Core.Bool.{true}
-use mathlib.Core.List.{List, [], _∷_, _++_, map}
+use mathlib.Core.List.{List, [], _∷_}
 use lib.IntN.{pos}
-use Rattle.frames.specs.Passages.{Passage, silent, finished, broken, UnderWay, nothing}
+use Rattle.frames.specs.Passages.{Passage, silent, finished, broken, nothing}
 use Rattle.fold.specs.Counting.{answersOver}
 use Rattle.wire.specs.Reading.{report}
 use Rattle.wire.specs.Messages.{latchedIn}
 use Rattle.wire.specs.declared.Format.the-variants.{Mm}
-use Rattle.ballbox.specs.Box.{modeD}
 use Rattle.ballbox.specs.Commands.{letterP}
 use Rattle.ballbox.specs.declared.Event.{Event}
-use Rattle.ballbox.specs.declared.Event.the-variants.{Motion, Buttons, Host, Latch, Send, Period}
-use Rattle.vsxxx.specs.Reports.{PuckReport, movement, self-test, PuckMessage, of-box, of-test}
+use Rattle.ballbox.specs.declared.Event.the-variants.{Motion, Host, Latch, Send}
+use Rattle.vsxxx.specs.Reports.{PuckMessage, of-box, of-test}
 use Rattle.vsxxx.specs.declared.SelfTest.{SelfTest}
 use Rattle.puck.specs.Device.{made}
 use Rattle.puck.specs.Rules.{modeR, letterT}
@@ -22,7 +20,7 @@ use Rattle.puckreader.specs.State.{fresh}
 use Rattle.puckreader.specs.Line.{reads}
 use Rattle.puckreader.specs.declared.PuckAnswer.{PuckAnswer}
 use Rattle.puckreader.specs.declared.PuckAnswer.the-variants.{Nothing, Movement, Test, Dropped}
-use Rattle.puckhistory.specs.Runs.{puckWords, puckAfter}
+use Rattle.puckhistory.specs.Runs.{puckWords}
 use Rattle.puckhistory.specs.History.{passagesOf, goingAfter, atPowerUp}
 use Rattle.puckdemands.specs.Computing.{computing}
 

@@ -1,7 +1,6 @@
 -- Out of a self-test, over events without T, a run of the device is a run of its box, which is handed the bytes that it obeys or ignores.
-use Prim.Native.Nat.{ℕ}
 use mathlib.Core.Path.{_≡_, refl, sym, _∙_, ap}
-use mathlib.Core.Bool.{Bool, true, false, not, cond, _&&_}
+use mathlib.Core.Bool.{Bool, true, not}
 use mathlib.Core.List.{List, [], _∷_, _++_, map}
 use native.Mathlib.Omega.{arith}
 use lib.Dec.{eqb}
@@ -11,21 +10,18 @@ use Rattle.frames.specs.Passages.{Passage, silent, finished, broken, UnderWay, 
 use Rattle.frames.specs.Sender.{passagesOver, goingOver}
 use Rattle.frames.specs.Retold.{passagesAs, underWayAs, toldAs}
 use Rattle.wire.specs.Messages.{Message}
-use Rattle.ballbox.specs.Box as box
 use Rattle.ballbox.specs.Promises as boxes
-use Rattle.ballbox.specs.declared.BallBox.{BallBox}
 use Rattle.ballbox.specs.declared.Event.{Event}
 use Rattle.ballbox.specs.declared.Event.the-variants.{Motion, Buttons, Host, Latch, Send, Period}
-use Rattle.ballbox.specs.declared.Stepped.{Stepped}
 use Rattle.history.specs.Runs as box-runs
 use Rattle.history.specs.History as box-history
 use Rattle.history.specs.Asked.{allHosts, hostsPass}
 use Rattle.history.specs.Presses.{lastBox}
 use Rattle.vsxxx.specs.Reports.{PuckMessage, of-box}
-use Rattle.puck.specs.Device.{testing, withBall, Step}
-use Rattle.puck.specs.Rules.{letterT, asBox, around, byBox, outOfTest, rules}
+use Rattle.puck.specs.Device.{withBall, Step}
+use Rattle.puck.specs.Rules.{letterT, asBox, byBox, outOfTest, rules}
 use Rattle.puck.specs.Good.{good}
-use Rattle.puck.specs.Promises.{stepOf, outcome, StepPromise}
+use Rattle.puck.specs.Promises.{stepOf, StepPromise}
 use Rattle.puck.specs.declared.Puck.{Puck}
 use Rattle.puck.specs.declared.PuckStepped.{PuckStepped}
 use Rattle.puck.proofs.Goodness.{stepped-puck}

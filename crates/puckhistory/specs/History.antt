@@ -2,7 +2,7 @@
 -- box's history.
 use Prim.Native.Nat.{ℕ}
 use mathlib.Core.Bool.{cond}
-use mathlib.Core.List.{List, [], _∷_}
+use mathlib.Core.List.{List, []}
 use lib.Dec.{eqb}
 use Rattle.frames.specs.Passages.{Passage, UnderWay, nothing, first}
 use Rattle.frames.specs.Sender.{Told, told, sentOne, brokenOff, passagesOver, goingOver}

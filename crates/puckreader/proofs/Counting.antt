@@ -1,12 +1,10 @@
 -- "bytes in plus kept before equal bytes in reports plus dropped plus kept after": of a word, and of the words taken.
 use Prim.Native.Nat.{ℕ, zero, suc, _+_, _*_, _<_, _≤_}
-use mathlib.Core.Path.{_≡_, refl, sym, ap, _∙_}
-use mathlib.Core.Bool.{Bool, true, false, cond}
+use mathlib.Core.Path.{_≡_, refl}
+use mathlib.Core.Bool.{Bool, true, false}
 use mathlib.Core.List.{List, [], _∷_, _++_}
 use native.Mathlib.Omega.{arith}
-use lib.Dec.{leb}
-use lib.ListN.{length, take, length-append}
-use lib.IntN.{ℤ}
+use lib.ListN.{length, take}
 use borrow.Author.Tests.{le-leb, lt-leb}
 use Rattle.numbers.proofs.Choices.{cases}
 use Rattle.frames.specs.Words.{isByte}
@@ -15,7 +13,7 @@ use Rattle.fold.specs.Fold.{run}
 use Rattle.fold.specs.Counting.{total}
 use Rattle.fold.proofs.Laws as fold
 use Rattle.vsxxx.specs.SelfTests.{isTest}
-use Rattle.vsxxx.specs.Reports.{PuckReport, fitsPuck, puckFrame, sizeOfReport}
+use Rattle.vsxxx.specs.Reports.{PuckReport, puckFrame}
 use Rattle.puckreader.specs.State.{keptIn, told}
 use Rattle.puckreader.specs.Rules.{answered, wordOf}
 use Rattle.puckreader.specs.Line.{reportOf, handedOut, bytesReported, reportsIn, droppedIn, byteIn, bytesIn, numbers, reads}

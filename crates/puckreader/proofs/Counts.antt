@@ -1,12 +1,12 @@
 -- What a step and a long read count, of any answers that the promises permit.
 use Prim.Native.Nat.{ℕ, _+_, _*_}
-use mathlib.Core.Path.{_≡_, refl, sym, _∙_, ap}
+use mathlib.Core.Path.{_≡_, _∙_, ap}
 use mathlib.Core.Bool.{true}
-use mathlib.Core.List.{List, [], _++_}
+use mathlib.Core.List.{List, _++_}
 use lib.ListN.{length, take, drop}
 use lib.IntN.{ℤ}
 use Rattle.fold.specs.Fold.{run, written}
-use Rattle.fold.specs.Counting.{Long, total, longRead}
+use Rattle.fold.specs.Counting.{Long, longRead}
 use Rattle.fold.proofs.Counting.{places-total}
 use Rattle.wire.specs.Numbers.{success}
 use Rattle.vsxxx.specs.Reports.{PuckReport}

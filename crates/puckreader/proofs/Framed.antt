@@ -1,20 +1,20 @@
 -- Steps, one after the other, do what the reader of the frame does.
-use Prim.Native.Nat.{ℕ, suc, _≤_}
+use Prim.Native.Nat.{ℕ, _≤_}
 use mathlib.Core.Path.{_≡_, refl, sym, _∙_, ap}
-use mathlib.Core.Bool.{true, cond}
+use mathlib.Core.Bool.{true}
 use mathlib.Core.List.{List, [], _∷_, _++_, map}
 use native.Mathlib.Omega.{arith}
 use lib.Dec.{leb}
-use lib.ListN.{length, take}
+use lib.ListN.{length}
 use borrow.Author.Tests.{leb-true, le-leb}
 use Rattle.numbers.proofs.Choices.{cases}
 use Rattle.numbers.proofs.Tested.{left, right}
 use Rattle.frames.specs.Words.{silence, lineWords}
-use Rattle.frames.specs.Frame.{State, has, waits, kept, Move, fit, start, bad, break, act, complete, moveOf, step}
+use Rattle.frames.specs.Frame.{State, has, kept, Move, fit, start, bad, break, act, complete, moveOf, step}
 use Rattle.frames.specs.Frame as frame
 use Rattle.fold.specs.Counting.{answersOver, stateOver}
 use Rattle.vsxxx.specs.Reports.{PuckReport, puckFrame}
-use Rattle.puckreader.specs.State.{reader, keptIn, three, holding, told}
+use Rattle.puckreader.specs.State.{keptIn, holding, told}
 use Rattle.puckreader.specs.Rules.{wordOf}
 use Rattle.puckreader.specs.Good.{good}
 use Rattle.puckreader.specs.Line.{reads}

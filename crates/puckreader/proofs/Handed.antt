@@ -1,5 +1,5 @@
 -- From what the frame's reader hands out to what the public reader hands out, by steps and by a long read; and of a line of which a stretch was replaced.
-use Prim.Native.Nat.{ℕ, zero, suc, _+_, _*_, _<_, _≤_}
+use Prim.Native.Nat.{ℕ, zero, suc, _+_, _*_, _≤_}
 use mathlib.Core.Path.{_≡_, refl, sym, _∙_, ap}
 use mathlib.Core.Bool.{Bool, true}
 use mathlib.Core.List.{List, [], _∷_, _++_, map, append-assoc, head-eq-of-cons-eq}
@@ -11,17 +11,16 @@ use lib.IntN.{ℤ}
 use borrow.Author.Tests.{leb-true, le-leb}
 use Rattle.numbers.proofs.Tested.{left, right}
 use Rattle.frames.specs.Words.{silence, lineWords}
-use Rattle.frames.specs.Passages.{Passage, silent, finished, broken, UnderWay, passageWords, partWords, finishedBy, Lost, Sound, SoundPart}
+use Rattle.frames.specs.Passages.{Passage, finished, UnderWay, passageWords, partWords, Lost, Sound, SoundPart}
 use Rattle.frames.specs.Frame.{has, fresh, Framed, decoded}
 use Rattle.frames.specs.Frame as frame
-use Rattle.frames.proofs.Passages.{passages-append, sound-left, sound-right, sound-by, part-by, others-sound, same-finished}
+use Rattle.frames.proofs.Passages.{passages-append, sound-right, sound-by, part-by, others-sound, same-finished}
 use Rattle.frames.proofs.Words.{passing, passing-append, passing-left, passing-right, line-passes, lost-passes}
 use Rattle.frames.proofs.Replaced as replaced
 use Rattle.frames.proofs.Marks.{resync}
 use Rattle.fold.specs.Fold.{written}
 use Rattle.fold.specs.Counting.{Long, total, answersOver}
 use Rattle.fold.proofs.Counting.{took-all}
-use Rattle.wire.specs.Numbers.{success}
 use Rattle.vsxxx.specs.Reports.{PuckReport, movement, self-test, sixOf, puckFrame, PuckMessage, puckBytes, HeldByPuck, shownByPuck}
 use Rattle.vsxxx.proofs.Framed.{puck-marked, held-framed, held-shown}
 use Rattle.puckreader.specs.State.{keptIn, told}
@@ -29,12 +28,12 @@ use Rattle.puckreader.specs.Good.{good}
 use Rattle.puckreader.specs.Line.{reportOf, handedOut, numbers, reportsIn, reads, counts}
 use Rattle.puckreader.specs.Promises.{FreshPromise, ReadPromise}
 use Rattle.puckreader.specs.Runs.{StepsPromise, answers}
-use Rattle.puckreader.specs.HandedOut.{handing, Took, HandsOutBy, HandsOut, HandsOutAt, SoundLine, SoundGoing, finishedReports, Replaced, Within, EndsAt}
+use Rattle.puckreader.specs.HandedOut.{handing, Took, HandsOut, HandsOutAt, SoundLine, SoundGoing, finishedReports, Replaced, Within, EndsAt}
 use Rattle.puckreader.specs.declared.PuckReader.{PuckReader}
 use Rattle.puckreader.specs.declared.PuckRead.{PuckRead}
 use Rattle.puckreader.specs.declared.PuckReading.{PuckReading}
 use Rattle.puckreader.specs.declared.PuckAnswer.{PuckAnswer}
-use Rattle.puckreader.specs.declared.PuckAnswer.the-variants.{Nothing, Movement, Test, Dropped}
+use Rattle.puckreader.specs.declared.PuckAnswer.the-variants.{Nothing}
 use Rattle.puckreader.proofs.Kept.{held}
 use Rattle.puckreader.proofs.Word.{word-good}
 use Rattle.puckreader.proofs.Counting.{six-each}

@@ -10,7 +10,7 @@ use lib.IntN.{ℤ}
 use Rattle.fold.specs.Counting.{Long, unused, asOne}
 use Rattle.fold.proofs.Counting as fold
 use Rattle.puckreader.specs.Good.{good}
-use Rattle.puckreader.specs.Line.{counts, whole, lineOf}
+use Rattle.puckreader.specs.Line.{counts, whole}
 use Rattle.puckreader.specs.Promises.{ReadPromise, readOf}
 use Rattle.puckreader.specs.declared.PuckReader.{PuckReader}
 use Rattle.puckreader.specs.declared.PuckReading.{PuckReading}

@@ -1,6 +1,6 @@
 -- The long read's loop: the first word of what is left, and what stays within the machine's numbers.
 use Prim.Native.Nat.{ℕ, _+_, _-_, _*_, _<_, _≤_}
-use mathlib.Core.Path.{_≡_, refl, sym, ap, _∙_}
+use mathlib.Core.Path.{_≡_, sym, _∙_}
 use mathlib.Core.Bool.{true}
 use mathlib.Core.List.{List, [], _∷_, _++_}
 use native.Mathlib.Omega.{arith}
@@ -18,7 +18,7 @@ use Rattle.puckreader.specs.Line.{reportOf, reportsIn, droppedIn, number
 use Rattle.puckreader.specs.declared.PuckReading.{PuckReading}
 use Rattle.puckreader.specs.declared.PuckReader.{PuckReader}
 use Rattle.puckreader.specs.declared.PuckRead.{PuckRead}
-use Rattle.puckreader.proofs.Kept.{Held, held, count-small}
+use Rattle.puckreader.proofs.Kept.{held, count-small}
 use Rattle.puckreader.proofs.Word.{word-good}
 use Rattle.puckreader.proofs.Counting.{six-each, line-counts, bytes-few}
 

@@ -2,9 +2,8 @@
 use Prim.Native.Nat.{ℕ, _<_, _≤_}
 use mathlib.Core.Path.{_≡_, refl, sym, _∙_, ap}
 use mathlib.Core.Bool.{Bool, true, false}
-use mathlib.Core.List.{List, [], _∷_, List·Memᴰ·head as here, List·Memᴰ·tail as there}
+use mathlib.Core.List.{List, List·Memᴰ·head as here, List·Memᴰ·tail as there}
 use mathlib.Core.Logic.{_⊎_, inl, inr, ⊎-elim}
-use native.Mathlib.Omega.{arith}
 use lib.ListN.{length, getD, take}
 use lib.Dec.{leb, eqb}
 use lib.IntN.{ℤ}
@@ -12,7 +11,7 @@ use borrow.Author.Tests.{lt-leb, le-leb, eqb-true, eqb-false}
 use Rattle.numbers.proofs.Choices.{cases}
 use Rattle.frames.specs.Words.{silence}
 use Rattle.fold.specs.Fold.{Ran, run}
-use Rattle.fold.specs.Counting.{Long, stopped, withRefusal, longRead}
+use Rattle.fold.specs.Counting.{Long, stopped, longRead}
 use Rattle.fold.proofs.Laws as fold
 use Rattle.fold.proofs.Counting.{read-up-to}
 use Rattle.wire.specs.Numbers.{success, badState, badWord, accepted, refusal}

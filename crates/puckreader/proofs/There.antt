@@ -1,5 +1,5 @@
 -- There and back: the bytes of a report, read by a ready reader, give it back; and what was read, encoded again, gives the bytes that were read, except a minus zero.
-use Prim.Native.Nat.{ℕ, zero, suc, _*_, _-_, _≤_, _<_}
+use Prim.Native.Nat.{ℕ, zero, suc, _-_, _≤_, _<_}
 use mathlib.Core.Path.{_≡_, refl, sym, _∙_, ap}
 use mathlib.Core.Bool.{Bool, true, false, or-false}
 use mathlib.Core.List.{List, [], _∷_, _++_, map, map-append, append-nil, head-eq-of-cons-eq}
@@ -10,18 +10,17 @@ use lib.IntN.{ℤ}
 use borrow.Author.Tests.{leb-true}
 use Rattle.numbers.proofs.Tested.{left, right}
 use Rattle.frames.specs.Words.{silence, lineWords}
-use Rattle.frames.specs.Passages.{finished, nothing, passageWords, partWords}
+use Rattle.frames.specs.Passages.{finished, nothing}
 use Rattle.frames.specs.Frame.{State, has, after, Whole, keep, drops}
 use Rattle.frames.specs.Frame as frame
 use Rattle.frames.proofs.Words.{line-passes}
 use Rattle.frames.proofs.Reading.{ready-reads, calm-after}
-use Rattle.fold.specs.Counting.{Long, total, answersOver, stateOver}
-use Rattle.wire.specs.Line.{letterOf, sizeOf}
+use Rattle.fold.specs.Counting.{answersOver, stateOver}
+use Rattle.wire.specs.Line.{letterOf}
 use Rattle.wire.specs.Table.{bytesOf}
 use Rattle.wire.specs.Holds as wire
-use Rattle.wire.specs.Places.{fitsAt, fitsFirst, fitsLater, valid, allLater}
+use Rattle.wire.specs.Places.{fitsFirst, fitsLater, valid, allLater}
 use Rattle.wire.specs.Reading.{reportOf, settled}
-use Rattle.wire.specs.Numbers.{success}
 use Rattle.wire.specs.Promises.{EncodePromise}
 use Rattle.wire.specs.declared.Report.{Report}
 use Rattle.wire.specs.declared.Encoded.{Encoded}
@@ -30,14 +29,14 @@ use Rattle.wire.specs.declared.Format.the-variants.{Mm}
 use Rattle.wire.proofs.Answers.{accepted-written}
 use Rattle.wire.proofs.Codec as codec
 use Rattle.vsxxx.specs.SelfTests.{testBytes, testOf, holdsTest, isTest}
-use Rattle.vsxxx.specs.Reports.{PuckReport, movement, self-test, sixOf, fitsStart, fitsBehind, fitsPuck, puckFrame, PuckMessage, puckBytes, HeldByPuck, shownByPuck}
+use Rattle.vsxxx.specs.Reports.{PuckReport, movement, self-test, fitsStart, fitsBehind, fitsPuck, puckFrame, PuckMessage, puckBytes, HeldByPuck, shownByPuck}
 use Rattle.vsxxx.specs.declared.SelfTest.{SelfTest}
 use Rattle.vsxxx.proofs.Bytes as bytes
 use Rattle.vsxxx.proofs.Framed.{puck-marked, held-framed, held-shown}
-use Rattle.puckreader.specs.State.{reader, fresh, keptIn, told}
+use Rattle.puckreader.specs.State.{fresh, keptIn, told}
 use Rattle.puckreader.specs.Rules.{answered, wordOf}
 use Rattle.puckreader.specs.Good.{good}
-use Rattle.puckreader.specs.Line.{reads, whole, handedOut}
+use Rattle.puckreader.specs.Line.{reads, handedOut}
 use Rattle.puckreader.specs.Promises.{StepPromise, ReadPromise}
 use Rattle.puckreader.specs.Runs.{StepsPromise, answers, readerAfter}
 use Rattle.puckreader.specs.HandedOut.{handing, Took}

@@ -1,30 +1,28 @@
 -- What a word does: rule by rule, and what it leaves good.
 use Prim.Native.Nat.{ℕ, zero, suc, _+_, _<_, _≤_}
-use mathlib.Core.Path.{_≡_, refl, sym, ap, _∙_}
+use mathlib.Core.Path.{_≡_, refl}
 use mathlib.Core.Bool.{Bool, true, false, cond}
 use mathlib.Core.List.{List, [], _∷_, _++_}
 use native.Mathlib.Omega.{arith}
 use lib.Dec.{eqb, leb}
-use lib.ListN.{length, getD, length-append}
-use borrow.Author.Tests.{ne-eqb, le-leb, lt-leb, leb-true, leb-false, eqb-true, eqb-false}
+use lib.ListN.{getD}
+use borrow.Author.Tests.{ne-eqb, le-leb, lt-leb, leb-true, leb-false, eqb-false}
 use Rattle.numbers.proofs.Choices.{cases}
 use Rattle.frames.specs.Words as words
-use Rattle.frames.specs.Words.{isByte}
-use Rattle.frames.specs.Frame.{State, has, kept, moveOf, keep, act, complete, step, fit, start, bad, break, drops}
+use Rattle.frames.specs.Frame.{State, kept, moveOf, keep, act, fit, start, bad, break, drops}
 use Rattle.frames.specs.Frame as frame
 use Rattle.wire.specs.Line.{namedBy}
 use Rattle.wire.specs.Reading as wire
 use Rattle.wire.specs.Numbers.{success, badWord}
 use Rattle.vsxxx.specs.SelfTests.{testOf, isTest}
-use Rattle.vsxxx.specs.Reports.{PuckReport, movement, self-test, sizeFrom, fitsStart, fitsBehind, fitsPuck, puckFrame, sizeOfReport}
-use Rattle.puckreader.specs.State.{reader, keptIn, holding, told}
+use Rattle.vsxxx.specs.Reports.{PuckReport, fitsStart, fitsBehind, fitsPuck, puckFrame}
+use Rattle.puckreader.specs.State.{reader, keptIn, told}
 use Rattle.puckreader.specs.Rules.{refusing, answered, wordOf}
 use Rattle.puckreader.specs.Good.{firstOf, good}
 use Rattle.puckreader.specs.declared.PuckReader.{PuckReader}
 use Rattle.puckreader.specs.declared.PuckRead.{PuckRead}
-use Rattle.puckreader.specs.declared.PuckAnswer.{PuckAnswer}
 use Rattle.puckreader.specs.declared.PuckAnswer.the-variants.{Nothing, Movement, Test, Dropped}
-use Rattle.puckreader.proofs.Kept.{Held, none, one, two, three, held, held-good, kept-count, count-small, keep-none, keep-one, keep-two, keep-move, keep-test}
+use Rattle.puckreader.proofs.Kept.{Held, none, one, two, three, held, held-good, keep-none, keep-one, keep-two, keep-move, keep-test}
 
 -- a byte, by the rules
 pub byte-is : (r : PuckReader) (w : ℕ) → w < 256

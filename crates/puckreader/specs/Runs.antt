@@ -1,7 +1,7 @@
 -- Steps, one after the other: the answers over a list of words.
 use Prim.Native.Nat.{ℕ}
 use mathlib.Core.List.{List, [], _∷_, map}
-use Rattle.puckreader.specs.Promises.{StepPromise, stepOf}
+use Rattle.puckreader.specs.Promises.{StepPromise}
 use Rattle.puckreader.specs.declared.PuckReader.{PuckReader}
 use Rattle.puckreader.specs.declared.PuckRead.{PuckRead}
 use Rattle.puckreader.specs.declared.PuckAnswer.{PuckAnswer}

@@ -3,7 +3,7 @@ use Prim.Native.Nat.{ℕ, zero, suc, _+_, _-_, _<_, _≤_, _^_}
 use mathlib.Core.Path.{_≡_, refl, sym, _∙_, ap, subst}
 use mathlib.Core.Bool.{Bool, true, false, cond, _&&_, true≢false}
 use mathlib.Core.Logic.{⊎-elim}
-use mathlib.Core.List.{List, [], _∷_, _++_, append-assoc}
+use mathlib.Core.List.{List, _∷_, _++_, append-assoc}
 use native.Mathlib.Omega.{arith}
 use lib.Dec.{leb, eqb}
 use lib.ListN.{length, take}
@@ -14,20 +14,19 @@ use Rattle.fold.specs.Fold.{written, run}
 use Rattle.fold.proofs.Laws.{over-taken}
 use Rattle.wire.specs.Numbers.{success}
 use Rattle.listing.specs.Scanning.{mostAt, width}
-use Rattle.listing.specs.Items.{itemsIn}
 use Rattle.listing.specs.Printing.{formOf, lineOf, openingOf, lineAt}
 use Rattle.listing.specs.declared.Item.{Item}
 use Rattle.listing.specs.declared.Item.the-variants as item
 use Rattle.listing.specs.declared.Given.{Given}
 use Rattle.listing.specs.declared.Given.the-variants.{Nothing, One}
 use Rattle.readback.specs.Items.{Numbered, Proper, itemIn, widthIn, salvageIn}
-use Rattle.readback.specs.Steps.{oldWidth, widthKnown, readback, fresh, openedAt, passedBy, above, faulty, opens, said, stepOf, good}
+use Rattle.readback.specs.Steps.{widthKnown, readback, fresh, openedAt, passedBy, above, faulty, said, stepOf, good}
 use Rattle.readback.specs.Pieces.{cutIn, isWhole, bodyOf, faultyLine, reads}
 use Rattle.readback.specs.Rewriting.{otherWidth, tooWide, fitsAt, givenFits, rewrites}
-use Rattle.readback.specs.Whole.{Reading, reading, readingFrom}
+use Rattle.readback.specs.Whole.{readingFrom}
 use Rattle.readback.specs.declared.Readback.{Readback}
 use Rattle.readback.specs.declared.Step.{Step}
-use Rattle.readback.proofs.Goodness.{begun, unread, known-is, known-few, step-ended, step-first, step-item, step-leaves}
+use Rattle.readback.proofs.Goodness.{unread, known-is, step-ended, step-first, step-item, step-leaves}
 use Rattle.readback.proofs.Grammar.{Reads, item-read}
 use Rattle.readback.proofs.AsItWas.{cut-first, line-whole, letter-plain, first-plain, item-step, first-step}
 use Rattle.readback.proofs.Rewrites.{other-known}

@@ -2,11 +2,11 @@
 use Prim.Native.Nat.{ℕ, suc, _+_, _<_, _≤_}
 use mathlib.Core.Path.{_≡_, refl, sym, _∙_, ap, subst}
 use mathlib.Core.Bool.{Bool, true, false, cond, _&&_, true≢false}
-use mathlib.Core.List.{List, [], _∷_, _++_, append-nil, append-assoc}
+use mathlib.Core.List.{List, [], _∷_, _++_}
 use native.Mathlib.Omega.{arith}
-use lib.Dec.{ltb, eqb}
-use lib.ListN.{length, take}
-use borrow.Author.Tests.{ltb-true, eqb-true, eqb-false, eq-eqb, ne-eqb, lt-ltb}
+use lib.Dec.{eqb}
+use lib.ListN.{length}
+use borrow.Author.Tests.{ltb-true, eqb-true, lt-ltb}
 use Rattle.numbers.proofs.Choices.{cases}
 use Rattle.numbers.proofs.Tested.{left, right}
 use Rattle.wire.specs.Numbers.{success}
@@ -18,7 +18,7 @@ use Rattle.listing.specs.declared.Item.the-variants as item
 use Rattle.listing.specs.declared.Given.{Given}
 use Rattle.listing.specs.declared.Given.the-variants.{Nothing, One}
 use Rattle.readback.specs.Items.{Proper, itemIn, widthIn, salvageIn}
-use Rattle.readback.specs.Steps.{widthKnown, fresh, openedAt, passedBy, lastBehind, above, closes, faulty, opens, passes, said, stepOf}
+use Rattle.readback.specs.Steps.{widthKnown, fresh, openedAt, passedBy, lastBehind, above, closes, faulty, opens, said, stepOf}
 use Rattle.readback.specs.Pieces.{cutIn, bytesIn, isWhole, bodyOf, faultyLine, reads}
 use Rattle.readback.specs.Whole.{Reading, reading, readingFrom, readingOf, printed, Listed}
 use Rattle.readback.specs.declared.Readback.{Readback}

@@ -1,41 +1,33 @@
 -- WHATEVER THE LISTER WRITES OF AN INPUT COMES BACK AS IT WAS; and what is accepted, printed again, is the same bytes.
 use Prim.Native.Nat.{ℕ, suc, _+_, _<_, _≤_, _^_}
-use mathlib.Core.Path.{_≡_, refl, sym, _∙_, ap, subst}
-use mathlib.Core.Bool.{Bool, true, false, cond, _&&_, true≢false}
+use mathlib.Core.Path.{_≡_, refl, sym, _∙_, ap}
+use mathlib.Core.Bool.{Bool, true, false, cond}
 use mathlib.Core.List.{List, [], _∷_, _++_, append-nil, append-assoc}
 use native.Mathlib.Omega.{arith}
-use native.Mathlib.Numerals.{add-one}
 use lib.Dec.{ltb, eqb}
 use lib.IntN.{ℤ, pos, negsuc, natAbs}
-use lib.ListN.{length, take, drop, length-append}
+use lib.ListN.{length, length-append}
 use lib.Seq.{take-at, drop-at}
-use lib.Signed.{ltZ}
-use borrow.Author.Tests.{lt-ltb, le-ltb, eqb-true, eqb-false, eq-eqb, ne-eqb}
-use Rattle.numbers.proofs.Choices.{cases}
-use Rattle.numbers.proofs.Tested.{left, right}
-use Rattle.wire.specs.Numbers.{success}
+use borrow.Author.Tests.{lt-ltb, le-ltb}
 use Rattle.listing.specs.Lines.{newline, lengthTo, linesIn}
 use Rattle.listing.specs.Scanning.{mostAt, width}
-use Rattle.listing.specs.Items.{itemsIn, itemsFrom}
 use Rattle.listing.specs.Printing.{fieldsOf, fieldOf, Form, formOf, headOf, lineOf, firstLetter, openingOf, allBytes}
 use Rattle.listing.specs.Listing.{itemsAt, listingAt, listingOf}
 use Rattle.listing.specs.declared.Field.{Field}
 use Rattle.listing.specs.declared.Item.{Item}
 use Rattle.listing.specs.declared.Item.the-variants as item
-use Rattle.listing.specs.declared.Given.{Given}
 use Rattle.listing.specs.declared.Given.the-variants.{Nothing, One}
 use Rattle.listing.proofs.Ordered.{Ordered, ordered}
 use Rattle.listing.proofs.Widths.{same-at-four-and-six}
-use Rattle.readback.specs.Fields.{low, high}
+use Rattle.readback.specs.Fields.{high}
 use Rattle.readback.specs.Items.{Sixteen, Numbered, Proper, itemIn, widthIn}
-use Rattle.readback.specs.Steps.{widthKnown, readback, fresh, openedAt, passedBy, lastBehind, above, closes, faulty, opens, passes, said, stepOf, good}
-use Rattle.readback.specs.Pieces.{cutIn, bytesIn, isWhole, bodyOf, faultyLine, reads}
+use Rattle.readback.specs.Steps.{widthKnown, fresh, openedAt, passedBy, above, faulty, opens, said, stepOf, good}
+use Rattle.readback.specs.Pieces.{cutIn, isWhole, bodyOf}
 use Rattle.readback.specs.Whole.{Reading, reading, readingFrom, readingOf, printed, Listed}
 use Rattle.readback.specs.declared.Readback.{Readback}
-use Rattle.readback.specs.declared.Step.{Step}
-use Rattle.readback.proofs.Cuts.{cut-line, bytes-cut}
+use Rattle.readback.proofs.Cuts.{cut-line}
 use Rattle.readback.proofs.Goodness.{known-few, step-first, step-item}
-use Rattle.readback.proofs.Grammar.{past, field-above, read-item, Reads, item-read, read-width, read-kind, width-read}
+use Rattle.readback.proofs.Grammar.{past, field-above, read-item, read-width, read-kind}
 
 -- a line has no newline but its last byte
 fields-above : (w : ℕ) (fs : List Field) (b : List ℕ) → lengthTo newline (fieldsOf w fs ++ b) ≡ length (fieldsOf w fs) + lengthTo newline b

@@ -1,8 +1,8 @@
 -- A reader's calls, whatever answers the promises permit: what they wrote is what the bytes that they took say, in whatever pieces these came; a fault is told
 -- at its line; and pieces join.
 use Prim.Native.Nat.{ℕ, suc, _+_, _-_, _*_, _<_, _≤_}
-use mathlib.Core.Path.{_≡_, refl, sym, _∙_, ap, subst}
-use mathlib.Core.Bool.{Bool, true, false, cond, _&&_, true≢false}
+use mathlib.Core.Path.{_≡_, refl, sym, _∙_, ap}
+use mathlib.Core.Bool.{Bool, true, false, cond, _&&_}
 use mathlib.Core.Logic.{_⊎_, inl, inr}
 use mathlib.Core.List.{List, [], _∷_, _++_, append-assoc, append-nil}
 use native.Mathlib.Omega.{arith}
@@ -13,9 +13,9 @@ use lib.Seq.{take-add, take-at, take-all, drop-at, drop-drop, length-take-le}
 use borrow.Author.Tests.{ltb-true, ltb-false, leb-false, leb-true, eqb-true, eqb-false, eq-eqb, ne-eqb}
 use Rattle.numbers.proofs.Choices.{cases}
 use Rattle.numbers.proofs.Tested.{right}
-use Rattle.fold.specs.Fold.{Ran, ran, behind, written, places, takes, run}
-use Rattle.fold.proofs.Laws.{written-append, within, by-words, stays}
-use Rattle.wire.specs.Numbers.{success, badState}
+use Rattle.fold.specs.Fold.{Ran, behind, written, places, takes, run}
+use Rattle.fold.proofs.Laws.{written-append, by-words, stays}
+use Rattle.wire.specs.Numbers.{success}
 use Rattle.listing.specs.Lines.{newline, lengthTo}
 use Rattle.listing.specs.Items.{itemsIn}
 use Rattle.listing.specs.declared.Item.{Item}
@@ -24,7 +24,7 @@ use Rattle.listing.specs.declared.Given.the-variants.{Nothing, One}
 use Rattle.readback.specs.Items.{allNumbers}
 use Rattle.readback.specs.Steps.{fresh, stepOf, good}
 use Rattle.readback.specs.Pieces.{cutIn, bytesIn, isWhole, bodyOf, faultyLine, reads, longest, linesOf, itemsAmong, back, faultAt, Whole, whole, counted, piecesOf}
-use Rattle.readback.specs.Promises.{refused, readOf, finishOf, FreshPromise, ReadPromise, FinishPromise}
+use Rattle.readback.specs.Promises.{refused, readOf, finishOf, ReadPromise, FinishPromise}
 use Rattle.readback.specs.Calls.{Call, Permitted, readerAfter, takenBy, writtenBy}
 use Rattle.readback.specs.Whole.{Reading, reading, readingFrom, readingOf}
 use Rattle.readback.specs.declared.Readback.{Readback}

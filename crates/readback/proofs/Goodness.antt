@@ -1,11 +1,11 @@
 -- Good readers: what one has, and that every line leaves it so.
 use Prim.Native.Nat.{ℕ, _+_, _≤_}
 use mathlib.Core.Path.{_≡_, refl, sym, _∙_, ap, subst}
-use mathlib.Core.Bool.{Bool, true, false, not, cond, _&&_, true≢false}
+use mathlib.Core.Bool.{Bool, true, false, not, cond, _&&_}
 use mathlib.Core.Logic.{_⊎_, inl, inr, ⊎-elim}
 use mathlib.Core.List.{List}
 use native.Mathlib.Omega.{arith}
-use lib.Dec.{ltb, leb, eqb}
+use lib.Dec.{leb, eqb}
 use borrow.Author.Tests.{ltb-true, leb-true, eqb-true, eqb-false, le-leb, eq-eqb, ne-eqb, not-true}
 use Rattle.numbers.proofs.Choices.{cases, both}
 use Rattle.numbers.proofs.Tested.{left, right}
@@ -15,7 +15,7 @@ use Rattle.listing.specs.declared.Item.the-variants as item
 use Rattle.listing.specs.declared.Given.{Given}
 use Rattle.listing.specs.declared.Given.the-variants.{Nothing, One}
 use Rattle.readback.specs.Items.{Small, itemIn, widthIn, salvageIn}
-use Rattle.readback.specs.Steps.{oldWidth, widthKnown, openedAt, passedBy, lastBehind, above, closes, faulty, opens, passes, said, stepOf, besides, fresh, good}
+use Rattle.readback.specs.Steps.{oldWidth, widthKnown, openedAt, passedBy, above, faulty, opens, said, stepOf, besides, fresh, good}
 use Rattle.readback.specs.declared.Readback.{Readback}
 use Rattle.readback.specs.declared.Step.{Step}
 use Rattle.readback.proofs.Values.{SmallGiven, small-item}

@@ -1,8 +1,8 @@
 -- The grammar of a line, read both ways: what Printing writes is read as it was, and what is read is what Printing writes.
-use Prim.Native.Nat.{ℕ, zero, suc, _+_, _<_, _≤_, _^_}
+use Prim.Native.Nat.{ℕ, suc, _+_, _<_, _≤_, _^_}
 use mathlib.Core.Path.{_≡_, refl, sym, _∙_, ap, subst}
-use mathlib.Core.Bool.{Bool, true, false, not, cond, _&&_, _||_, true≢false}
-use mathlib.Core.List.{List, [], _∷_, _++_, append-nil, map}
+use mathlib.Core.Bool.{Bool, true, false, _&&_, _||_, true≢false}
+use mathlib.Core.List.{List, [], _∷_, _++_, map}
 use native.Mathlib.Omega.{arith}
 use native.Mathlib.Nat.{zero-add}
 use native.Mathlib.Numerals.{add-one}
@@ -14,13 +14,13 @@ use lib.Signed.{ltZ}
 use borrow.Author.Tests.{ltb-true, ltb-false, le-ltb, lt-ltb, leb-true, eqb-true, eq-eqb, ne-eqb, not-true}
 use Rattle.numbers.proofs.Choices.{cases, or-else, neither}
 use Rattle.numbers.proofs.Tested.{left, right, refused}
-use Rattle.text.specs.Decimals.{plain, placesOf, unsignedOf, decimalOf, isDigit, allDigits, most, numberIn, digitsOf, sizeOf}
+use Rattle.text.specs.Decimals.{plain, placesOf, unsignedOf, decimalOf, isDigit, allDigits, numberIn, sizeOf}
 use Rattle.text.specs.declared.Number.{Number}
 use Rattle.text.specs.declared.Number.the-variants.{None, Is}
 use Rattle.text.proofs.Digits.{digits-long, places-hold, places-few, all-digits, written-read, read-written}
-use Rattle.listing.specs.Lines.{tab, newline, lengthTo}
+use Rattle.listing.specs.Lines.{tab, lengthTo}
 use Rattle.listing.specs.Scanning.{mostLines}
-use Rattle.listing.specs.Printing.{pressed as pressedLetter, middle, three, over, fieldOf, fieldsOf, letterD, letterR, letterH, letterE, letterL, letterS, firstLetter, formOf, headOf, openingOf}
+use Rattle.listing.specs.Printing.{pressed as pressedLetter, middle, three, fieldOf, fieldsOf, letterD, letterR, letterH, letterE, letterL, letterS, firstLetter, formOf, headOf, openingOf}
 use Rattle.listing.specs.declared.Middle.{Middle}
 use Rattle.listing.specs.declared.Middle.the-variants.{Up, Down, Unknown}
 use Rattle.listing.specs.declared.Buttons.{Buttons}
@@ -30,7 +30,7 @@ use Rattle.listing.specs.declared.Field.{Field}
 use Rattle.listing.specs.declared.Field.the-variants as field
 use Rattle.listing.specs.declared.Given.{Given}
 use Rattle.listing.specs.declared.Given.the-variants.{Nothing, One}
-use Rattle.readback.specs.Fields.{low, high, within, lineIn, threeOf, pressedIn, overIn, valueIn, Part, part, none, fieldIn, Fields, fieldsIn}
+use Rattle.readback.specs.Fields.{low, high, within, threeOf, pressedIn, overIn, valueIn, fieldIn, fieldsIn}
 use Rattle.readback.specs.Items.{pressedNumber, buttonsAt, Sixteen, Numbered, Proper, valueAt, numberAt, droppedIn, reportIn, keptIn, badIn, itemIn, widthIn, salvageIn}
 use Rattle.readback.specs.declared.Kind.{Kind}
 use Rattle.readback.specs.declared.Kind.the-variants as kind

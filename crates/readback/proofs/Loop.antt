@@ -1,7 +1,7 @@
 -- The loop over the lines of a piece, of any machine that follows the reading: where it stands, the first line of what is left, and how it goes on and ends.
 use Prim.Native.Nat.{ℕ, suc, _+_, _-_, _*_, _<_, _≤_}
 use mathlib.Core.Path.{_≡_, refl, sym, _∙_, ap, subst}
-use mathlib.Core.Bool.{Bool, true, false, cond, _&&_}
+use mathlib.Core.Bool.{true, false, cond}
 use mathlib.Core.List.{List, [], _∷_, _++_, append-nil, append-assoc}
 use native.Mathlib.Omega.{arith}
 use native.Mathlib.Numerals.{add-one}
@@ -9,7 +9,7 @@ use lib.IntN.{ℤ}
 use lib.ListN.{length, take, drop, length-append, length-drop, drop-of-length-le}
 use lib.Seq.{take-add, drop-drop}
 use borrow.Author.Tests.{ne-eqb}
-use Rattle.fold.specs.Fold.{MachineOver, ran, written, places, takes, run, Part}
+use Rattle.fold.specs.Fold.{MachineOver, ran, written, places, run}
 use Rattle.fold.proofs.Laws.{taken, stops}
 use Rattle.fold.proofs.Parts.{none, one, joins, part-room, part-long, part-left, part-ends}
 use Rattle.listing.specs.Lines.{newline, lengthTo}
@@ -18,7 +18,7 @@ use Rattle.listing.specs.declared.Given.{Given}
 use Rattle.listing.specs.declared.Given.the-variants.{Nothing, One}
 use Rattle.readback.specs.Items.{allNumbers}
 use Rattle.readback.specs.Steps.{stepOf, good}
-use Rattle.readback.specs.Pieces.{cutIn, bytesIn, isWhole, bodyOf, faultyLine, reads, longest, linesOf, itemsAmong, back, faultAt, whole, piecesOf}
+use Rattle.readback.specs.Pieces.{cutIn, bytesIn, bodyOf, faultyLine, reads, longest, linesOf, itemsAmong, back, faultAt, whole, piecesOf}
 use Rattle.readback.specs.Parts.{Stands, Begin, Begins}
 use Rattle.readback.specs.declared.Readback.{Readback}
 use Rattle.readback.specs.declared.Step.{Step}

@@ -2,18 +2,18 @@
 -- stands before that line; a good one is refused for nothing else, and no other is ever made.
 use Prim.Native.Nat.{ℕ}
 use mathlib.Core.Path.{_≡_, refl, sym, _∙_, ap}
-use mathlib.Core.Bool.{Bool, true, false, cond, _&&_}
+use mathlib.Core.Bool.{true, false, _&&_}
 use mathlib.Core.Logic.{_⊎_, inl, inr, ⊎-elim}
 use mathlib.Core.List.{List, [], append-nil}
 use native.Mathlib.Omega.{arith}
 use lib.Dec.{eqb}
 use lib.IntN.{ℤ}
-use lib.ListN.{length, take, drop}
+use lib.ListN.{length, take}
 use lib.Seq.{take-all}
 use Rattle.numbers.proofs.Choices.{cases}
-use Rattle.fold.specs.Fold.{Ran, ran, run}
-use Rattle.fold.proofs.Laws.{up-to, within}
-use Rattle.wire.specs.Numbers.{success, badState}
+use Rattle.fold.specs.Fold.{Ran, run}
+use Rattle.fold.proofs.Laws.{up-to}
+use Rattle.wire.specs.Numbers.{success}
 use Rattle.listing.specs.declared.Given.{Given}
 use Rattle.readback.specs.Steps.{good}
 use Rattle.readback.specs.Pieces.{cutIn, bytesIn, faultyLine, reads, linesOf, back, Whole, whole, counted}

@@ -1,8 +1,8 @@
 -- The lines of a piece, rewritten: the text of a line, and what the first line of a piece does.
-use Prim.Native.Nat.{ℕ, suc, _+_, _-_, _*_, _<_, _≤_, _^_}
+use Prim.Native.Nat.{ℕ, _+_, _-_, _*_, _<_, _≤_, _^_}
 use mathlib.Core.Path.{_≡_, refl, sym, _∙_, ap, subst}
-use mathlib.Core.Bool.{Bool, true, false, cond, _||_}
-use mathlib.Core.Logic.{inl, inr, ⊎-elim}
+use mathlib.Core.Bool.{Bool, true, false, cond}
+use mathlib.Core.Logic.{⊎-elim}
 use mathlib.Core.List.{List, [], _∷_, _++_}
 use native.Mathlib.Omega.{arith}
 use native.Mathlib.Nat.{zero-add}
@@ -10,11 +10,11 @@ use lib.Dec.{eqb, ltb}
 use lib.IntN.{ℤ, pos, negsuc, natAbs}
 use lib.ListN.{length, take, drop, length-append}
 use lib.Signed.{ltZ}
-use borrow.Author.Tests.{ne-eqb, ltb-false}
+use borrow.Author.Tests.{ltb-false}
 use Rattle.numbers.proofs.Choices.{cases, neither}
-use Rattle.fold.specs.Fold.{ran, written, places, run}
+use Rattle.fold.specs.Fold.{ran, run}
 use Rattle.text.specs.Growth.{textOf, fitsAt, putOf}
-use Rattle.text.specs.Decimals.{plain, decimalOf}
+use Rattle.text.specs.Decimals.{plain}
 use Rattle.text.specs.declared.Text.{Text}
 use Rattle.text.proofs.Laws.{put-none}
 use Rattle.text.proofs.Digits.{decimal-few}
@@ -23,13 +23,12 @@ use Rattle.listing.specs.Scanning.{width, mostLines}
 use Rattle.listing.specs.Printing.{fieldOf, fieldsOf, Form, formOf, openingOf, headOf, lineOf, lineAt}
 use Rattle.listing.specs.declared.Field.{Field}
 use Rattle.listing.specs.declared.Field.the-variants as field
-use Rattle.listing.specs.declared.Item.{Item}
 use Rattle.listing.specs.declared.Item.the-variants as item
 use Rattle.listing.specs.declared.Given.{Given}
 use Rattle.listing.specs.declared.Given.the-variants.{Nothing, One}
 use Rattle.listing.proofs.Feeds.{size, put-room, put-wrote, put-short}
 use Rattle.readback.specs.Fields.{low, high}
-use Rattle.readback.specs.Items.{Sixteen, Small}
+use Rattle.readback.specs.Items.{Sixteen}
 use Rattle.readback.specs.Steps.{oldWidth, widthKnown, stepOf, good}
 use Rattle.readback.specs.Pieces.{bodyOf, faultyLine, reads, linesOf, faultAt}
 use Rattle.readback.specs.Rewriting.{otherWidth, tooWide, givenFits, rewrites, rewriting, rewritten, rewrittenOf}
@@ -39,7 +38,7 @@ use Rattle.readback.specs.declared.Step.{Step}
 use Rattle.readback.specs.declared.Rewritten.{Rewritten}
 use Rattle.readback.proofs.Values.{SmallGiven}
 use Rattle.readback.proofs.Goodness.{known-is, known-few, step-leaves}
-use Rattle.readback.proofs.Loop.{firstLine, step-is, refusal-is, Follows, starts, far, ends-all, ends-before, more, refused-stop, room-stop, line-taken}
+use Rattle.readback.proofs.Loop.{firstLine, step-is, refusal-is, Follows, ends-all, ends-before, refused-stop, room-stop, line-taken}
 
 -- a width that is known and not six is four; and the other width is known
 pub known-other : (w : ℕ) → widthKnown w ≡ true → (w ≡ width → ⊥) → w ≡ oldWidth

@@ -3,23 +3,21 @@ use Prim.Native.Nat.{ℕ, suc, _+_, _<_, _≤_, _^_}
 use mathlib.Core.Path.{_≡_, refl, sym, _∙_, ap, subst}
 use mathlib.Core.Bool.{Bool, true, false, cond, true≢false}
 use mathlib.Core.Logic.{⊎-elim}
-use mathlib.Core.List.{List, [], _∷_, _++_}
+use mathlib.Core.List.{List}
 use native.Mathlib.Omega.{arith}
 use lib.Dec.{eqb}
 use lib.IntN.{ℤ, pos, natAbs}
 use lib.ListN.{length, length-append}
 use borrow.Author.Tests.{eqb-true, eqb-false}
 use Rattle.numbers.proofs.Tested.{refused}
-use Rattle.text.specs.Decimals.{plain, placesOf, unsignedOf, decimalOf}
+use Rattle.text.specs.Decimals.{plain, placesOf, decimalOf}
 use Rattle.text.proofs.Digits.{digits-long, places-few, decimal-few}
 use Rattle.listing.specs.Scanning.{width}
-use Rattle.listing.specs.Printing.{fieldOf, fieldsOf, formOf, headOf, openingOf}
-use Rattle.listing.specs.declared.Field.{Field}
+use Rattle.listing.specs.Printing.{formOf, headOf, openingOf}
 use Rattle.listing.specs.declared.Item.{Item}
 use Rattle.listing.specs.declared.Item.the-variants as item
 use Rattle.listing.specs.declared.Given.the-variants.{Nothing}
-use Rattle.readback.specs.Fields.{high}
-use Rattle.readback.specs.Items.{Sixteen, Numbered, Proper, widthIn, salvageIn}
+use Rattle.readback.specs.Items.{Proper, widthIn, salvageIn}
 use Rattle.readback.specs.Steps.{widthKnown, openedAt, faulty, opens, stepOf, good}
 use Rattle.readback.specs.Pieces.{longest}
 use Rattle.readback.specs.declared.Readback.{Readback}

@@ -1,12 +1,11 @@
 -- THROUGH BOTH: whatever the lister writes of an input, in whatever calls, comes back as it was through whatever calls of the reader.
 use Prim.Native.Nat.{ℕ}
-use mathlib.Core.Path.{_≡_, refl, sym, _∙_, ap}
+use mathlib.Core.Path.{_≡_, refl, _∙_, ap}
 use mathlib.Core.Bool.{Bool, true, false}
 use mathlib.Core.List.{List, [], _++_, append-nil}
 use mathlib.Core.Logic.{_⊎_, ⊎-elim}
-use native.Mathlib.Omega.{arith}
 use lib.IntN.{ℤ}
-use lib.ListN.{length, take}
+use lib.ListN.{take}
 use Rattle.wire.specs.Numbers.{success}
 use Rattle.listing.specs.Scanning.{width}
 use Rattle.listing.specs.Listing.{itemsAt}
@@ -18,7 +17,6 @@ use Rattle.listing.specs.declared.Listed.{Listed}
 use Rattle.listing.proofs.Calls as listing
 use Rattle.readback.specs.Items.{allNumbers}
 use Rattle.readback.specs.Steps.{fresh}
-use Rattle.readback.specs.Pieces.{faultyLine}
 use Rattle.readback.specs.Promises.{ReadPromise, FinishPromise}
 use Rattle.readback.specs.Calls.{Call, Permitted, readerAfter, takenBy, writtenBy}
 use Rattle.readback.specs.Whole.{Reading, reading, readingOf}

@@ -1,10 +1,9 @@
 -- Fields of a line: where they end, what bounds their values have, and fields one behind the other as the code reads them.
-use Prim.Native.Nat.{ℕ, zero, suc, _+_, _-_, _<_, _≤_}
-use mathlib.Core.Path.{_≡_, refl, sym, _∙_, ap}
-use mathlib.Core.Bool.{Bool, true, false, not, cond, _&&_, _||_, true≢false}
-use mathlib.Core.List.{List, [], _∷_, _++_}
+use Prim.Native.Nat.{ℕ, suc, _+_, _-_, _<_, _≤_}
+use mathlib.Core.Path.{_≡_, refl, sym, _∙_}
+use mathlib.Core.Bool.{Bool, true, false, cond, _&&_, _||_, true≢false}
+use mathlib.Core.List.{List, [], _∷_}
 use native.Mathlib.Omega.{arith}
-use native.Mathlib.Nat.{not-suc-le-zero}
 use native.Mathlib.Numerals.{add-one}
 use lib.Dec.{ltb, leb, eqb}
 use lib.IntN.{ℤ, pos, negsuc, natAbs}
@@ -27,7 +26,7 @@ use Rattle.listing.specs.declared.Middle.the-variants.{Up, Down, Unknown}
 use Rattle.listing.specs.declared.Given.{Given}
 use Rattle.listing.specs.declared.Given.the-variants.{Nothing, One}
 use Rattle.listing.specs.declared.Item.the-variants as item
-use Rattle.readback.specs.Fields.{low, high, none, within, threeOf, counts, pressedIn, valueIn, Part, part, fieldIn, took, Fields, fieldsIn}
+use Rattle.readback.specs.Fields.{low, high, within, counts, pressedIn, valueIn, Part, fieldIn, took, Fields, fieldsIn}
 use Rattle.readback.specs.Items.{Sixteen, Small, valueAt, middleNumber, counted, buttonsAt, five, droppedIn, reportIn, keptIn, badIn, itemIn, widthIn, salvageIn}
 use Rattle.readback.specs.declared.Kind.{Kind}
 use Rattle.readback.specs.declared.Kind.the-variants as kind

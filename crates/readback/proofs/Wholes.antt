@@ -1,26 +1,23 @@
 -- Whole lines in front of more bytes: they are cut off as they were, and what they gave comes in front.
-use Prim.Native.Nat.{ℕ, zero, suc, _+_, _-_, _*_, _<_, _≤_}
+use Prim.Native.Nat.{ℕ, zero, suc, _+_, _-_, _<_, _≤_}
 use mathlib.Core.Path.{_≡_, refl, sym, _∙_, ap}
-use mathlib.Core.Bool.{Bool, true, false, not, cond, _&&_, true≢false}
-use mathlib.Core.List.{List, [], _∷_, _++_, append-assoc, append-nil}
+use mathlib.Core.Bool.{Bool, true, false}
+use mathlib.Core.List.{List, [], _∷_, _++_, append-assoc}
 use native.Mathlib.Omega.{arith}
-use lib.Dec.{ltb, leb, eqb}
-use lib.IntN.{ℤ}
+use lib.Dec.{eqb}
 use lib.ListN.{length, take, drop, length-append, take-append-drop}
 use lib.Seq.{take-add, take-at, drop-at, length-take-le}
 use borrow.Author.Tests.{ltb-true, lt-ltb, eq-eqb}
 use Rattle.numbers.proofs.Choices.{cases}
 use Rattle.numbers.proofs.Tested.{left}
-use Rattle.fold.specs.Fold.{MachineOver, Ran, ran, behind, written, run}
+use Rattle.fold.specs.Fold.{MachineOver, Ran, behind, written, run}
 use Rattle.fold.proofs.Laws.{join, up-to, within, over-taken}
 use Rattle.wire.specs.Numbers.{success}
 use Rattle.listing.specs.Lines.{newline, lengthTo, front}
-use Rattle.listing.specs.Items.{itemsIn}
 use Rattle.listing.specs.declared.Item.{Item}
 use Rattle.listing.specs.declared.Given.{Given}
-use Rattle.readback.specs.Items.{allNumbers}
 use Rattle.readback.specs.Steps.{stepOf}
-use Rattle.readback.specs.Pieces.{cutIn, bytesIn, isWhole, bodyOf, faultyLine, reads, cutOff, handed, linesOf, itemsAmong}
+use Rattle.readback.specs.Pieces.{cutIn, bytesIn, isWhole, bodyOf, reads, cutOff, handed, linesOf, itemsAmong}
 use Rattle.readback.specs.Whole.{Reading, reading, readingFrom}
 use Rattle.readback.specs.declared.Readback.{Readback}
 use Rattle.readback.proofs.Cuts.{bytes-cut}

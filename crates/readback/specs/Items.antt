@@ -10,7 +10,6 @@ use lib.Signed.{ltZ}
 use Rattle.text.specs.Decimals.{plain}
 use Rattle.listing.specs.Scanning.{mostLines}
 use Rattle.listing.specs.Printing.{letterD, letterR, letterH, letterE, letterL, letterS}
-use Rattle.listing.specs.Items.{itemsIn}
 use Rattle.listing.specs.declared.Middle.{Middle}
 use Rattle.listing.specs.declared.Middle.the-variants.{Up, Down, Unknown}
 use Rattle.listing.specs.declared.Buttons.{Buttons}

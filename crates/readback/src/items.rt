@@ -1,6 +1,5 @@
 // A line, to its item; and an item, to its five numbers.
 ghost use mathlib.Core.Path.{_≡_};
-ghost use lib.IntN.{pos};
 ghost use lib.ListN.{drop};
 ghost use Rattle.readback.specs.Items.{middleAt, buttonsAt, middleNumber, pressedNumber, five, fiveOf, Small, droppedIn, reportIn, keptIn, badIn, itemIn, widthIn, salvageIn};
 use crate::Five;

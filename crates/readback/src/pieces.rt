@@ -6,7 +6,7 @@ ghost use Prim.Native.Nat.{_<_, _≤_};
 ghost use lib.ListN.{length, drop};
 ghost use Rattle.readback.specs.Items.{Small, numbersOf};
 ghost use Rattle.readback.specs.Steps.{good};
-ghost use Rattle.readback.specs.Pieces.{back, faultAt, whole, piecesOf};
+ghost use Rattle.readback.specs.Pieces.{back, whole, piecesOf};
 ghost use Rattle.readback.specs.Parts.{Begins};
 ghost use Rattle.readback.specs.Promises.{FreshPromise, ReadPromise, FinishPromise};
 use crate::Back;

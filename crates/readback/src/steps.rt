@@ -1,7 +1,7 @@
 // A line in its place: what it does to a reader of listings.
 ghost use mathlib.Core.Path.{_≡_};
 ghost use mathlib.Core.Bool.{true};
-ghost use Rattle.readback.specs.Steps.{widthKnown, lastBehind, above, closes, faulty, openedAt, passedBy, opens, passes, stepOf, besides, good};
+ghost use Rattle.readback.specs.Steps.{widthKnown, lastBehind, above, closes, faulty, opens, passes, stepOf, besides, good};
 use crate::Readback;
 use crate::Step;
 use crate::items;

@@ -1,21 +1,21 @@
 -- Words that each fit the next place of a report: where they are as many as a report has, they are a valid one.
-use Prim.Native.Nat.{ℕ, zero, suc, _+_, _-_, _<_, _≤_}
+use Prim.Native.Nat.{ℕ, suc, _+_, _-_, _<_, _≤_}
 use mathlib.Core.Path.{_≡_, refl, sym, ap, _∙_}
 use mathlib.Core.Bool.{Bool, true, false, cond, _&&_, and-true, and-false, and-assoc}
 use mathlib.Core.List.{List, [], _∷_}
 use native.Mathlib.Omega.{arith}
 use native.Mathlib.Numerals.{add-one}
 use lib.ListN.{length, take, drop, getD, drop-of-length-le}
-use lib.Seq.{drop-cons, getD-take, length-take-le}
-use lib.Dec.{leb, eqb}
+use lib.Seq.{drop-cons, length-take-le}
+use lib.Dec.{leb}
 use borrow.Author.Tests.{le-leb, lt-leb, eq-eqb, ne-eqb}
 use Rattle.frames.specs.Words.{isByte, silence, lineWords}
 use Rattle.wire.specs.Line.{namedBy, ofNamed, sizeOf, sizeBy}
-use Rattle.wire.specs.Places.{fitsFirst, fitsLater, fitsAt, fitsBy, allLater, valid}
+use Rattle.wire.specs.Places.{fitsFirst, fitsLater, fitsAt, allLater, valid}
 use Rattle.wire.specs.declared.Format.{Format}
 use Rattle.wire.specs.declared.Named.{Named}
 use Rattle.wire.specs.declared.Named.the-variants.{Known, Unknown}
-use Rattle.wire.proofs.Letters.{size-named, fits-named}
+use Rattle.wire.proofs.Letters.{fits-named}
 use Rattle.choosing.specs.Choice.{allBytes}
 use Rattle.choosing.specs.Earliest.{starts}
 use Rattle.salvage.specs.Picking.{validBy, startsBy, fitsWord}

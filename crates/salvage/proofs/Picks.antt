@@ -1,19 +1,17 @@
 -- What follows from the promise of `pick`: one answer; the best of all choices; a log that was stopped for room goes on; and when there is room for all.
-use Prim.Native.Nat.{ℕ, zero, suc, _+_, _-_, _*_, _<_, _≤_}
+use Prim.Native.Nat.{ℕ, _+_, _-_, _*_, _<_, _≤_}
 use mathlib.Core.Path.{_≡_, refl, sym, ap, _∙_}
 use mathlib.Core.Bool.{Bool, true, false, cond}
-use mathlib.Core.List.{List, [], _∷_, _++_, map, append-nil}
+use mathlib.Core.List.{List, map, append-nil}
 use native.Mathlib.Omega.{arith}
-use lib.ListN.{length, take, drop, getD, length-append, length-take, drop-of-length-le, take-append-drop}
+use lib.ListN.{length, take, drop, getD, drop-of-length-le, take-append-drop}
 use native.Mathlib.Nat.{mul-le-mul-right}
 use lib.Seq.{take-all, take-at}
 use lib.Dec.{leb, eqb}
-use borrow.Author.Tests.{le-leb, lt-leb, leb-true, leb-false, eqb-true, eqb-false}
-use Rattle.numbers.proofs.Choices.{cases}
+use borrow.Author.Tests.{leb-true, leb-false, eqb-true, eqb-false}
 use Rattle.wire.specs.Line.{sizeBy}
 use Rattle.wire.specs.Numbers.{success}
 use Rattle.wire.proofs.Letters.{size-positive, at-least-three}
-use Rattle.choosing.specs.Choice.{Best, leftOut, bytesIn}
 use Rattle.choosing.specs.Earliest.{earliestFrom}
 use Rattle.choosing.proofs.Left.{few-bytes}
 use Rattle.choosing.proofs.Best.{earliest-is-best, left-and-runs}

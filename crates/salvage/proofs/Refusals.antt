@@ -1,6 +1,6 @@
 -- The refusals in their order, and a log that is not refused.
 use Prim.Native.Nat.{ℕ, _<_, _≤_}
-use mathlib.Core.Path.{_≡_, refl, sym, _∙_}
+use mathlib.Core.Path.{_≡_, refl, _∙_}
 use mathlib.Core.Bool.{Bool, true, false, not, cond}
 use mathlib.Core.List.{List, List·Memᴰ·head as here, List·Memᴰ·tail as there}
 use native.Mathlib.Omega.{arith}
@@ -10,7 +10,7 @@ use borrow.Author.Tests.{lt-ltb, le-ltb, ltb-false}
 use Rattle.frames.specs.Words.{lineWords}
 use Rattle.wire.specs.Line.{known, markedBy}
 use Rattle.wire.specs.Numbers.{success, badLetter, badWord, accepted, refusal}
-use Rattle.salvage.specs.Picking.{mostWords, markedFormat, longLog, refusalOf, Whole, whole, refused, picking, pickOf}
+use Rattle.salvage.specs.Picking.{mostWords, markedFormat, longLog, refusalOf, whole, refused, picking, pickOf}
 use Rattle.salvage.specs.Promises.{PickPromise, PickRefusal}
 use Rattle.salvage.specs.declared.Picked.{Picked}
 

@@ -1,8 +1,8 @@
 -- The theorems: what is picked is the best of all choices, and a log that was stopped for room goes on where it stopped.
-use Prim.Native.Nat.{ℕ, _+_, _*_, _≤_}
+use Prim.Native.Nat.{ℕ, _+_}
 use mathlib.Core.Path.{_≡_}
 use mathlib.Core.List.{List, _++_, map}
-use lib.ListN.{length, take, drop}
+use lib.ListN.{take, drop}
 use Rattle.wire.specs.Line.{sizeBy}
 use Rattle.choosing.specs.Choice.{leftOut}
 use Rattle.salvage.specs.Picking.{validBy, pickedBy, BestBy}

@@ -1,7 +1,7 @@
 -- The runs that are picked from a log of a format, and what is told of them.
-use Prim.Native.Nat.{ℕ, suc, _-_, _*_}
-use mathlib.Core.Bool.{Bool, true, false, not, cond, _&&_}
-use mathlib.Core.List.{List, [], _∷_, _++_}
+use Prim.Native.Nat.{ℕ, _-_, _*_}
+use mathlib.Core.Bool.{Bool, false, not, cond}
+use mathlib.Core.List.{List, _++_}
 use lib.ListN.{length, take, drop, getD}
 use lib.Dec.{leb, ltb, eqb}
 use Rattle.frames.specs.Words.{isByte, lineWords}

@@ -34,7 +34,6 @@ use Rattle.salvaged.specs.Log.{logOf}
 use Rattle.salvaged.specs.Items.{bytesAt, itemOf, itemsOf}
 use Rattle.salvaged.specs.Listing.{itemLine, textOf, salvageOf}
 use Rattle.salvaged.specs.Promises.{ListPromise}
-use Rattle.salvaged.specs.Whole.{AllThere}
 use Rattle.salvaged.specs.declared.Salvaged.{Salvaged}
 use Rattle.salvaged.proofs.Runs.{sized, within}
 use Rattle.salvaged.proofs.Room.{next}

@@ -1,18 +1,17 @@
 -- A log in its slice: a word more, one too many, and what stands alone; and the log of an input byte by byte.
-use Prim.Native.Nat.{ℕ, suc, _+_, _<_, _≤_}
-use mathlib.Core.Path.{_≡_, refl, sym, ap, _∙_}
-use mathlib.Core.Bool.{Bool, true, false, cond}
-use mathlib.Core.List.{List, [], _∷_, _++_}
+use Prim.Native.Nat.{ℕ, _+_, _<_, _≤_}
+use mathlib.Core.Path.{_≡_, refl, ap, _∙_}
+use mathlib.Core.List.{List, [], _∷_}
 use native.Mathlib.Omega.{arith}
 use native.Mathlib.Numerals.{add-one}
 use lib.ListN.{length, take, drop, getD, set, length-set}
 use lib.Seq.{length-take-le, take-suc-set, drop-cons}
-use lib.Dec.{leb, eqb}
+use lib.Dec.{eqb}
 use borrow.Author.Tests.{le-leb, lt-leb}
 use Rattle.numbers.proofs.Choices.{cases}
 use Rattle.wire.specs.Line.{markedBy}
 use Rattle.salvage.specs.Picking.{mostWords}
-use Rattle.listing.specs.Scanning.{width, recordingOf, unfed, endIn, scannedByte, closedOf, endOf}
+use Rattle.listing.specs.Scanning.{unfed, scannedByte, closedOf, endOf}
 use Rattle.listing.specs.declared.Found.{Found}
 use Rattle.listing.specs.declared.Found.the-variants as found
 use Rattle.listing.specs.declared.Item.{Item}

@@ -3,7 +3,7 @@ use Prim.Native.Nat.{ℕ, zero, suc, _+_, _-_, _*_, _<_, _≤_}
 use mathlib.Core.Path.{_≡_, refl, sym, ap, _∙_}
 use mathlib.Core.Bool.{Bool, true, false, true≢false}
 use mathlib.Core.Logic.{_⊎_, inl, inr, ⊎-elim}
-use mathlib.Core.List.{List, [], _∷_, _++_, map, append-assoc, append-nil}
+use mathlib.Core.List.{List, [], _∷_, _++_, append-assoc, append-nil}
 use native.Mathlib.Omega.{arith}
 use lib.ListN.{length, drop, length-append, length-drop}
 use lib.Seq.{drop-drop}
@@ -20,7 +20,7 @@ use Rattle.listing.specs.Printing.{formOf}
 use Rattle.listing.specs.declared.Item.{Item}
 use Rattle.listing.proofs.Few.{Short, few-form, most-item}
 use Rattle.salvaged.specs.Items.{itemOf}
-use Rattle.salvaged.specs.Writing.{Written, written, add, addAll, start}
+use Rattle.salvaged.specs.Writing.{Written, written, add, addAll}
 use Rattle.salvaged.specs.Listing.{itemLine, textOf}
 use Rattle.salvaged.specs.Walk.{linesIn}
 use Rattle.salvaged.proofs.Runs.{run-short, left-short}

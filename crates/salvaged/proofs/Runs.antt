@@ -1,12 +1,12 @@
 -- A run that starts at a place of the words: its bytes, the report that they stand for, and that its line is short.
-use Prim.Native.Nat.{ℕ, zero, suc, _+_, _-_, _%_, _<_, _≤_, _^_}
-use mathlib.Core.Path.{_≡_, refl, sym, ap, _∙_}
-use mathlib.Core.Bool.{Bool, true, false, _&&_, true≢false}
+use Prim.Native.Nat.{ℕ, zero, suc, _+_, _-_, _%_, _<_, _≤_}
+use mathlib.Core.Path.{_≡_, refl, sym, _∙_}
+use mathlib.Core.Bool.{true, false, _&&_, true≢false}
 use mathlib.Core.Logic.{_⊎_, inl, inr}
-use mathlib.Core.List.{List, [], _∷_, _++_}
+use mathlib.Core.List.{List, [], _∷_}
 use native.Mathlib.Omega.{arith}
 use native.Mathlib.Nat.{mod-eq-of-lt}
-use lib.ListN.{length, take, drop, getD, length-drop}
+use lib.ListN.{length, take, drop, length-drop}
 use lib.Dec.{leb}
 use lib.IntN.{pos}
 use borrow.Author.Tests.{leb-true}
@@ -25,7 +25,6 @@ use Rattle.choosing.specs.Pieces as piece
 use Rattle.choosing.proofs.Walk.{reaches}
 use Rattle.salvage.specs.Picking.{mostWords, validBy, startsBy}
 use Rattle.salvage.proofs.Fitting.{starts-none}
-use Rattle.listing.specs.Scanning.{width}
 use Rattle.listing.specs.Printing.{formOf}
 use Rattle.listing.proofs.Few.{Short}
 use Rattle.listing.proofs.Small.{small-report}

@@ -1,16 +1,16 @@
 -- The log of an input is one that may be salvaged, or something stands alone, with a short line.
-use Prim.Native.Nat.{ℕ, suc, _+_, _<_, _≤_, _^_}
-use mathlib.Core.Path.{_≡_, refl, sym, ap, _∙_}
-use mathlib.Core.Bool.{Bool, true, false, not, cond, _&&_}
+use Prim.Native.Nat.{ℕ, _+_, _≤_}
+use mathlib.Core.Path.{_≡_, refl, sym, _∙_}
+use mathlib.Core.Bool.{Bool, true, false, cond}
 use mathlib.Core.List.{List, [], _∷_, _++_}
 use native.Mathlib.Omega.{arith}
 use lib.Dec.{leb, eqb}
 use lib.ListN.{length, length-append}
-use borrow.Author.Tests.{le-leb, leb-true, leb-false, eqb-true, eqb-false}
+use borrow.Author.Tests.{le-leb, leb-false, eqb-false}
 use Rattle.numbers.proofs.Tested.{left, right}
 use Rattle.numbers.proofs.Choices.{cases, both}
 use Rattle.frames.specs.Words.{silence, lineWords}
-use Rattle.wire.specs.Line.{namedBy, known, markedBy}
+use Rattle.wire.specs.Line.{known, markedBy}
 use Rattle.wire.specs.Numbers.{success}
 use Rattle.salvage.specs.Picking.{mostWords, refusalOf}
 use Rattle.salvage.proofs.Refusals.{none-left}
@@ -25,7 +25,7 @@ use Rattle.listing.specs.declared.Given.the-variants as given
 use Rattle.listing.proofs.Few.{ShortGiven}
 use Rattle.listing.proofs.Ordered.{Ordered}
 use Rattle.listing.proofs.Viewed.{View, is-over, is-bad, is-format, is-word, viewed}
-use Rattle.salvaged.specs.Log.{Log, log, empty, marked, wordHeard, newHeard, unless, heard, heardAll, logOf}
+use Rattle.salvaged.specs.Log.{Log, log, empty, marked, wordHeard, newHeard, heard, heardAll, logOf}
 use Rattle.salvaged.proofs.Hearing.{marked-short, heard-new, heard-behind}
 
 -- what stands alone is the last item of a listing, as its first

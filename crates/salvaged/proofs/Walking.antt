@@ -1,7 +1,7 @@
 -- A walk through the words of a log: what a step prints, and what is printed so far.
 use Prim.Native.Nat.{ℕ, zero, suc, _+_, _-_, _<_, _≤_}
 use mathlib.Core.Path.{_≡_, refl, sym, ap, _∙_}
-use mathlib.Core.Bool.{Bool, true, false}
+use mathlib.Core.Bool.{true, false}
 use mathlib.Core.List.{List, [], _∷_, _++_, map, map-append, append-assoc}
 use native.Mathlib.Omega.{arith}
 use lib.ListN.{length, drop, getD}
@@ -11,7 +11,6 @@ use Rattle.choosing.specs.Pieces as piece
 use Rattle.choosing.specs.Pieces.{Piece, behind, pieces}
 use Rattle.choosing.proofs.Walk.{pieces-picks, pieces-left, pieces-marked, pieces-ended}
 use Rattle.salvage.specs.Picking.{validBy, startsBy}
-use Rattle.listing.specs.declared.Item.{Item}
 use Rattle.listing.specs.declared.Item.the-variants as item
 use Rattle.listing.specs.Scanning.{width}
 use Rattle.listing.specs.Printing.{openingS, lineOf}

@@ -1,32 +1,29 @@
 -- What is listed of an input: its account, one answer, and all of it where there is room.
-use Prim.Native.Nat.{ℕ, _+_, _*_, _<_, _≤_}
+use Prim.Native.Nat.{ℕ, _+_, _≤_}
 use mathlib.Core.Path.{_≡_, refl, sym, ap, _∙_}
-use mathlib.Core.Bool.{Bool, true}
-use mathlib.Core.List.{List, [], _∷_, _++_, map, map-append, append-nil}
+use mathlib.Core.Bool.{true}
+use mathlib.Core.List.{List, [], _∷_, map}
 use native.Mathlib.Omega.{arith}
-use lib.ListN.{length, drop, length-append, length-map}
+use lib.ListN.{length, length-append, length-map}
 use Rattle.wire.specs.Line.{sizeBy}
 use Rattle.wire.proofs.Letters.{size-positive}
 use Rattle.choosing.specs.Pieces.{pieces}
 use Rattle.choosing.proofs.Best.{earliest-is-best}
 use Rattle.choosing.proofs.Pieces.{falls, few-pieces}
 use Rattle.salvage.specs.Picking.{mostWords, validBy, pickedBy}
-use Rattle.listing.specs.Scanning.{width}
-use Rattle.listing.specs.Printing.{openingS, lineOf}
 use Rattle.listing.specs.declared.Item.{Item}
 use Rattle.listing.specs.declared.Item.the-variants as item
 use Rattle.listing.specs.declared.Given.{Given}
 use Rattle.listing.specs.declared.Given.the-variants as given
-use Rattle.listing.proofs.Few.{ShortGiven}
-use Rattle.salvaged.specs.Log.{Log, logOf}
-use Rattle.salvaged.specs.Items.{itemOf, itemsIn, itemsBeside, itemsOf}
+use Rattle.salvaged.specs.Log.{logOf}
+use Rattle.salvaged.specs.Items.{itemOf, itemsOf}
 use Rattle.salvaged.specs.Writing.{Written, written, start, addAll}
 use Rattle.salvaged.specs.Listing.{itemLine, linesOf, textOf, salvageOf}
 use Rattle.salvaged.specs.Promises.{Whole, whole, told, listOf, ListPromise}
 use Rattle.salvaged.specs.Whole.{Account, enough, AllThere}
 use Rattle.salvaged.specs.declared.Salvaged.{Salvaged}
 use Rattle.salvaged.proofs.Walking.{opening-few, items-lines}
-use Rattle.salvaged.proofs.Sound.{Settled, settled, may-be}
+use Rattle.salvaged.proofs.Sound.{settled, may-be}
 use Rattle.salvaged.proofs.Room.{AllFew, all-added, few-append, few-line, all-few, had-room}
 
 -- two answers that meet the promise are equal, and so are the slices

@@ -1,16 +1,15 @@
 -- Lines in a slice: one more, none, and some behind others.
 use Prim.Native.Nat.{ℕ, _+_, _<_, _≤_}
 use mathlib.Core.Path.{_≡_, refl, sym, ap, _∙_}
-use mathlib.Core.Bool.{Bool, true, false, cond, _&&_}
-use mathlib.Core.List.{List, [], _∷_, _++_, append-assoc}
+use mathlib.Core.Bool.{true, false}
+use mathlib.Core.List.{List, [], _∷_, _++_}
 use native.Mathlib.Omega.{arith}
 use lib.ListN.{length, take, drop, length-append, length-drop}
 use lib.Seq.{take-at, drop-drop, drop-append-add}
 use lib.Dec.{leb}
 use borrow.Author.Tests.{leb-true, leb-false, le-leb, lt-leb}
-use Rattle.numbers.proofs.Tested.{left, right}
-use Rattle.text.specs.Growth.{shown, textOf, fitsAt, putOf}
-use Rattle.text.specs.Promises.{PutPromise}
+use Rattle.numbers.proofs.Tested.{right}
+use Rattle.text.specs.Growth.{shown, fitsAt, putOf}
 use Rattle.text.specs.declared.Text.{Text}
 use Rattle.text.proofs.Laws.{text-shows, text-long, put-none}
 use Rattle.salvaged.specs.Writing.{Written, written, add, addAll, start}

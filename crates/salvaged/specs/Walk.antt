@@ -1,7 +1,7 @@
 -- The listing in a lent slice, as it is printed: lines, and a walk through the words of a log.
 use Prim.Native.Nat.{ℕ, _+_, _%_, _<_, _≤_}
 use mathlib.Core.Path.{_≡_}
-use mathlib.Core.Bool.{Bool, true, cond}
+use mathlib.Core.Bool.{cond}
 use mathlib.Core.Logic.{_⊎_}
 use mathlib.Core.List.{List, [], _∷_, _++_, map}
 use lib.ListN.{length, drop, getD}
@@ -9,14 +9,10 @@ use lib.Dec.{eqb}
 use Rattle.wire.specs.Line.{sizeBy}
 use Rattle.text.specs.Growth.{textOf}
 use Rattle.text.specs.declared.Text.{Text}
-use Rattle.choosing.specs.Choice.{allBytes}
 use Rattle.choosing.specs.Pieces.{Piece, behind, piecesFrom}
 use Rattle.salvage.specs.Picking.{mostWords, validBy}
-use Rattle.listing.specs.Printing.{formOf}
-use Rattle.listing.specs.declared.Item.{Item}
-use Rattle.listing.proofs.Few.{Short}
 use Rattle.salvaged.specs.Items.{itemOf}
-use Rattle.salvaged.specs.Writing.{Written, add, addAll}
+use Rattle.salvaged.specs.Writing.{Written, addAll}
 use Rattle.salvaged.specs.Listing.{itemLine}
 use Rattle.salvaged.specs.declared.Salvaged.{Salvaged}
 use Rattle.salvaged.specs.declared.Step.{Step}

@@ -1,14 +1,13 @@
 -- A self-test and its bytes, each the other's; and the figure's rows as a program tests them.
 use Prim.Native.Nat.{ℕ, _+_, _*_, _/_, _%_, _<_, _≤_}
-use mathlib.Core.Path.{_≡_, refl, sym, _∙_}
-use mathlib.Core.Bool.{Bool, true, _&&_}
+use mathlib.Core.Path.{_≡_, _∙_}
+use mathlib.Core.Bool.{true, _&&_}
 use mathlib.Core.List.{List, [], _∷_, _++_}
 use native.Mathlib.Omega.{arith}
 use native.Mathlib.Nat.{zero-add}
 use lib.Dec.{eqb, ltb, leb}
 use borrow.Author.Tests.{leb-true, le-leb, ltb-true, eqb-true}
 use Rattle.numbers.specs.Bits.{I, O, number, bit, bits}
-use Rattle.numbers.proofs.Choices.{both}
 use Rattle.numbers.proofs.Tested.{left, right, agree}
 use Rattle.numbers.proofs.Rows.{number-joined, number-bits, number-low}
 use Rattle.wire.specs.Places.{like, fitsLater}

@@ -1,30 +1,30 @@
 -- The two reports as one marked frame, and the messages of a device as whole reports of it.
-use Prim.Native.Nat.{ℕ, suc, _+_, _*_, _/_, _%_, _<_, _≤_}
-use mathlib.Core.Path.{_≡_, refl, sym, _∙_, ap}
-use mathlib.Core.Bool.{Bool, true, false, cond, _&&_, _||_, or-true}
-use mathlib.Core.List.{List, [], _∷_, _++_}
+use Prim.Native.Nat.{ℕ, _+_, _*_, _/_, _%_, _<_, _≤_}
+use mathlib.Core.Path.{_≡_, refl, sym, _∙_}
+use mathlib.Core.Bool.{Bool, true, false, _&&_, or-true}
+use mathlib.Core.List.{List, [], _∷_}
 use native.Mathlib.Omega.{arith}
 use lib.ListN.{length}
 use lib.Dec.{eqb}
 use borrow.Author.Tests.{eqb-true, lt-ltb}
-use Rattle.numbers.proofs.Choices.{or-else, either, cases}
+use Rattle.numbers.proofs.Choices.{or-else, cases}
 use Rattle.numbers.proofs.Tested.{refused}
-use Rattle.frames.specs.Frame.{Laws, Marked, Whole, Framed, decoded}
-use Rattle.wire.specs.Places.{like, fitsAt, fitsFirst, fitsLater}
-use Rattle.wire.specs.Reading.{at, reportOf}
+use Rattle.frames.specs.Frame.{Marked, Whole, Framed, decoded}
+use Rattle.wire.specs.Places.{fitsAt, fitsFirst, fitsLater}
+use Rattle.wire.specs.Reading.{at}
 use Rattle.wire.specs.Table.{bytesOf, bytesS}
 use Rattle.wire.specs.Holds.{accepted}
-use Rattle.wire.specs.Messages.{Message, report, reply}
+use Rattle.wire.specs.Messages.{report, reply}
 use Rattle.wire.specs.declared.Report.{Report}
 use Rattle.wire.specs.declared.Format.the-variants.{Mm}
 use Rattle.wire.proofs.FixedBits.{first-tested, later-tested}
 use Rattle.wire.proofs.Codec.{bytes-fit, there}
-use Rattle.wire.proofs.Codec.Fitting.{first-byte, later-byte}
-use Rattle.vsxxx.specs.SelfTests.{testBytes, testOf, holdsTest, isTest, isButtons}
-use Rattle.vsxxx.specs.Reports.{PuckReport, movement, self-test, sizeFrom, fitsStart, fitsBehind, fitsPuck, puckFrame, PuckMessage, of-box, of-test, puckBytes, HeldByPuck, shownByPuck}
+use Rattle.wire.proofs.Codec.Fitting.{first-byte}
+use Rattle.vsxxx.specs.SelfTests.{testBytes, holdsTest, isTest, isButtons}
+use Rattle.vsxxx.specs.Reports.{movement, self-test, sizeFrom, fitsStart, fitsBehind, fitsPuck, puckFrame, PuckMessage, of-box, of-test, puckBytes, HeldByPuck, shownByPuck}
 use Rattle.vsxxx.specs.declared.SelfTest.{SelfTest}
 use Rattle.vsxxx.proofs.Bytes as bytes
-use Rattle.vsxxx.proofs.Bytes.{test-byte, test-tested, test-high, later-below, buttons-byte, buttons-below, buttons-tested}
+use Rattle.vsxxx.proofs.Bytes.{test-tested, test-high, later-below, buttons-below, buttons-tested}
 
 -- a first byte lies above a later one
 pub move-high : (b : ℕ) → fitsFirst Mm b ≡ true → b / 32 ≡ 4

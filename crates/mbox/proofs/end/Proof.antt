@@ -1,6 +1,6 @@
 -- Each call of the end leaves less of it.
 use borrow.Author.Needs.{needs}
-use Prim.Native.Nat.{_+_, _≤_, _<_}
+use Prim.Native.Nat.{_+_}
 use mathlib.Core.Path.{_≡_, refl, _∙_}
 use mathlib.Core.Bool.{cond, not, _&&_}
 use native.Mathlib.Omega.{arith}

@@ -1,12 +1,12 @@
 -- Letter, tab, decimal, newline.
 use borrow.Author.Needs.{needs}
 use native.Mathlib.Omega.{arith}
-use mathlib.Core.Path.{_≡_, _∙_}
+use mathlib.Core.Path.{_∙_}
 use mathlib.Core.List.{[], _∷_}
 use lib.IntN.{pos}
 use mir.Syntax.{w64}
 use mir.Facts.{toZ-pos}
-use Rattle.text.specs.Growth.{none, grown}
+use Rattle.text.specs.Growth.{none}
 use Rattle.text.specs.Decimals.{decimalOf}
 use Rattle.text.proofs.Laws.{both}
 use Rattle.mbridge.proofs.byte_line.Statement.{statement}

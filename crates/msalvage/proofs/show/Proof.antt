@@ -1,7 +1,6 @@
 -- All of the salvage has room, and that much is written.
-use mathlib.Core.Path.{_≡_, sym, _∙_}
-use native.Mathlib.Omega.{arith}
-use lib.ListN.{length, take}
+use mathlib.Core.Path.{sym}
+use lib.ListN.{take}
 use lib.Seq.{length-take-le}
 use Rattle.msalvage.proofs.Shown.{in-buffer, shows}
 use borrow.Author.Needs.{needs}

@@ -1,8 +1,7 @@
 -- Byte by byte.
 use native.Mathlib.Omega.{arith}
-use borrow.Author.Needs.{needs}
 use Prim.Native.Nat.{_-_}
-use mathlib.Core.Path.{_≡_, refl, _∙_}
+use mathlib.Core.Path.{_≡_, refl}
 use lib.ListN.{length, length-set}
 use Rattle.mtable.proofs.kept.Statement.{statement}
 use Rattle.mtable.proofs.kept.Tie as tie

@@ -1,6 +1,5 @@
 -- Row after row.
 use native.Mathlib.Omega.{arith}
-use borrow.Author.Needs.{needs}
 use Prim.Native.Nat.{_-_, _≤_}
 use lib.ListN.{length}
 use Rattle.mtable.proofs.rows.Statement.{statement}

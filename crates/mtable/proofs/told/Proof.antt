@@ -1,5 +1,4 @@
 -- So many bytes are there.
-use Prim.Native.Nat.{_≤_}
 use mathlib.Core.Path.{_≡_, sym}
 use lib.ListN.{length}
 use mathlib.Core.Path.{sym}

@@ -3,12 +3,11 @@ use Prim.Native.Nat.{_-_, _≤_, _<_}
 use mathlib.Core.Path.{_≡_, refl, sym, _∙_}
 use mathlib.Core.Bool.{_&&_}
 use native.Mathlib.Omega.{arith}
-use lib.ListN.{length, take, drop, getD}
+use lib.ListN.{length, take, drop}
 use lib.Seq.{length-take-le, getD-take}
 use borrow.Author.Needs.{needs}
 use Rattle.wire.specs.Line.{sizeBy}
 use Rattle.wire.proofs.Letters.{at-most-five}
-use Rattle.salvage.specs.Picking.{fitsWord}
 use Rattle.salvage.proofs.Fitting.{fitFrom, fit-more, fit-end, starts-fits, starts-short, starts-none}
 use Rattle.salvage.proofs.starts.Statement.{statement}
 use Rattle.salvage.proofs.starts.Tie as tie

@@ -1,5 +1,4 @@
 -- By whether there is one.
-use mathlib.Core.Path.{_≡_}
 use Rattle.bridge.proofs.Base.most.Statement.{statement}
 use Rattle.bridge.proofs.Base.most.Tie as tie
 

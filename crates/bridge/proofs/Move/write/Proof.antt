@@ -1,6 +1,6 @@
 -- The encoder accepts it, and there is room.
 use borrow.Author.Needs.{needs}
-use mathlib.Core.Path.{_≡_, _∙_, ap}
+use mathlib.Core.Path.{ap}
 use denote.Ref.{now}
 use Rattle.wire.specs.Encoder.{Encoding}
 use Rattle.bridge.proofs.Writing.{written}

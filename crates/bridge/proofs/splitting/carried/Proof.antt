@@ -1,8 +1,6 @@
 -- Below, above, or between.
-use borrow.Author.Needs.{needs}
 use lib.IntN.{pos}
-use lib.Signed.{ltZ}
-use mathlib.Core.Path.{_≡_, refl, sym, _∙_}
+use mathlib.Core.Path.{_≡_}
 use mir.Facts.{toZ-ofZ}
 use mir.Syntax.{w16, w32}
 use mir.Val.{SFits, toZ, ofZ}

@@ -1,7 +1,6 @@
 -- The line of an item: what is printed where it is given.
 use mathlib.Core.List.{append-nil}
 use borrow.Author.Needs.{needs}
-use Rattle.listing.specs.Printing.{lineOf}
 use Rattle.listing.proofs.Item.line.Statement.{statement}
 use Rattle.listing.proofs.Item.line.Tie as tie
 

@@ -1,7 +1,5 @@
 -- `part`: lines of words, or else a byte.
 use borrow.Author.Needs.{needs}
-use mathlib.Core.Path.{_∙_, ap}
-use lib.ListN.{length}
 use Rattle.fold.proofs.Parts.{part-none}
 use Rattle.listing.specs.Feeding.{feeds}
 use Rattle.listing.proofs.Lister.part.Statement.{statement}

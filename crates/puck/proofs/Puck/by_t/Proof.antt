@@ -2,7 +2,7 @@
 use borrow.Author.Needs.{needs}
 use Rattle.puck.proofs.Puck.by_t.Statement.{statement}
 use Rattle.puck.proofs.Puck.by_t.Tie as tie
-use mathlib.Core.Path.{_∙_, sym, ap}
+use mathlib.Core.Path.{_∙_}
 use borrow.Author.Tests.{lt-ltb, le-ltb}
 use Rattle.puck.specs.Rules.{byT}
 

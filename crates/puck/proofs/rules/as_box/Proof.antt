@@ -2,8 +2,7 @@
 use borrow.Author.Needs.{needs}
 use Rattle.puck.proofs.rules.as_box.Statement.{statement}
 use Rattle.puck.proofs.rules.as_box.Tie as tie
-use mathlib.Core.Path.{_∙_, sym, ap}
-use Rattle.puck.specs.Rules.{asBox}
+use mathlib.Core.Path.{_∙_, sym}
 
 returns : tie.Need-returns
 returns c = let b = c .before in rw (b .before .before .event .given .1, sym (b .is-boxes .ensures) ∙ c .if1 .taken)

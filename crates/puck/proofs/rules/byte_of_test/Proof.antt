@@ -4,7 +4,6 @@ use Rattle.puck.proofs.rules.byte_of_test.Statement.{statement}
 use Rattle.puck.proofs.rules.byte_of_test.Tie as tie
 use Prim.Native.Nat.{_-_}
 use mathlib.Core.Path.{_≡_}
-use mathlib.Core.Path.{_∙_, ap, sym}
 use native.Mathlib.Omega.{arith}
 use borrow.Author.Tests.{ne-eqb}
 use Rattle.vsxxx.proofs.Bytes.{bytes-are}

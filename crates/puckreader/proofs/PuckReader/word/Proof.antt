@@ -3,7 +3,6 @@ use borrow.Author.Needs.{needs}
 use Rattle.puckreader.proofs.PuckReader.word.Statement.{statement}
 use Rattle.puckreader.proofs.PuckReader.word.Tie as tie
 use mathlib.Core.Path.{_∙_, sym}
-use native.Mathlib.Omega.{arith}
 use Rattle.puckreader.proofs.Word.{bad-is, pause-is}
 
 returns : tie.Need-returns

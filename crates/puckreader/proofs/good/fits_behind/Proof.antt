@@ -2,7 +2,6 @@
 use borrow.Author.Needs.{needs}
 use Rattle.puckreader.proofs.good.fits_behind.Statement.{statement}
 use Rattle.puckreader.proofs.good.fits_behind.Tie as tie
-use mathlib.Core.Path.{_∙_, sym}
 use Rattle.wire.specs.Line.{namedBy}
 use Rattle.wire.specs.Places.{fitsBy, fitsAt}
 use Rattle.vsxxx.specs.Reports.{fitsBehind}

@@ -2,7 +2,6 @@
 use borrow.Author.Needs.{needs}
 use Rattle.puckreader.proofs.rules.dropping.Statement.{statement}
 use Rattle.puckreader.proofs.rules.dropping.Tie as tie
-use native.Mathlib.Omega.{arith}
 use Rattle.puckreader.proofs.Word.{drops-some}
 
 returns-2 : tie.Need-returns-2

@@ -1,16 +1,12 @@
 -- An end that is one, or is not.
 use borrow.Author.Needs.{needs}
-use mathlib.Core.Path.{_≡_, sym, _∙_}
+use mathlib.Core.Path.{sym, _∙_}
 use native.Mathlib.Omega.{arith}
 use borrow.Author.Tests.{not-true, not-false}
 use Rattle.readback.specs.Promises.{finishOf}
 use Rattle.readback.proofs.Goodness.{few-lines}
 use Rattle.readback.proofs.Readback.finish.Statement.{statement}
 use Rattle.readback.proofs.Readback.finish.Tie as tie
-use Rattle.readback.proofs.Readback.finish.Reads as reads
-use Rattle.readback.proofs.Readback.finish.Lts as lts
-use Rattle.readback.proofs.Readback.good.Reads as good-reads
-use Rattle.readback.proofs.pieces.back.Reads as back-reads
 
 good-requires : tie.Need-good-requires
 good-requires c κs = search needs

@@ -1,8 +1,7 @@
 -- The first line: cut off, faulty, without room, or taken.
 use borrow.Author.Needs.{needs}
-use Prim.Native.Nat.{_<_, _≤_}
-use mathlib.Core.Path.{_≡_, sym, _∙_, ap}
-use mathlib.Core.Bool.{true}
+use Prim.Native.Nat.{_<_}
+use mathlib.Core.Path.{_≡_, sym, _∙_}
 use native.Mathlib.Omega.{arith}
 use lib.ListN.{length, take}
 use lib.Seq.{length-take-le}
@@ -10,18 +9,11 @@ use borrow.Author.Tests.{not-true, not-false}
 use Rattle.listing.specs.Lines.{newline, lengthTo}
 use Rattle.readback.specs.Steps.{stepOf}
 use Rattle.readback.specs.Pieces as pieces
-use Rattle.readback.specs.declared.Step.{Step}
-use Rattle.readback.proofs.Values.{to-within, SmallGiven}
+use Rattle.readback.proofs.Values.{to-within}
 use Rattle.readback.proofs.Goodness.{few-lines, step-leaves}
 use Rattle.readback.proofs.Loop.{reading-follows, cut-stop, long-stop, faulty-stop, read-stop, read-taken}
 use Rattle.readback.proofs.Readback.first.Statement.{statement}
 use Rattle.readback.proofs.Readback.first.Tie as tie
-use Rattle.readback.proofs.Readback.first.Reads as reads
-use Rattle.readback.proofs.Readback.first.Lts as lts
-use Rattle.readback.proofs.Readback.step.Reads as step-reads
-use Rattle.readback.proofs.fields.length_to.Reads as length-to-reads
-use Rattle.readback.proofs.pieces.back.Reads as back-reads
-use Rattle.readback.proofs.pieces.put.Reads as put-reads
 
 -- it has its newline, and this is what it does
 there : (c : tie.After-step) → let i = c .before .before .before .before .before .args .input .now in lengthTo newline i < length i

@@ -1,17 +1,12 @@
 -- Before the first line, and behind it.
 use borrow.Author.Needs.{needs}
 use Prim.Native.Nat.{_≤_}
-use mathlib.Core.Path.{_≡_}
 use native.Mathlib.Omega.{arith}
 use borrow.Author.Tests.{eq-eqb, ne-eqb, le-leb, lt-leb}
 use Rattle.readback.specs.Steps.{good}
 use Rattle.readback.proofs.Goodness.{besides-most}
 use Rattle.readback.proofs.Readback.good.Statement.{statement}
 use Rattle.readback.proofs.Readback.good.Tie as tie
-use Rattle.readback.proofs.Readback.good.Reads as reads
-use Rattle.readback.proofs.Readback.good.Lts as lts
-use Rattle.readback.proofs.steps.besides.Reads as besides-reads
-use Rattle.readback.proofs.steps.width_known.Reads as width-known-reads
 
 returns : tie.Need-returns
 unfolding good

@@ -1,17 +1,11 @@
 -- A known width, or not.
 use borrow.Author.Needs.{needs}
-use mathlib.Core.Path.{_≡_, sym, _∙_}
-use mathlib.Core.Bool.{true}
+use mathlib.Core.Path.{sym, _∙_}
 use native.Mathlib.Omega.{arith}
 use borrow.Author.Tests.{not-true, not-false}
-use Rattle.readback.specs.Steps.{widthKnown}
 use Rattle.readback.proofs.Goodness.{known-few}
 use Rattle.readback.proofs.Readback.opens.Statement.{statement}
 use Rattle.readback.proofs.Readback.opens.Tie as tie
-use Rattle.readback.proofs.Readback.opens.Reads as reads
-use Rattle.readback.proofs.Readback.opens.Lts as lts
-use Rattle.readback.proofs.Readback.faulty.Reads as faulty-reads
-use Rattle.readback.proofs.steps.width_known.Reads as width-known-reads
 
 width-known-requires : tie.Need-width-known-requires
 width-known-requires c κs = search needs

@@ -1,17 +1,11 @@
 -- A number above the last, or not.
 use borrow.Author.Needs.{needs}
-use mathlib.Core.Path.{_≡_, sym, _∙_}
+use mathlib.Core.Path.{sym, _∙_}
 use native.Mathlib.Omega.{arith}
 use borrow.Author.Tests.{not-true, not-false}
 use Rattle.readback.proofs.Goodness.{few-lines}
 use Rattle.readback.proofs.Readback.passes.Statement.{statement}
 use Rattle.readback.proofs.Readback.passes.Tie as tie
-use Rattle.readback.proofs.Readback.passes.Reads as reads
-use Rattle.readback.proofs.Readback.passes.Lts as lts
-use Rattle.readback.proofs.Readback.faulty.Reads as faulty-reads
-use Rattle.readback.proofs.steps.above.Reads as above-reads
-use Rattle.readback.proofs.steps.closes.Reads as closes-reads
-use Rattle.readback.proofs.steps.last_behind.Reads as last-behind-reads
 
 above-requires : tie.Need-above-requires
 above-requires c κs = search needs

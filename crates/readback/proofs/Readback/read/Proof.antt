@@ -1,17 +1,12 @@
 -- A good reader, or one that is refused.
 use borrow.Author.Needs.{needs}
-use mathlib.Core.Path.{_≡_, sym, _∙_, ap}
+use mathlib.Core.Path.{sym, _∙_, ap}
 use borrow.Author.Tests.{not-true, not-false}
 use Rattle.readback.specs.Pieces.{whole}
 use Rattle.readback.specs.Promises.{readOf}
 use Rattle.readback.specs.declared.Back.{Back}
 use Rattle.readback.proofs.Readback.read.Statement.{statement}
 use Rattle.readback.proofs.Readback.read.Tie as tie
-use Rattle.readback.proofs.Readback.read.Reads as reads
-use Rattle.readback.proofs.Readback.read.Lts as lts
-use Rattle.readback.proofs.Readback.good.Reads as good-reads
-use Rattle.readback.proofs.Readback.lines.Reads as lines-reads
-use Rattle.readback.proofs.pieces.back.Reads as back-reads
 
 good-requires : tie.Need-good-requires
 good-requires c κs = search needs

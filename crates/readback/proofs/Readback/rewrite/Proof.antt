@@ -1,6 +1,6 @@
 -- A good reader, or one that is refused.
 use borrow.Author.Needs.{needs}
-use mathlib.Core.Path.{_≡_, sym, _∙_, ap}
+use mathlib.Core.Path.{sym, _∙_, ap}
 use borrow.Author.Tests.{not-true, not-false}
 use Rattle.readback.specs.Rewriting.{rewriting}
 use Rattle.readback.specs.Promises.{rewriteOf}

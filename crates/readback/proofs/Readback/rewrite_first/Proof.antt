@@ -1,8 +1,7 @@
 -- The first line: cut off, faulty, too wide, without room, or taken.
 use borrow.Author.Needs.{needs}
-use Prim.Native.Nat.{_<_, _≤_}
+use Prim.Native.Nat.{_<_}
 use mathlib.Core.Path.{_≡_, sym, _∙_, ap}
-use mathlib.Core.Bool.{true}
 use native.Mathlib.Omega.{arith}
 use lib.ListN.{length, take}
 use lib.Seq.{length-take-le}
@@ -12,7 +11,6 @@ use Rattle.listing.specs.Printing.{lineAt}
 use Rattle.text.specs.Growth.{textOf}
 use Rattle.readback.specs.Steps.{stepOf}
 use Rattle.readback.specs.Rewriting.{otherWidth, givenFits, rewrites}
-use Rattle.readback.specs.Parts as parts
 use Rattle.readback.proofs.Values.{to-within}
 use Rattle.readback.proofs.Goodness.{few-lines}
 use Rattle.readback.proofs.Loop.{cut-stop, long-stop, faulty-stop}

@@ -1,9 +1,9 @@
 -- Line after line.
 use borrow.Author.Needs.{needs}
-use Prim.Native.Nat.{_+_, _-_, _≤_}
+use Prim.Native.Nat.{_+_, _-_}
 use mathlib.Core.Path.{_≡_, _∙_, ap}
 use native.Mathlib.Omega.{arith}
-use lib.ListN.{length, take, drop, length-drop, take-append-drop}
+use lib.ListN.{length, drop, length-drop, take-append-drop}
 use borrow.Rule.Slice.PartMut.{putMid}
 use Rattle.fold.proofs.Parts.{rest-is, back}
 use Rattle.readback.specs.Rewriting.{rewrites, rewriting}

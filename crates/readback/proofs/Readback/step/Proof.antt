@@ -1,17 +1,10 @@
 -- By where the line stands.
 use borrow.Author.Needs.{needs}
-use mathlib.Core.Path.{_≡_, sym, _∙_, ap}
+use mathlib.Core.Path.{sym, _∙_, ap}
 use Rattle.readback.specs.Steps.{opens, said}
 use Rattle.readback.proofs.Goodness.{step-ended, step-first, step-item}
 use Rattle.readback.proofs.Readback.step.Statement.{statement}
 use Rattle.readback.proofs.Readback.step.Tie as tie
-use Rattle.readback.proofs.Readback.step.Reads as reads
-use Rattle.readback.proofs.Readback.step.Lts as lts
-use Rattle.readback.proofs.Readback.faulty.Reads as faulty-reads
-use Rattle.readback.proofs.Readback.opens.Reads as opens-reads
-use Rattle.readback.proofs.Readback.passes.Reads as passes-reads
-use Rattle.readback.proofs.items.item.Reads as item-reads
-use Rattle.readback.proofs.items.width.Reads as width-reads
 
 faulty-requires : tie.Need-faulty-requires
 faulty-requires c κs = search needs

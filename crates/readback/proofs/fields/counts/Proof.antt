@@ -2,8 +2,6 @@
 use borrow.Author.Tests.{eq-eqb, ne-eqb}
 use Rattle.readback.proofs.fields.counts.Statement.{statement}
 use Rattle.readback.proofs.fields.counts.Tie as tie
-use Rattle.readback.proofs.fields.counts.Reads as reads
-use Rattle.readback.proofs.fields.counts.Lts as lts
 
 returns : tie.Need-returns
 returns c = rw (eq-eqb _ _ (c .if1 .taken))

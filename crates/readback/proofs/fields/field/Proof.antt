@@ -3,7 +3,7 @@ use borrow.Author.Needs.{needs}
 use Prim.Native.Nat.{_+_, _-_, _≤_}
 use mathlib.Core.Path.{_≡_, _∙_, ap}
 use native.Mathlib.Omega.{arith}
-use lib.ListN.{length, take, drop, length-drop}
+use lib.ListN.{length, drop, length-drop}
 use mir.Syntax.{w64}
 use mir.Val.{toZ, ofZ}
 use Rattle.fold.proofs.Parts.{rest-is}
@@ -11,10 +11,6 @@ use Rattle.listing.specs.Lines.{tab, lengthTo}
 use Rattle.readback.proofs.Values.{to-within, no-field, no-tab, a-field}
 use Rattle.readback.proofs.fields.field.Statement.{statement}
 use Rattle.readback.proofs.fields.field.Tie as tie
-use Rattle.readback.proofs.fields.field.Reads as reads
-use Rattle.readback.proofs.fields.field.Lts as lts
-use Rattle.readback.proofs.fields.length_to.Reads as length-to-reads
-use Rattle.readback.proofs.fields.value.Reads as value-reads
 
 -- up to the next tab, no further than the line
 length-is : (c : tie.After-length-to) → let a = c .before .before .before .before .before .before .args in c .length-to .result ≡ lengthTo tab (drop (a .at + 1) (a .line .now))

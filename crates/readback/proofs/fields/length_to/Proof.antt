@@ -1,6 +1,6 @@
 -- Byte by byte.
 use Prim.Native.Nat.{_+_, _-_, _≤_}
-use mathlib.Core.Path.{_≡_, refl}
+use mathlib.Core.Path.{_≡_}
 use native.Mathlib.Omega.{arith}
 use native.Mathlib.Nat.{zero-add}
 use lib.ListN.{length, drop}
@@ -8,8 +8,6 @@ use Rattle.listing.specs.Lines.{lengthTo}
 use Rattle.readback.proofs.Values.{found, further, at-end}
 use Rattle.readback.proofs.fields.length_to.Statement.{statement}
 use Rattle.readback.proofs.fields.length_to.Tie as tie
-use Rattle.readback.proofs.fields.length_to.Reads as reads
-use Rattle.readback.proofs.fields.length_to.Lts as lts
 
 abbrev Inv-loop : tie.InvT-loop
 Inv-loop bytes stop i₀ i = (i ≤ length bytes) × (i + lengthTo stop (drop i bytes) ≡ lengthTo stop bytes)

@@ -1,14 +1,10 @@
 -- Of as many digits as the width.
 use borrow.Author.Needs.{needs}
-use mathlib.Core.Path.{_≡_, _∙_, ap}
+use mathlib.Core.Path.{_≡_}
 use mir.Syntax.{w64}
 use mir.Val.{toZ, ofZ}
 use Rattle.readback.proofs.fields.line.Statement.{statement}
 use Rattle.readback.proofs.fields.line.Tie as tie
-use Rattle.readback.proofs.fields.line.Reads as reads
-use Rattle.readback.proofs.fields.line.Lts as lts
-use Rattle.readback.proofs.fields.within.Reads as within-reads
-use Rattle.text.proofs.Number.read.Reads as read-reads
 
 read-requires : tie.Need-read-requires
 read-requires c κs = search needs

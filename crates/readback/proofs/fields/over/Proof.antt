@@ -3,9 +3,6 @@ use borrow.Author.Needs.{needs}
 use borrow.Author.Tests.{eq-eqb, ne-eqb}
 use Rattle.readback.proofs.fields.over.Statement.{statement}
 use Rattle.readback.proofs.fields.over.Tie as tie
-use Rattle.readback.proofs.fields.over.Reads as reads
-use Rattle.readback.proofs.fields.over.Lts as lts
-use Rattle.readback.proofs.fields.none.Reads as none-reads
 
 shared-slice-read-t5 : tie.Need-shared-slice-read-t5
 shared-slice-read-t5 c = search needs

@@ -3,10 +3,6 @@ use borrow.Author.Needs.{needs}
 use borrow.Author.Tests.{eq-eqb, ne-eqb}
 use Rattle.readback.proofs.fields.pressed.Statement.{statement}
 use Rattle.readback.proofs.fields.pressed.Tie as tie
-use Rattle.readback.proofs.fields.pressed.Reads as reads
-use Rattle.readback.proofs.fields.pressed.Lts as lts
-use Rattle.readback.proofs.fields.none.Reads as none-reads
-use Rattle.readback.proofs.fields.three.Reads as three-reads
 
 shared-slice-read-three : tie.Need-shared-slice-read-three
 shared-slice-read-three c = search needs

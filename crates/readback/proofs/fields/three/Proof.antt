@@ -7,9 +7,6 @@ use Prim.Native.Nat.{_+_, _≤_}
 use Rattle.readback.proofs.Values.{counts-most}
 use Rattle.readback.proofs.fields.three.Statement.{statement}
 use Rattle.readback.proofs.fields.three.Tie as tie
-use Rattle.readback.proofs.fields.three.Reads as reads
-use Rattle.readback.proofs.fields.three.Lts as lts
-use Rattle.readback.proofs.fields.counts.Reads as counts-reads
 
 -- what the letters count, so far
 one : (c : tie.After-counts) → c .counts .result ≤ 4

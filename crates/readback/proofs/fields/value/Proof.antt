@@ -4,13 +4,6 @@ use Rattle.readback.specs.Fields.{within, valueIn}
 use mathlib.Core.Path.{_∙_, ap}
 use Rattle.readback.proofs.fields.value.Statement.{statement}
 use Rattle.readback.proofs.fields.value.Tie as tie
-use Rattle.readback.proofs.fields.value.Reads as reads
-use Rattle.readback.proofs.fields.value.Lts as lts
-use Rattle.readback.proofs.fields.line.Reads as line-reads
-use Rattle.readback.proofs.fields.over.Reads as over-reads
-use Rattle.readback.proofs.fields.pressed.Reads as pressed-reads
-use Rattle.readback.proofs.fields.within.Reads as within-reads
-use Rattle.text.proofs.Number.read.Reads as read-reads
 
 enum-told : tie.Need-enum-told
 enum-told c = search needs

@@ -5,9 +5,6 @@ use mir.Syntax.{w64}
 use mir.Val.{toZ, ofZ}
 use Rattle.readback.proofs.fields.within.Statement.{statement}
 use Rattle.readback.proofs.fields.within.Tie as tie
-use Rattle.readback.proofs.fields.within.Reads as reads
-use Rattle.readback.proofs.fields.within.Lts as lts
-use Rattle.readback.proofs.fields.none.Reads as none-reads
 
 enum-told : tie.Need-enum-told
 enum-told c = search needs

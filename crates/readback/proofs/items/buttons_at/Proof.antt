@@ -2,9 +2,6 @@
 use borrow.Author.Needs.{needs}
 use Rattle.readback.proofs.items.buttons_at.Statement.{statement}
 use Rattle.readback.proofs.items.buttons_at.Tie as tie
-use Rattle.readback.proofs.items.buttons_at.Reads as reads
-use Rattle.readback.proofs.items.buttons_at.Lts as lts
-use Rattle.readback.proofs.items.middle_at.Reads as middle-at-reads
 
 middle-at-requires : tie.Need-middle-at-requires
 middle-at-requires c κs = search needs

@@ -1,24 +1,15 @@
 -- A line number and a count, and no more.
 use borrow.Author.Needs.{needs}
-use mathlib.Core.Path.{_≡_, refl, sym, _∙_, ap}
-use mathlib.Core.Bool.{true, _&&_}
+use mathlib.Core.Path.{_≡_}
+use mathlib.Core.Bool.{_&&_}
 use native.Mathlib.Omega.{arith}
-use lib.Dec.{leb}
-use lib.IntN.{pos, natAbs}
-use lib.ListN.{length, drop}
-use lib.Signed.{ltZ}
 use mir.Syntax.{w64}
 use mir.Val.{toZ, ofZ}
 use Rattle.numbers.proofs.Tested.{left, right}
-use Rattle.readback.specs.Fields.{fieldIn}
 use Rattle.readback.specs.declared.Kind.the-variants as kind
-use Rattle.readback.specs.declared.Took.{Took}
-use Rattle.readback.proofs.Values.{UpTo, took-bound, dropped-yes, dropped-no}
+use Rattle.readback.proofs.Values.{took-bound, dropped-yes, dropped-no}
 use Rattle.readback.proofs.items.dropped.Statement.{statement}
 use Rattle.readback.proofs.items.dropped.Tie as tie
-use Rattle.readback.proofs.items.dropped.Reads as reads
-use Rattle.readback.proofs.items.dropped.Lts as lts
-use Rattle.readback.proofs.fields.field.Reads as field-reads
 
 field-requires : tie.Need-field-requires
 field-requires c κs = search needs

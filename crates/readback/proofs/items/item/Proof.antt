@@ -1,15 +1,8 @@
 -- By its letter.
 use borrow.Author.Needs.{needs}
-use mathlib.Core.Path.{_≡_}
 use Rattle.readback.proofs.Values.{no-item, item-d, item-r, item-h, item-e, item-other}
 use Rattle.readback.proofs.items.item.Statement.{statement}
 use Rattle.readback.proofs.items.item.Tie as tie
-use Rattle.readback.proofs.items.item.Reads as reads
-use Rattle.readback.proofs.items.item.Lts as lts
-use Rattle.readback.proofs.items.bad.Reads as bad-reads
-use Rattle.readback.proofs.items.dropped.Reads as dropped-reads
-use Rattle.readback.proofs.items.kept.Reads as kept-reads
-use Rattle.readback.proofs.items.report.Reads as report-reads
 
 returns : tie.Need-returns
 returns c = no-item _ (c .before .before .args .line .now) (c .if1 .taken)

@@ -2,8 +2,6 @@
 use borrow.Author.Tests.{eq-eqb, ne-eqb, le-leb, lt-leb}
 use Rattle.readback.proofs.items.middle_at.Statement.{statement}
 use Rattle.readback.proofs.items.middle_at.Tie as tie
-use Rattle.readback.proofs.items.middle_at.Reads as reads
-use Rattle.readback.proofs.items.middle_at.Lts as lts
 
 returns : tie.Need-returns
 returns c = rw (le-leb _ _ (c .if1 .taken))

@@ -10,10 +10,6 @@ use Rattle.readback.specs.Items.{pressedNumber}
 use Rattle.readback.proofs.Values.{sixteen-fits, fives, counted-most, middle-most}
 use Rattle.readback.proofs.items.numbers.Statement.{statement}
 use Rattle.readback.proofs.items.numbers.Tie as tie
-use Rattle.readback.proofs.items.numbers.Reads as reads
-use Rattle.readback.proofs.items.numbers.Lts as lts
-use Rattle.readback.proofs.items.five.Reads as five-reads
-use Rattle.readback.proofs.items.pressed_number.Reads as pressed-number-reads
 
 pressed-is : (c : tie.After-pressed-number) → toZ w32 (c .pressed-number .result) ≡ pos (pressedNumber (c .before .before .item .given .0 .1 .0))
 pressed-is c = let b = c .before .before .item .given .0 .1 .0 in

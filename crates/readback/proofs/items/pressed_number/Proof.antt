@@ -5,10 +5,6 @@ use native.Mathlib.Omega.{arith}
 use Rattle.readback.proofs.Values.{counted-most, middle-most}
 use Rattle.readback.proofs.items.pressed_number.Statement.{statement}
 use Rattle.readback.proofs.items.pressed_number.Tie as tie
-use Rattle.readback.proofs.items.pressed_number.Reads as reads
-use Rattle.readback.proofs.items.pressed_number.Lts as lts
-use Rattle.readback.proofs.items.counted.Reads as counted-reads
-use Rattle.readback.proofs.items.middle_number.Reads as middle-number-reads
 
 first : (c : tie.After-counted) → c .counted .result ≤ 4
 first c = rw (c .counted .ensures) (counted-most (c .before .args .buttons .left) 4)

@@ -12,9 +12,6 @@ use Rattle.readback.specs.declared.Kind.the-variants as kind
 use Rattle.readback.proofs.Values.{took-bound, no-width, a-width, other-width}
 use Rattle.readback.proofs.items.width.Statement.{statement}
 use Rattle.readback.proofs.items.width.Tie as tie
-use Rattle.readback.proofs.items.width.Reads as reads
-use Rattle.readback.proofs.items.width.Lts as lts
-use Rattle.readback.proofs.fields.field.Reads as field-reads
 
 returns : tie.Need-returns
 returns c = no-width (c .before .before .args .line .now) (c .if1 .taken)

@@ -1,6 +1,5 @@
 -- Five stores at the front.
 use borrow.Author.Needs.{needs}
-use Prim.Native.Nat.{_<_}
 use mathlib.Core.Path.{_≡_}
 use native.Mathlib.Omega.{arith}
 use mathlib.Core.List.{[], _∷_}
@@ -10,9 +9,6 @@ use mir.Syntax.{w32}
 use mir.Val.{toZ, ofZ}
 use Rattle.readback.proofs.pieces.put.Statement.{statement}
 use Rattle.readback.proofs.pieces.put.Tie as tie
-use Rattle.readback.proofs.pieces.put.Reads as reads
-use Rattle.readback.proofs.pieces.put.Lts as lts
-use Rattle.readback.proofs.items.numbers.Reads as numbers-reads
 
 numbers-requires : tie.Need-numbers-requires
 numbers-requires c κs = search needs

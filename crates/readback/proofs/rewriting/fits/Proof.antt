@@ -1,6 +1,5 @@
 -- The number of a line, by the item.
 use borrow.Author.Needs.{needs}
-use mathlib.Core.Path.{ap}
 use Rattle.readback.proofs.rewriting.fits.Statement.{statement}
 use Rattle.readback.proofs.rewriting.fits.Tie as tie
 

@@ -2,8 +2,6 @@
 use borrow.Author.Needs.{needs}
 use Rattle.readback.proofs.steps.above.Statement.{statement}
 use Rattle.readback.proofs.steps.above.Tie as tie
-use Rattle.readback.proofs.steps.above.Reads as reads
-use Rattle.readback.proofs.steps.above.Lts as lts
 
 enum-known-item : tie.Need-enum-known-item
 enum-known-item c = search needs

@@ -2,8 +2,6 @@
 use borrow.Author.Needs.{needs}
 use Rattle.readback.proofs.steps.last_behind.Statement.{statement}
 use Rattle.readback.proofs.steps.last_behind.Tie as tie
-use Rattle.readback.proofs.steps.last_behind.Reads as reads
-use Rattle.readback.proofs.steps.last_behind.Lts as lts
 
 enum-known-item : tie.Need-enum-known-item
 enum-known-item c = search needs

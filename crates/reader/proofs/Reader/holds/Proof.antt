@@ -1,6 +1,5 @@
 -- `holds`: a byte that is valid in its place, or 0 where none is kept.
 use borrow.Author.Needs.{needs}
-use mathlib.Core.Path.{_∙_}
 use borrow.Author.Tests.{lt-ltb, le-ltb}
 use Rattle.reader.specs.Good.{placed}
 use Rattle.reader.proofs.Reader.holds.Statement.{statement}

@@ -8,7 +8,7 @@ use lib.ListN.{length, drop, drop-of-length-le}
 use Rattle.listing.specs.Scanning.{unfed}
 use Rattle.listing.proofs.Scanned.{allFound}
 use Rattle.salvaged.specs.Log.{empty, heardAll}
-use Rattle.salvaged.specs.Hearing.{logIn, Fine, Hears}
+use Rattle.salvaged.specs.Hearing.{logIn, Fine}
 use Rattle.salvaged.proofs.Hearing.{byte-numbered, byte-heard, end-heard, all-heard}
 use Rattle.salvaged.proofs.log.read.Statement.{statement}
 use Rattle.salvaged.proofs.log.read.Tie as tie

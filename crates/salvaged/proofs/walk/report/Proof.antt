@@ -1,6 +1,5 @@
 -- `report`: the bytes of the run, the report that they stand for, and the line of the last.
 use native.Mathlib.Omega.{arith}
-use lib.ListN.{length}
 use Rattle.fold.proofs.Parts.{rest-is}
 use Rattle.salvaged.specs.Items.{itemOf}
 use Rattle.salvaged.proofs.Runs.{within, run-of, report-is}

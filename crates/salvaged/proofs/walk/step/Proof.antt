@@ -1,11 +1,9 @@
 -- `step`: by what is at the place.
-use mathlib.Core.Path.{_≡_, sym, _∙_}
-use mathlib.Core.Bool.{true, false}
+use mathlib.Core.Path.{sym, _∙_}
 use native.Mathlib.Omega.{arith}
-use lib.ListN.{length, drop, getD}
+use lib.ListN.{getD}
 use borrow.Author.Tests.{le-leb, lt-leb}
 use Rattle.fold.proofs.Parts.{rest-is}
-use Rattle.salvage.specs.Picking.{startsBy}
 use Rattle.salvaged.proofs.Runs.{within, run-short}
 use Rattle.salvaged.proofs.Walking.{run-step, byte-step, mark-step}
 use borrow.Author.Needs.{needs}

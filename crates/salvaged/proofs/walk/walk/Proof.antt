@@ -1,7 +1,7 @@
 -- `walk`: at the loop's head some pieces are printed, and the others are left.
 use borrow.Author.Needs.{needs}
 use Prim.Native.Nat.{_-_}
-use mathlib.Core.Path.{_≡_, refl, sym, ap, _∙_}
+use mathlib.Core.Path.{_≡_, refl, ap, _∙_}
 use native.Mathlib.Omega.{arith}
 use lib.ListN.{length}
 use Rattle.salvaged.specs.declared.Step.{Step}
