@@ -18,7 +18,7 @@ use Rattle.text.specs.declared.Text.{Text}
 use Rattle.text.proofs.Laws.{text-shows, text-long, put-none}
 use Rattle.text.proofs.Filled.{filled-all}
 use Rattle.reader.specs.declared.Reader.{Reader}
-use Rattle.listing.specs.Lines.{Tells}
+use Rattle.listing.specs.Lines.{Tells, sixAt}
 use Rattle.listing.specs.Scanning.{width, mostLines}
 use Rattle.listing.specs.Items.{itemsIn, wordGave}
 use Rattle.listing.specs.Printing.{allBytes}
@@ -154,7 +154,7 @@ is-passed m five e =
 -- a line of a word more, printed into the slice
 pub word-more : {m₀ : Lister} {input out₀ : List ℕ} {n : ℕ} {r : Reader} {at used : ℕ} {out : List ℕ} → Stands m₀ input out₀ (passedTo n r) at used out
     → (t : Told) → at + 6 ≤ length input → 0 < n → n < mostLines → 40 ≤ length out - used
-    → Tells (getD input at 0 ∷ getD input (at + 1) 0 ∷ getD input (at + 2) 0 ∷ getD input (at + 3) 0 ∷ getD input (at + 4) 0 ∷ getD input (at + 5) 0 ∷ []) t → (t .taken ≡ 0 → ⊥)
+    → Tells (sixAt input at) t → (t .taken ≡ 0 → ⊥)
     → (g : Gave) → g ≡ wordGave r (n + 1) (t .word) → (out′ : List ℕ) (used′ : ℕ) → slice out′ used′ ≡ filledBy (slice out used) (allBytes width (itemsIn (g .given)))
     → Stands m₀ input out₀ (passedTo (n + 1) (g .next)) (at + t .taken) used′ out′
 word-more {m₀} {input} {out₀} {n} {r} {at} {used} {out} s t there some few room tells taken g is out′ used′ wrote =

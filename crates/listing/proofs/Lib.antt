@@ -15,6 +15,7 @@ pub mod Long
 pub mod Ordered
 pub mod Parse
 pub mod Pieces
+pub mod Quiet
 pub mod Refusals
 pub mod Scanned
 pub mod Small

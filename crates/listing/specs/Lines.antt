@@ -5,7 +5,7 @@ use mathlib.Core.Bool.{cond, _&&_}
 use mathlib.Core.List.{List, [], _∷_}
 use lib.Dec.{leb, eqb}
 use lib.IntN.{pos, negsuc}
-use lib.ListN.{take}
+use lib.ListN.{getD, take}
 use Rattle.frames.specs.Words.{break, silence}
 use Rattle.wire.specs.Line.{known}
 use Rattle.text.specs.Decimals.{plain, numberIn}
@@ -69,3 +69,7 @@ saidBy (a ∷ b ∷ c ∷ cs) =
 -- a line of a word lies whole at the front of six bytes: so many with its newline, and the word
 abbrev pub Tells : List ℕ → Told → Type 0
 Tells six t = (t .taken ≡ 0 → ⊥) → (t .taken ≡ lengthIn six + 1) × (lengthIn six < 6) × (saidBy (take (lengthIn six) six) ≡ line.Word (t .word))
+
+-- six bytes from a place on
+abbrev pub sixAt : List ℕ → ℕ → List ℕ
+sixAt input at = getD input at 0 ∷ getD input (at + 1) 0 ∷ getD input (at + 2) 0 ∷ getD input (at + 3) 0 ∷ getD input (at + 4) 0 ∷ getD input (at + 5) 0 ∷ []

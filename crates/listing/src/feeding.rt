@@ -61,6 +61,7 @@ fn passed(n: u32, reader: Reader, taken: usize, used: usize) -> Front
 }
 
 // The lines of words at the front of a piece, behind some lines: each is read and printed at once, as long as any text has room.
+// Behind a report or a silence the reader is quiet: more silences change nothing, and are passed unread.
 fn words(line: u32, reader: Reader, input: &[u8], out: &mut [u8]) -> Front
     requires { ⌜ 0 < line ⌝ }
     ensures { λ r. ⌜ Stands (passedTo line reader) (now (input .entry)) (now (out .entry)) (r .next) (r .taken) (r .used) (now (out .exit)) ⌝ }
@@ -68,31 +69,38 @@ fn words(line: u32, reader: Reader, input: &[u8], out: &mut [u8]) -> Front
     let most = most_lines();
     let mut n = line;
     let mut r = reader;
+    let mut quiet = false;
     let mut at: usize = 0;
     let mut used: usize = 0;
+    if out.len() < 40 {
+        return passed(n, r, at, used);
+    }
     while at + 6 <= input.len() {
-        if out.len() - used < 40 {
-            return passed(n, r, at, used);
-        }
         if n >= most {
             return passed(n, r, at, used);
         }
-        let a = input[at];
-        let b = input[at + 1];
-        let c = input[at + 2];
-        let d = input[at + 3];
-        let e = input[at + 4];
-        let told = lines::word_at(a, b, c, d, e, input[at + 5]);
+        let told = lines::word_in(input, at);
         if told.taken == 0 {
             return passed(n, r, at, used);
         }
         n = n + 1;
+        at = at + told.taken;
+        let silence = told.word == 257;
+        if quiet & silence {
+            continue;
+        }
         let gave = items::word(r, n, told.word);
         let next = gave.next;
         let given = gave.given;
-        used = printing::put(out, used, WIDTH, given);
         r = next;
-        at = at + told.taken;
+        quiet = silence;
+        if items::some(given) {
+            used = printing::put(out, used, WIDTH, given);
+            quiet = items::reports(given);
+            if out.len() - used < 40 {
+                return passed(n, r, at, used);
+            }
+        }
     }
     passed(n, r, at, used)
 }

@@ -1,7 +1,7 @@
 // What is found in a recording, to items of the listing.
 ghost use mathlib.Core.Path.{_≡_};
 ghost use lib.IntN.{_+ℤ_};
-ghost use Rattle.listing.specs.Items.{middleOf, buttonsOf, reportItem, answerGiven, formatGave, wordGave, gaveOf};
+ghost use Rattle.listing.specs.Items.{middleOf, buttonsOf, reportItem, answerGiven, formatGave, wordGave, gaveOf, isSome, isReport, isReported};
 use crate::Buttons;
 use crate::Found;
 use crate::Gave;
@@ -73,6 +73,38 @@ pub(crate) fn word(reader: Reader, n: u32, word: u16) -> Gave
     Gave {
         next: next,
         given: answered(reader.format, n, answer),
+    }
+}
+
+// Whether anything is given.
+pub(crate) fn some(given: Given) -> bool
+    ensures { λ r. ⌜ r ≡ isSome given ⌝ }
+{
+    match given {
+        Given::Nothing => false,
+        Given::One(_) => true,
+    }
+}
+
+fn is_report(item: Item) -> bool
+    ensures { λ r. ⌜ r ≡ isReport item ⌝ }
+{
+    match item {
+        Item::D(_, _) => false,
+        Item::R(_, _, _, _) => true,
+        Item::H(_) => false,
+        Item::E(_) => false,
+        Item::Over => false,
+    }
+}
+
+// Whether a report is given.
+pub(crate) fn reports(given: Given) -> bool
+    ensures { λ r. ⌜ r ≡ isReported given ⌝ }
+{
+    match given {
+        Given::Nothing => false,
+        Given::One(item) => is_report(item),
     }
 }
 

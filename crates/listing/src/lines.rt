@@ -1,9 +1,10 @@
 // What a line of a recording says.
 ghost use mathlib.Core.Path.{_≡_};
 ghost use mathlib.Core.List.{[], _∷_};
-ghost use lib.ListN.{take};
+ghost use Prim.Native.Nat.{_+_, _≤_};
+ghost use lib.ListN.{length, take};
 ghost use Rattle.text.specs.Decimals.{isDigit};
-ghost use Rattle.listing.specs.Lines.{tab, byteOf, byteIn, markIn, formatIn, saidBy, Tells};
+ghost use Rattle.listing.specs.Lines.{tab, byteOf, byteIn, markIn, formatIn, saidBy, Tells, sixAt};
 use crate::Line;
 use crate::Told;
 use text::Number;
@@ -127,7 +128,7 @@ fn byte_at(c: u8, d: u8, e: u8, f: u8) -> Told
 }
 
 // The word of a line that lies whole at the front of six bytes.
-pub(crate) fn word_at(a: u8, b: u8, c: u8, d: u8, e: u8, f: u8) -> Told
+fn word_at(a: u8, b: u8, c: u8, d: u8, e: u8, f: u8) -> Told
     ensures { λ r. ⌜ Tells (a ∷ b ∷ c ∷ d ∷ e ∷ f ∷ []) r ⌝ }
 {
     if a == b'B' {
@@ -144,4 +145,17 @@ pub(crate) fn word_at(a: u8, b: u8, c: u8, d: u8, e: u8, f: u8) -> Told
         b'X' => told(2, 256),
         _ => told(0, 0),
     }
+}
+
+// And of one at a place of a piece.
+pub(crate) fn word_in(input: &[u8], at: usize) -> Told
+    requires { ⌜ at + 6 ≤ length (now input) ⌝ }
+    ensures { λ r. ⌜ Tells (sixAt (now (input .entry)) at) r ⌝ }
+{
+    let a = input[at];
+    let b = input[at + 1];
+    let c = input[at + 2];
+    let d = input[at + 3];
+    let e = input[at + 4];
+    word_at(a, b, c, d, e, input[at + 5])
 }

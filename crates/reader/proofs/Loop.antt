@@ -1,27 +1,34 @@
 -- The long read's loop: where it stands, the first word of what is left, and how it goes on and ends.
-use mathlib.Core.Path.{_≡_, refl, sym, _∙_}
-use mathlib.Core.Bool.{Bool}
+use mathlib.Core.Path.{_≡_, refl, sym, _∙_, ap}
+use mathlib.Core.Bool.{Bool, true, false, _&&_}
 use mathlib.Core.List.{List, [], _∷_, _++_}
-use Prim.Native.Nat.{ℕ, _+_, _-_, _*_, _/_, _<_, _≤_}
+use Prim.Native.Nat.{ℕ, zero, suc, _+_, _-_, _*_, _/_, _<_, _≤_}
 use native.Mathlib.Omega.{arith}
 use native.Mathlib.Nat.{add-zero, zero-add}
 use lib.ListN.{length, getD, take, drop, set, length-drop, take-append-drop, drop-of-length-le}
-use lib.Seq.{sets-eq, drop-cons}
+use lib.Seq.{sets-eq, drop-cons, getD-drop}
 use lib.IntN.{ℤ, pos}
+use lib.Dec.{leb, eqb}
+use borrow.Author.Tests.{eqb-true, eqb-false, eq-eqb, leb-true, leb-false, le-leb}
 use borrow.Rule.Slice.PartMut.{putMid}
-use Rattle.fold.specs.Fold.{ran, run}
+use Rattle.numbers.proofs.Tested.{left, right}
+use Rattle.fold.specs.Fold.{ran, behind, run}
 use Rattle.fold.proofs.Laws.{taken, stops}
 use Rattle.fold.proofs.Parts.{rest-is, back, none, one, joins, part-within, part-room, part-long, part-left, part-none, part-all, part-ends}
+use Rattle.frames.specs.Words.{isByte}
+use Rattle.wire.specs.Line.{markedBy}
 use Rattle.wire.specs.declared.Report.{Report}
 use Rattle.reader.specs.State.{fiveOf}
-use Rattle.reader.specs.Rules.{wordOf}
+use Rattle.reader.specs.Good.{good}
+use Rattle.reader.specs.Rules.{byteOf, wordOf}
 use Rattle.reader.specs.Counts.{reportsIn, droppedIn, writtenIn, droppedAmong}
-use Rattle.reader.specs.Line.{whole, reads, lineOf}
-use Rattle.reader.specs.Parts.{Stands, Begins, Sized}
+use Rattle.reader.specs.Line.{Long, whole, reads, lineOf}
+use Rattle.reader.specs.Parts.{Stands, Begins, firstOf, BytesFirst, AwaitsBehind}
 use Rattle.reader.specs.declared.Reader.{Reader}
 use Rattle.reader.specs.declared.Read.{Read}
 use Rattle.reader.specs.declared.Reading.{Reading}
-use Rattle.reader.proofs.Word.{word-format, word-below}
+use Rattle.reader.specs.declared.Answer.the-variants.{Dropped}
+use Rattle.reader.proofs.Word.{word-format, lost-awaits}
 use Rattle.reader.proofs.Keeps.{word-good}
 use Rattle.reader.proofs.Counted.{empty, five-in, five-each, reports-first, reports-both, dropped-both}
 use Rattle.reader.proofs.Bounds.{line-within}
@@ -30,23 +37,18 @@ use Rattle.reader.proofs.Bounds.{line-within}
 pub put-is : (l : List ℤ) (p : Report) (a b c d e : ℤ) → 5 ≤ length l → a ≡ pos (p .buttons) → b ≡ p .x1 → c ≡ p .y1 → d ≡ p .x2 → e ≡ p .y2 → set (set (set (set (set l 0 a) 1 b) 2 c) 3 d) 4 e ≡ fiveOf p ++ drop 5 l
 put-is l p a b c d e h ea eb ec ed ee = sets-eq (a ∷ b ∷ c ∷ d ∷ e ∷ []) l 0 h ∙ rw (ea, eb, ec, ed, ee)
 
--- what is kept stays below the size, and the format stays
-stays-sized : (size : ℕ) (marked : Bool) (r : Reader) (w : ℕ) → Sized size marked r → Sized size marked (wordOf r w .next)
-stays-sized size marked r w s =
-    record { sound = word-good r (s .sound) w; below = rw (s .sized) (word-below r w (rw (s .sized) at (s .below))); sized = rw (word-format r w) (s .sized); mark = rw (word-format r w) (s .mark) }
-
 pub starts : (r : Reader) (words : List ℕ) (out : List ℤ) → Stands r words out r 0 0 0 0 out
 unfolding droppedAmong
 starts r words out = record { answers = []; part = none reads r words out; reports-are = refl; dropped-are = refl }
 
-module _ {size : ℕ} {marked : Bool} {r : Reader} (words : List ℕ) (out : List ℤ) {s : Read} (kept : Sized size marked r) (some : 0 < length words) (is : s ≡ wordOf r (getD words 0 0)) where
+module _ {r : Reader} (words : List ℕ) (out : List ℤ) {s : Read} (sound : good r ≡ true) (some : 0 < length words) (is : s ≡ wordOf r (getD words 0 0)) where
   -- its first word stops the read, or is taken
-  pub stopping : (s .refusal ≡ 0 → length out < length (writtenIn (s .answer))) → Begins size marked r words out (record { refusal = s .refusal; next = r; taken = 0; reports = 0; dropped = 0 }) out
+  pub stopping : (s .refusal ≡ 0 → length out < length (writtenIn (s .answer))) → Begins r words out (record { refusal = s .refusal; next = r; taken = 0; reports = 0; dropped = 0 }) out
   unfolding run
-  stopping h = record { stands = starts r words out; stops = λ _. rw (drop-cons words 0 0 some, is, stops reads r (getD words 0 0) (length out) (rw is at h)); sized = kept }
+  stopping h = record { stands = starts r words out; stops = λ _. rw (drop-cons words 0 0 some, is, stops reads r (getD words 0 0) (length out) (rw is at h)); sound = sound; same-format = refl }
 
   pub taking : s .refusal ≡ 0 → length (writtenIn (s .answer)) ≤ length out
-      → Begins size marked r words out (record { refusal = 0; next = s .next; taken = 1; reports = reportsIn (s .answer); dropped = droppedIn (s .answer) }) (writtenIn (s .answer) ++ drop (length (writtenIn (s .answer))) out)
+      → Begins r words out (record { refusal = 0; next = s .next; taken = 1; reports = reportsIn (s .answer); dropped = droppedIn (s .answer) }) (writtenIn (s .answer) ++ drop (length (writtenIn (s .answer))) out)
   unfolding droppedAmong
   taking z h =
       let w = getD words 0 0 in
@@ -59,8 +61,13 @@ module _ {size : ℕ} {marked : Bool} {r : Reader} (words : List ℕ) (out : Lis
           dropped-are = omega arith;
         };
         stops = λ e. absurd (omega arith);
-        sized = rw is (stays-sized size marked r w kept);
+        sound = rw is (word-good r sound w);
+        same-format = rw is (word-format r w);
       }
+
+-- where it was a byte that an unmarked format dropped, a silence is awaited
+pub awaited : (r : Reader) (w : ℕ) {s : Read} → s ≡ wordOf r w → markedBy (r .format) ≡ false → isByte w ≡ true → (droppedIn (s .answer) ≡ 0 → ⊥) → s .next .awaiting ≡ true
+awaited r w is m i n = rw is (lost-awaits r w m i (rw is at n))
 
 -- how far it has come
 pub record Far (r : Reader) (words : List ℕ) (before : List ℤ) (taken used reports dropped : ℕ) (after : List ℤ) : Type 0 where
@@ -119,8 +126,8 @@ module _ {words : List ℕ} {out₀ out : List ℤ} {r₀ r : Reader} {at used r
       → Stands r₀ words out₀ u (at + taken) used reports (dropped + d) out
   over q = rw (add-zero used, add-zero reports, take-append-drop used out) at (then (rw (rest-is words at) at q))
 
-  module _ {size : ℕ} {marked : Bool} {t : Reading} {last : List ℤ} (b : Begins size marked r (take (length words - at) (drop at words)) (take (length out - used) (drop used out)) t last) where
-    begins : Begins size marked r (drop at words) (drop used out) t last
+  module _ {t : Reading} {last : List ℤ} (b : Begins r (take (length words - at) (drop at words)) (take (length out - used) (drop used out)) t last) where
+    begins : Begins r (drop at words) (drop used out) t last
     begins = rw (rest-is words at, rest-is out used) at b
 
     pub more : Stands r₀ words out₀ (t .next) (at + t .taken) (used + 5 * t .reports) (reports + t .reports) (dropped + t .dropped) (putMid used (length out - used) out last)
@@ -134,32 +141,96 @@ module _ {words : List ℕ} {out₀ out : List ℤ} {r₀ r : Reader} {at used r
       pub ends-before : whole (record { refusal = t .refusal; next = r; taken = at; reports = reports; dropped = dropped }) out ≡ lineOf r₀ words out₀
       ends-before = ends (t .refusal) (part-ends reads (s .part) (t .refusal) (rw (part-left reads (s .part), length-drop used out₀) at (begins .stops z)))
 
--- words one by one, while nothing is written
-module _ {words : List ℕ} {out₀ out : List ℤ} {r₀ r : Reader} {at dropped : ℕ} (s : Stands r₀ words out₀ r at 0 0 dropped out) {size : ℕ} {marked : Bool} where
-  -- the line is at its end
-  pub all-taken : Sized size marked r → (at ≡ 0 → r ≡ r₀) → length words ≤ at → Begins size marked r₀ words out₀ (record { refusal = 0; next = r; taken = at; reports = 0; dropped = dropped }) out
-  unfolding run
-  all-taken kept same h = record { stands = s; stops = λ e. stops-here s 0 (rw (drop-of-length-le words h)) e (same e); sized = kept }
+-- the first word, by what it gives; and where it is all of the line
+module _ (r : Reader) (words : List ℕ) (out : List ℤ) {s : Read} (sound : good r ≡ true) (some : 0 < length words) (is : s ≡ wordOf r (getD words 0 0)) {t : Reading} {last : List ℤ} (e : whole t last ≡ firstOf r s out) where
+  abbrev taken-one : Bool
+  taken-one = eqb (s .refusal) 0 && leb (length (writtenIn (s .answer))) (length out)
 
-  module _ {t : Reading} {last : List ℤ} (b : Begins size marked r (take (length words - at) (drop at words)) out t last) where
+  goes : taken-one ≡ true → Begins r words out (record { refusal = 0; next = s .next; taken = 1; reports = reportsIn (s .answer); dropped = droppedIn (s .answer) }) (writtenIn (s .answer) ++ drop (length (writtenIn (s .answer))) out)
+  goes k = taking words out sound some is (eqb-true (s .refusal) 0 (left (eqb (s .refusal) 0) _ k)) (leb-true _ _ (right (eqb (s .refusal) 0) _ k))
+
+  stays : taken-one ≡ false → Begins r words out (record { refusal = s .refusal; next = r; taken = 0; reports = 0; dropped = 0 }) out
+  stays k = stopping words out sound some is (λ z. leb-false _ _ (rw (eq-eqb (s .refusal) 0 z) at k))
+
+  pub first-begins : Begins r words out t last × AwaitsBehind r words t
+  first-begins = go taken-one refl
+    where
+      go : (b : Bool) → taken-one ≡ b → Begins r words out t last × AwaitsBehind r words t
+      go true k = let i = rw k at e in rw (ap (λ (l : Long). l .reading) i, ap (λ (l : Long). l .out) i) (goes k, awaited r (getD words 0 0) is)
+      go false k = let i = rw k at e in rw (ap (λ (l : Long). l .reading) i, ap (λ (l : Long). l .out) i) (stays k, λ _ _ n. absurd (n refl))
+
+  pub first-ends : length words ≡ 1 → whole t last ≡ lineOf r words out
+  unfolding starts
+  first-ends one = go taken-one refl
+    where
+      go : (b : Bool) → taken-one ≡ b → whole t last ≡ lineOf r words out
+      go true k = rw k at e ∙ ends-all (goes k .stands) (omega arith)
+      go false k = rw k at e ∙ ends (starts r words out) (s .refusal) (stays k .stops refl)
+
+-- bytes at the front of a line: one more, and what becomes of them while a silence is awaited
+pub byte-more : {n : ℕ} {words : List ℕ} → BytesFirst n words → n < length words → getD words n 0 ≤ 255 → BytesFirst (n + 1) words
+byte-more {n} {words} b h small = record { within = omega arith; are-bytes = λ i k. go i k (eqb i n) refl }
+  where
+    go : (i : ℕ) → i < n + 1 → (e : Bool) → eqb i n ≡ e → isByte (getD words i 0) ≡ true
+    go i k true e = rw (eqb-true i n e) (le-leb (getD words n 0) 255 small)
+    go i k false e = b .are-bytes i (omega (arith, eqb-false i n e))
+
+lost : (r : Reader) (w : ℕ) → r .awaiting ≡ true → isByte w ≡ true → (words : List ℕ) (room : ℕ) → run reads r (w ∷ words) room ≡ behind (Dropped 1 ∷ []) (run reads r words room)
+unfolding run wordOf byteOf
+lost r w a i words room = let z : room - 0 ≡ room = omega arith in rw (i, a, le-leb 0 room (omega arith), z)
+
+pub lost-stands : (r : Reader) → r .awaiting ≡ true → (n : ℕ) (words : List ℕ) (out : List ℤ) → BytesFirst n words → Stands r words out r n 0 0 n out
+unfolding droppedAmong
+lost-stands r a zero words out b = starts r words out
+lost-stands r a (suc n) [] out b = absurd (omega (arith, b .within))
+lost-stands r a (suc n) (w ∷ words) out b =
+    let rest = lost-stands r a n words out (record { within = omega (arith, b .within); are-bytes = λ i h. b .are-bytes (suc i) (omega arith) }) in
+    record {
+      answers = Dropped 1 ∷ rest .answers;
+      part = record {
+        words-are = omega (arith, rest .part .words-are);
+        places-are = rest .part .places-are;
+        wrote = rest .part .wrote;
+        is = lost r w a (b .are-bytes 0 (omega arith)) words (length out) ∙ ap (behind (Dropped 1 ∷ [])) (rest .part .is);
+      };
+      reports-are = rest .reports-are;
+      dropped-are = omega (arith, rest .dropped-are);
+    }
+
+-- words one by one, while nothing is written
+module _ {words : List ℕ} {out₀ out : List ℤ} {r₀ r : Reader} {at dropped : ℕ} (s : Stands r₀ words out₀ r at 0 0 dropped out) (sound : good r ≡ true) (format : r .format ≡ r₀ .format) where
+  -- the line is at its end
+  pub all-taken : (at ≡ 0 → r ≡ r₀) → length words ≤ at → Begins r₀ words out₀ (record { refusal = 0; next = r; taken = at; reports = 0; dropped = dropped }) out
+  unfolding run
+  all-taken same h = record { stands = s; stops = λ e. stops-here s 0 (rw (drop-of-length-le words h)) e (same e); sound = sound; same-format = format }
+
+  module _ {t : Reading} {last : List ℤ} (b : Begins r (take (length words - at) (drop at words)) out t last) where
     pub took : Stands r₀ words out₀ (t .next) (at + t .taken) (5 * t .reports) (t .reports) (dropped + t .dropped) last
     took = rw (zero-add (5 * t .reports), zero-add (t .reports)) at (then s (rw (rest-is words at) at (b .stands)))
 
     -- it took no word
-    pub none-taken : Sized size marked r → (at ≡ 0 → r ≡ r₀) → t .taken ≡ 0
-        → Begins size marked r₀ words out₀ (record { refusal = t .refusal; next = r; taken = at; reports = 0; dropped = dropped }) last
-    none-taken kept same z =
+    pub none-taken : (at ≡ 0 → r ≡ r₀) → t .taken ≡ 0
+        → Begins r₀ words out₀ (record { refusal = t .refusal; next = r; taken = at; reports = 0; dropped = dropped }) last
+    none-taken same z =
         let room : length out₀ - 0 ≡ length out = omega (arith, part-long reads (s .part)) in
         record {
           stands = rw (part-none reads (b .stands .part) z) s;
           stops = λ e. stops-here s (t .refusal) (rw room (rw (rest-is words at) at (b .stops z))) e (same e);
-          sized = kept;
+          sound = sound;
+          same-format = format;
         }
 
+    -- bytes behind one that an unmarked format dropped
+    pub skipped : t .reports ≡ 0 → AwaitsBehind r (take (length words - at) (drop at words)) t → markedBy (r .format) ≡ false → (t .dropped ≡ 0 → ⊥) → getD words at 0 ≤ 255
+        → {n : ℕ} → BytesFirst n (take (length words - (at + t .taken)) (drop (at + t .taken) words)) → Stands r₀ words out₀ (t .next) (at + t .taken + n) 0 0 (dropped + t .dropped + n) last
+    skipped none waits m some small b =
+        let first : getD (take (length words - at) (drop at words)) 0 0 ≡ getD words at 0 = rw (rest-is words at, getD-drop at words 0 0, add-zero at) in
+        over (rw none at took) (lost-stands (t .next) (waits m (rw first (le-leb (getD words at 0) 255 small)) some) _ _ _ b)
+
 -- words one by one, and a run behind them
-pub and-run : {size : ℕ} {marked : Bool} {r : Reader} {words : List ℕ} {out mid : List ℤ} {t : Reading} → Begins size marked r words out t mid → (t .taken ≡ 0 → ⊥) → {taken used : ℕ} {last : List ℤ}
+pub and-run : {r : Reader} {words : List ℕ} {out mid : List ℤ} {t : Reading} → Begins r words out t mid → (t .taken ≡ 0 → ⊥) → {taken used : ℕ} {last : List ℤ}
     → Stands (t .next) (take (length words - t .taken) (drop (t .taken) words)) (take (length mid - 5 * t .reports) (drop (5 * t .reports) mid)) (t .next) taken used (used / 5) 0 last
-    → Begins size marked r words out (record { refusal = 0; next = t .next; taken = t .taken + taken; reports = t .reports + used / 5; dropped = t .dropped }) (putMid (5 * t .reports) (length mid - 5 * t .reports) mid last)
+    → Begins r words out (record { refusal = 0; next = t .next; taken = t .taken + taken; reports = t .reports + used / 5; dropped = t .dropped }) (putMid (5 * t .reports) (length mid - 5 * t .reports) mid last)
 and-run {t = t} b ne {taken} {used} q =
     let five : 5 * (t .reports + used / 5) ≡ 5 * t .reports + used = omega (arith, far q .places) in
-    record { stands = rw five (rw (add-zero (t .dropped)) at (on (b .stands) q)); stops = λ e. absurd (ne (omega arith)); sized = b .sized }
+    record { stands = rw five (rw (add-zero (t .dropped)) at (on (b .stands) q)); stops = λ e. absurd (ne (omega arith)); sound = b .sound; same-format = b .same-format }

@@ -6,7 +6,7 @@ use mathlib.Core.Logic.{_⊎_, inl, inr}
 use mathlib.Core.List.{[], _∷_}
 use native.Mathlib.Omega.{arith}
 use lib.Dec.{eqb}
-use borrow.Author.Tests.{eqb-true, eqb-false, leb-false}
+use borrow.Author.Tests.{eqb-true, eqb-false, leb-true, leb-false}
 use Rattle.numbers.proofs.Tested.{left, right, holds}
 use Rattle.frames.specs.Words.{isByte, break, silence}
 use Rattle.wire.specs.Line.{sizeBy, markedBy}
@@ -78,12 +78,6 @@ word-format r w =
     by-word (λ s. s .next .format ≡ r .format) r w
     (λ _ _. refl) (λ _ _ _ _. refl) (λ _ _ _ _. refl) (λ _ _ _ _. refl) (λ _ _ _ _. refl) (λ _. refl) (λ _. refl) (λ _. refl)
 
--- the bytes kept stay below a size that is above them
-pub word-below : (r : Reader) (w : ℕ) → r .count < sizeBy (r .format) → wordOf r w .next .count < sizeBy (r .format)
-word-below r w h =
-    by-word (λ s. s .next .count < sizeBy (r .format)) r w (λ _ _. h) (λ _ _ _ _. omega arith) (λ _ _ _ e. omega (arith, eqb-false (r .count + 1) (sizeBy (r .format)) e))
-    (λ _ _ _ _. omega (arith, at-least-three (r .format) (r .count) h)) (λ _ _ _ _. omega arith) (λ _. omega arith) (λ _. omega arith) (λ _. h)
-
 -- a word's bytes, with those kept before, are those in its report, dropped and kept after
 abbrev pub Kept : Reader → ℕ → Read → Type 0
 Kept r n s = s .refusal ≡ 0 → n + r .count ≡ sizeBy (r .format) * reportsIn (s .answer) + droppedIn (s .answer) + s .next .count
@@ -113,3 +107,10 @@ pub word-number : (r : Reader) (w : ℕ) → Numbered w (wordOf r w)
 word-number r w =
     by-word (Numbered w) r w (λ _ _. inl refl) (λ _ _ _ _. inl refl) (λ _ _ _ _. inl refl) (λ _ _ _ _. inl refl) (λ _ _ _ _. inl refl)
     (λ _. inl refl) (λ _. inl refl) (λ h. inr (refl, h))
+
+-- behind a byte that it dropped a reader of an unmarked format awaits a silence
+pub lost-awaits : (r : Reader) (w : ℕ) → markedBy (r .format) ≡ false → isByte w ≡ true → (droppedIn (wordOf r w .answer) ≡ 0 → ⊥) → wordOf r w .next .awaiting ≡ true
+lost-awaits r w m i =
+    by-word (λ s. (droppedIn (s .answer) ≡ 0 → ⊥) → s .next .awaiting ≡ true) r w (λ _ a _. a) (λ _ _ _ _ n. absurd (n refl)) (λ _ _ _ _ n. absurd (n refl))
+    (λ _ _ _ s _. absurd (holds (sym m ∙ left (markedBy (r .format)) (fitsBy (r .format) 0 (entered (r .format) w)) s))) (λ _ _ _ _ _. rw m)
+    (λ e _. absurd (holds (rw e at i))) (λ e _. absurd (holds (rw e at i))) (λ h _. absurd (omega (arith, leb-true w 255 i, h)))

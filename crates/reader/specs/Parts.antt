@@ -1,16 +1,19 @@
 -- A part of a line, read apart: where a long read stands behind it.
-use Prim.Native.Nat.{ℕ, _*_, _<_}
+use Prim.Native.Nat.{ℕ, _*_, _<_, _≤_}
 use mathlib.Core.Path.{_≡_}
-use mathlib.Core.Bool.{Bool, true}
-use mathlib.Core.List.{List, []}
-use lib.ListN.{length}
+use mathlib.Core.Bool.{Bool, true, false, cond, _&&_}
+use mathlib.Core.List.{List, [], _++_}
+use lib.ListN.{length, getD, drop}
+use lib.Dec.{leb, eqb}
 use lib.IntN.{ℤ}
 use Rattle.fold.specs.Fold.{ran, run, Part}
+use Rattle.frames.specs.Words.{isByte}
 use Rattle.wire.specs.Line.{sizeBy, markedBy}
 use Rattle.reader.specs.Good.{good}
-use Rattle.reader.specs.Counts.{handedOut, droppedAmong}
-use Rattle.reader.specs.Line.{reads}
+use Rattle.reader.specs.Counts.{reportsIn, droppedIn, writtenIn, handedOut, droppedAmong}
+use Rattle.reader.specs.Line.{Long, whole, stopped, reads}
 use Rattle.reader.specs.declared.Reader.{Reader}
+use Rattle.reader.specs.declared.Read.{Read}
 use Rattle.reader.specs.declared.Reading.{Reading}
 use Rattle.reader.specs.declared.Answer.{Answer}
 
@@ -28,8 +31,25 @@ pub record Stands (r : Reader) (words : List ℕ) (before : List ℤ) (next : Re
   pub reports-are : reports ≡ length (handedOut answers)
   pub dropped-are : dropped ≡ droppedAmong answers
 
--- what is given back for them, by a reader that stays sized; where no word is taken the line ends there
-pub record Begins (size : ℕ) (marked : Bool) (r : Reader) (words : List ℕ) (before : List ℤ) (t : Reading) (after : List ℤ) : Type 0 where
+-- what is given back for them, by a reader that stays good and of its format; where no word is taken the line ends there
+pub record Begins (r : Reader) (words : List ℕ) (before : List ℤ) (t : Reading) (after : List ℤ) : Type 0 where
   pub stands : Stands r words before (t .next) (t .taken) (5 * t .reports) (t .reports) (t .dropped) after
   pub stops : t .taken ≡ 0 → run reads r words (length before) ≡ ran (t .refusal) r []
-  pub sized : Sized size marked (t .next)
+  pub sound : good (t .next) ≡ true
+  pub same-format : t .next .format ≡ r .format
+
+-- the first word of a line, by what it gives: it is taken where it is not refused and its answer has room
+abbrev pub firstOf : Reader → Read → List ℤ → Long
+firstOf r s out =
+    cond (eqb (s .refusal) 0 && leb (length (writtenIn (s .answer))) (length out))
+    (whole (record { refusal = 0; next = s .next; taken = 1; reports = reportsIn (s .answer); dropped = droppedIn (s .answer) }) (writtenIn (s .answer) ++ drop (length (writtenIn (s .answer))) out))
+    (stopped (s .refusal) r out)
+
+-- the first of the words are bytes
+pub record BytesFirst (n : ℕ) (words : List ℕ) : Type 0 where
+  pub within : n ≤ length words
+  pub are-bytes : (i : ℕ) → i < n → isByte (getD words i 0) ≡ true
+
+-- "U, T, W then await silence": behind a byte that was dropped
+abbrev pub AwaitsBehind : Reader → List ℕ → Reading → Type 0
+AwaitsBehind r words t = markedBy (r .format) ≡ false → isByte (getD words 0 0) ≡ true → (t .dropped ≡ 0 → ⊥) → t .next .awaiting ≡ true

@@ -90,9 +90,7 @@ impl Reader {
         if !self.good() {
             return refusing(BAD_STATE, self);
         }
-        let size = wire::size(self.format);
-        let marked = wire::marked(self.format);
-        self.word(size, marked, word)
+        self.heard(word)
     }
 
     // A line of words, and the numbers of its reports to a lent slice.

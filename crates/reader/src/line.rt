@@ -1,12 +1,15 @@
 // Over many words: a line, and the numbers of its reports to a lent slice.
 ghost use mathlib.Core.Path.{_≡_};
+ghost use mathlib.Core.Bool.{true};
 ghost use Prim.Native.Nat.{_/_, _<_, _≤_};
 ghost use mathlib.Core.List.{_++_};
 ghost use lib.ListN.{length, drop};
 ghost use Rattle.reader.specs.State.{fiveOf};
 ghost use Rattle.reader.specs.Line.{whole, lineOf};
-ghost use Rattle.reader.specs.Parts.{Stands, Begins, Sized};
+ghost use Rattle.reader.specs.Good.{good};
+ghost use Rattle.reader.specs.Parts.{Stands, Begins, Sized, firstOf, BytesFirst, AwaitsBehind};
 use crate::Answer;
+use crate::Read;
 use crate::Reader;
 use crate::Reading;
 use crate::SILENCE;
@@ -47,13 +50,25 @@ fn reading(refusal: u8, next: Reader, taken: usize, reports: usize, dropped: usi
     }
 }
 
+// How many of the words at the front are bytes.
+fn bytes(words: &[u16]) -> usize
+    ensures { λ n. ⌜ BytesFirst n (now (words .entry)) ⌝ }
+{
+    let mut n: usize = 0;
+    while n < words.len() {
+        if words[n] > 255 {
+            break;
+        }
+        n = n + 1;
+    }
+    n
+}
+
 impl Reader {
-    // The first word of a part of the line, and its report to the front of the places that are left.
-    fn first(self, size: usize, marked: bool, words: &[u16], out: &mut [i16]) -> Reading
-        requires { ⌜ Sized size marked self × (0 < length (now words)) ⌝ }
-        ensures { λ r. ⌜ Begins size marked self (now (words .entry)) (now (out .entry)) r (now (out .exit)) ⌝ }
+    // What a word's answer makes of a line that begins with it, and its report to the front of the places that are left.
+    fn counted(self, s: Read, out: &mut [i16]) -> Reading
+        ensures { λ r. ⌜ whole r (now (out .exit)) ≡ firstOf self s (now (out .entry)) ⌝ }
     {
-        let s = self.word(size, marked, words[0]);
         if s.refusal != SUCCESS {
             return reading(s.refusal, self, 0, 0, 0);
         }
@@ -72,6 +87,15 @@ impl Reader {
         }
     }
 
+    // The first word of a part of the line, by its letter.
+    fn first(self, letter: u8, size: usize, marked: bool, words: &[u16], out: &mut [i16]) -> Reading
+        requires { ⌜ (letter ≡ self .format) × Sized size marked self × (0 < length (now words)) ⌝ }
+        ensures { λ r. ⌜ Begins self (now (words .entry)) (now (out .entry)) r (now (out .exit)) × AwaitsBehind self (now (words .entry)) r ⌝ }
+    {
+        let s = self.word(letter, size, marked, words[0]);
+        self.counted(s, out)
+    }
+
     // The whole reports at the front, where the reader is ready for them and the first is one.
     fn quickly(self, size: usize, marked: bool, words: &[u16], out: &mut [i16]) -> Run
         requires { ⌜ Sized size marked self ⌝ }
@@ -87,17 +111,25 @@ impl Reader {
         passed(self.format, words, out)
     }
 
-    // Words one by one, up to a report or a silence, behind which whole reports may stand.
-    fn slowly(self, size: usize, marked: bool, words: &[u16], out: &mut [i16]) -> Reading
-        requires { ⌜ Sized size marked self ⌝ }
-        ensures { λ r. ⌜ Begins size marked self (now (words .entry)) (now (out .entry)) r (now (out .exit)) ⌝ }
+    // Words one by one, up to a report or a silence, behind which whole reports may stand. Where U, T or W lost a byte they await a silence, and each byte
+    // behind it is dropped alone.
+    fn slowly(
+        self,
+        letter: u8,
+        size: usize,
+        marked: bool,
+        words: &[u16],
+        out: &mut [i16],
+    ) -> Reading
+        requires { ⌜ (letter ≡ self .format) × Sized size marked self ⌝ }
+        ensures { λ r. ⌜ Begins self (now (words .entry)) (now (out .entry)) r (now (out .exit)) ⌝ }
     {
         let mut r = self;
         let mut at: usize = 0;
         let mut dropped: usize = 0;
         while at < words.len() {
             let word = words[at];
-            let t = r.first(size, marked, &words[at..], out);
+            let t = r.first(letter, size, marked, &words[at..], out);
             if t.taken == 0 {
                 return reading(t.refusal, r, at, 0, dropped);
             }
@@ -108,23 +140,47 @@ impl Reader {
             if (t.reports != 0) | (word == SILENCE) {
                 return reading(SUCCESS, r, at, t.reports, dropped);
             }
+            if !marked & (t.dropped != 0) & (word <= 255) {
+                let n = bytes(&words[at..]);
+                at = at + n;
+                dropped = dropped + n;
+            }
         }
         reading(SUCCESS, r, at, 0, dropped)
+    }
+
+    // The same by the letter, each with code of its own.
+    fn by_letter(self, words: &[u16], out: &mut [i16]) -> Reading
+        requires { ⌜ good self ≡ true ⌝ }
+        ensures { λ r. ⌜ Begins self (now (words .entry)) (now (out .entry)) r (now (out .exit)) ⌝ }
+    {
+        let letter = self.format;
+        match letter {
+            b'S' => self.slowly(b'S', 3, true, words, out),
+            b'V' => self.slowly(b'V', 3, true, words, out),
+            b'A' => self.slowly(b'A', 5, true, words, out),
+            b'B' => self.slowly(b'B', 5, true, words, out),
+            b'U' => self.slowly(b'U', 5, false, words, out),
+            b'T' => self.slowly(b'T', 3, false, words, out),
+            b'W' => self.slowly(b'W', 5, false, words, out),
+            _ => reading(SUCCESS, self, 0, 0, 0),
+        }
     }
 
     // A part of the line: words one by one, and the whole reports behind them.
     fn part(self, size: usize, marked: bool, words: &[u16], out: &mut [i16]) -> Reading
         requires { ⌜ Sized size marked self ⌝ }
-        ensures { λ r. ⌜ Begins size marked self (now (words .entry)) (now (out .entry)) r (now (out .exit)) ⌝ }
+        ensures { λ r. ⌜ Begins self (now (words .entry)) (now (out .entry)) r (now (out .exit)) ⌝ }
     {
-        let t = self.slowly(size, marked, words, out);
+        let t = self.by_letter(words, out);
         let next = t.next;
         let at = t.taken;
-        if at == 0 {
+        let ready = (next.count == 0) & !next.awaiting;
+        if (at == 0) | !ready {
             return t;
         }
         let used = 5 * t.reports;
-        let q = next.quickly(size, marked, &words[at..], &mut out[used..]);
+        let q = passed(next.format, &words[at..], &mut out[used..]);
         reading(
             SUCCESS,
             next,
@@ -134,12 +190,24 @@ impl Reader {
         )
     }
 
+    // A line of one word.
+    fn single(self, size: usize, marked: bool, words: &[u16], out: &mut [i16]) -> Reading
+        requires { ⌜ Sized size marked self × (length (now words) ≡ 1) ⌝ }
+        ensures { λ r. ⌜ whole r (now (out .exit)) ≡ lineOf self (now (words .entry)) (now (out .entry)) ⌝ }
+    {
+        let s = self.word(self.format, size, marked, words[0]);
+        self.counted(s, out)
+    }
+
     // The words of a line: whole reports at its front, and then part after part. What is left of it, from the next word on, is handed over with the reader
     // that came back and the places that are left.
     pub(crate) fn line(self, size: usize, marked: bool, words: &[u16], out: &mut [i16]) -> Reading
         requires { ⌜ Sized size marked self ⌝ }
         ensures { λ r. ⌜ whole r (now (out .exit)) ≡ lineOf self (now (words .entry)) (now (out .entry)) ⌝ }
     {
+        if words.len() == 1 {
+            return self.single(size, marked, words, out);
+        }
         let q = self.quickly(size, marked, words, out);
         let mut r = self;
         let mut at = q.taken;

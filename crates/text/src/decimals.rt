@@ -27,12 +27,18 @@ fn magnitude(x: i64) -> u64
     x as u64
 }
 
-// The digits that a number needs.
+// The digits that a number needs. One and two need not be counted.
 fn size(n: u64) -> usize
     ensures { λ r. ⌜ r ≡ sizeOf n ⌝ }
 {
-    let mut v = n;
-    let mut k: usize = 1;
+    if n < 10 {
+        return 1;
+    }
+    if n < 100 {
+        return 2;
+    }
+    let mut v = n / 10;
+    let mut k: usize = 2;
     while v >= 10 {
         v = v / 10;
         k = k + 1;
@@ -40,15 +46,10 @@ fn size(n: u64) -> usize
     k
 }
 
-// And at a width. At a width of six, that of line numbers, those of six digits need not be counted.
+// And at a width.
 fn places(width: usize, n: u64) -> usize
     ensures { λ r. ⌜ r ≡ placesOf width n ⌝ }
 {
-    if width == 6 {
-        if n < 1_000_000 {
-            return 6;
-        }
-    }
     let needs = size(n);
     if needs < width {
         return width;
@@ -144,17 +145,22 @@ fn digits(out: &mut [u8], at: usize, places: usize, n: u64) -> usize
 }
 
 impl Text {
-    // The decimal of a number, of so many digits at least, to a slice at a place, and the place behind it.
+    // The decimal of a number, of so many digits at least, to a slice at a place, and the place behind it. The six digits of a line number are not counted,
+    // and have code of their own.
     pub fn decimal_to(out: &mut [u8], at: usize, width: usize, x: i64) -> usize
         ensures { λ r. ⌜ DecimalToPromise (now (out .entry)) at width x r (now (out .exit)) ⌝ }
     {
         let n = magnitude(x);
-        let size = places(width, n);
         if x < 0 {
             let behind = Text::byte_to(out, at, b'-');
-            return digits(out, behind, size, n);
+            return digits(out, behind, places(width, n), n);
         }
-        digits(out, at, size, n)
+        if width == 6 {
+            if n < 1_000_000 {
+                return digits(out, at, 6, n);
+            }
+        }
+        digits(out, at, places(width, n), n)
     }
 
     // The decimal of a number, of so many digits at least.

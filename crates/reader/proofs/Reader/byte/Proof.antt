@@ -40,7 +40,7 @@ returns-3 c = let b = c .before .before .before in
 
 lose-requires : tie.Need-lose-requires
 lose-requires c κs = let s = c .before .before .before .before .before in
-    (omega (arith, s .pre .0, s .pre .1, at-most-five (s .args .self .format)), s .pre .2)
+    (s .pre .0, omega (arith, s .pre .1, s .pre .2, at-most-five (s .args .self .format)), s .pre .3)
 
 returns-4 : tie.Need-returns-4
 unfolding byteOf

@@ -29,8 +29,8 @@ answered-requires c κs = search needs
 returns : tie.Need-returns
 unfolding keep
 returns c = let b = c .before .before .before .before in
-    simp (eq-eqb _ _ (b .if1 .taken ∙ b .before .pre .1))
-    (rw (c .before .no-bytes .ensures, c .before .before .report-of .ensures) at (c .answered .ensures))
+    simp (eq-eqb _ _ (b .if1 .taken ∙ b .before .pre .2))
+    (rw (c .before .no-bytes .ensures, c .before .before .report-of .ensures, b .before .pre .0) at (c .answered .ensures))
 
 add-self : tie.Need-add-self
 add-self c = omega (arith, at-most-five (c .before .args .t1 .format))
@@ -41,7 +41,7 @@ answered-requires-2 c κs = search needs
 returns-2 : tie.Need-returns-2
 unfolding keep
 returns-2 c = let b = c .before in
-    simp (ne-eqb _ _ (λ e. b .if1 .left (e ∙ sym (b .before .pre .1)))) (rw (b .before .pre .2) at (c .answered2 .ensures))
+    simp (ne-eqb _ _ (λ e. b .if1 .left (e ∙ sym (b .before .pre .2)))) (rw (b .before .pre .3) at (c .answered2 .ensures))
 
 pub keep-spec : {M : Type 1} → statement M
 keep-spec =

@@ -13,7 +13,7 @@ answered-requires : tie.Need-answered-requires
 answered-requires c κs = search needs
 
 returns : tie.Need-returns
-returns c = rw (c .before .before .no-bytes .ensures, c .before .dropping .ensures) at (c .answered .ensures)
+returns c = rw (c .before .before .no-bytes .ensures, c .before .dropping .ensures, c .before .before .before .pre) at (c .answered .ensures)
 
 pub pause-spec : {M : Type 1} → statement M
 pause-spec = tie.close (tie.spec no-bytes-requires dropping-requires answered-requires returns)

@@ -13,9 +13,6 @@ use Rattle.reader.proofs.WholeReports.{three-or-five, is-ready}
 use Rattle.reader.proofs.Reader.quickly.Statement.{statement}
 use Rattle.reader.proofs.Reader.quickly.Tie as tie
 
-after-requires : tie.Need-after-requires
-after-requires c κs = search needs
-
 returns : tie.Need-returns
 returns c = rw (c .after .ensures) (starts _ _ _)
 
@@ -36,17 +33,8 @@ whole-requires : tie.Need-whole-requires
 whole-requires c κs = let s = c .before .before .before .before in
     (rw (s .pre .sized) (three-or-five (s .args .self .format) (s .args .self .count) (rw (s .pre .sized) at (s .pre .below))), test c .1)
 
-after-requires-2 : tie.Need-after-requires-2
-after-requires-2 c κs = search needs
-
 returns-2 : tie.Need-returns-2
 returns-2 c = rw (c .after2 .ensures) (starts _ _ _)
-
-passed-requires : tie.Need-passed-requires
-passed-requires c κs = search needs
-
-same-length : tie.Need-same-length
-same-length c = search needs
 
 returns-3 : tie.Need-returns-3
 returns-3 c = rw (← test (c .before .before .before .before .before) .0) at (c .before .passed .ensures)
@@ -55,11 +43,11 @@ pub quickly-spec : {M : Type 1} → statement M
 quickly-spec =
     tie.close
     (tie.spec
-    after-requires
+    (λ c κs. search needs)
     returns
     whole-requires
-    after-requires-2
+    (λ c κs. search needs)
     returns-2
-    passed-requires
-    same-length
+    (λ c κs. search needs)
+    (λ c. search needs)
     returns-3)

@@ -3,7 +3,7 @@ use borrow.Author.Needs.{needs}
 use mathlib.Core.Path.{sym, _∙_}
 use borrow.Author.Tests.{not-true, not-false}
 use Rattle.reader.specs.Promises.{readOf}
-use Rattle.reader.proofs.Parts.{below-size}
+use Rattle.reader.proofs.Parts.{sized}
 use Rattle.reader.proofs.Reader.read.Statement.{statement}
 use Rattle.reader.proofs.Reader.read.Tie as tie
 
@@ -25,7 +25,7 @@ line-requires c κs = let m = c .before in
     let z = m .before in
     let g = z .before in
     let sound = sym (g .before .good2 .ensures) ∙ not-false _ (g .if1 .left) in
-    record { sound = sound; below = rw (z .size .ensures) (below-size (g .before .before .before .args .self) sound); sized = z .size .ensures; mark = m .marked .ensures }
+    sized (g .before .before .before .args .self) sound (z .size .ensures) (m .marked .ensures)
 
 same-length : tie.Need-same-length
 same-length c = search needs

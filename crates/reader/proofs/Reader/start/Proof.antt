@@ -12,7 +12,7 @@ answered-requires c κs = search needs
 
 returns : tie.Need-returns
 unfolding start
-returns c = rw (c .before .dropping .ensures) at (c .answered .ensures)
+returns c = rw (c .before .dropping .ensures, c .before .before .pre) at (c .answered .ensures)
 
 pub start-spec : {M : Type 1} → statement M
 start-spec = tie.close (tie.spec dropping-requires answered-requires returns)

@@ -7,7 +7,7 @@ fits-requires : tie.Need-fits-requires
 fits-requires c κs = search needs
 
 returns : tie.Need-returns
-returns c = rw (c .before .pre, c .fits2 .ensures)
+returns c = rw (c .before .pre .1, c .fits2 .ensures, c .before .pre .0)
 
 pub starts-spec : {M : Type 1} → statement M
 starts-spec = tie.close (tie.spec fits-requires returns)

@@ -3,7 +3,6 @@ use borrow.Author.Needs.{needs}
 use mathlib.Core.Path.{ap, sym, _∙_}
 use borrow.Author.Tests.{not-true, not-false}
 use Rattle.reader.specs.Promises.{outcome, stepOf}
-use Rattle.reader.proofs.Parts.{below-size}
 use Rattle.reader.proofs.Reader.step.Statement.{statement}
 use Rattle.reader.proofs.Reader.step.Tie as tie
 
@@ -17,21 +16,13 @@ returns : tie.Need-returns
 unfolding stepOf
 returns c = simp (sym (c .before .before .good2 .ensures) ∙ not-true _ (c .before .if1 .taken)) (ap outcome (c .refusing .ensures))
 
-size-requires : tie.Need-size-requires
-size-requires c κs = search needs
-
-marked-requires : tie.Need-marked-requires
-marked-requires c κs = search needs
-
-word-requires : tie.Need-word-requires
-word-requires c κs = let z = c .before in
-    let g = z .before in
-    (rw (z .size .ensures) (below-size (g .before .before .args .self) (sym (g .before .good2 .ensures) ∙ not-false _ (g .if1 .left))), z .size .ensures, c .marked .ensures)
+heard-requires : tie.Need-heard-requires
+heard-requires c κs = sym (c .before .good2 .ensures) ∙ not-false _ (c .if1 .left)
 
 returns-2 : tie.Need-returns-2
 unfolding stepOf
-returns-2 c = let g = c .before .before .before in
-    simp (sym (g .before .good2 .ensures) ∙ not-false _ (g .if1 .left)) (ap outcome (c .word .ensures))
+returns-2 c = let g = c .before in
+    simp (sym (g .before .good2 .ensures) ∙ not-false _ (g .if1 .left)) (ap outcome (c .heard .ensures))
 
 pub step-spec : {M : Type 1} → statement M
-step-spec = tie.close (tie.spec good-requires refusing-requires returns size-requires marked-requires word-requires returns-2)
+step-spec = tie.close (tie.spec good-requires refusing-requires returns heard-requires returns-2)

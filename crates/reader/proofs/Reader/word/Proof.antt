@@ -17,7 +17,7 @@ byte-requires c κs = search needs
 
 returns : tie.Need-returns
 unfolding wordOf
-returns c = simp (le-leb _ _ (c .before .before .if1 .taken)) (rw (c .before .entered .ensures) at (c .byte .ensures))
+returns c = simp (le-leb _ _ (c .before .before .if1 .taken)) (rw (c .before .entered .ensures, c .before .before .before .pre .0) at (c .byte .ensures))
 
 pause-requires : tie.Need-pause-requires
 pause-requires c κs = search needs
@@ -30,7 +30,7 @@ refusing-requires c κs = search needs
 
 returns-2 : tie.Need-returns-2
 unfolding wordOf breakOf
-returns-2 c = rw (c .before .match .keys1, sym (c .before .before .before .pre .2)) (c .pause .ensures)
+returns-2 c = rw (c .before .match .keys1, sym (c .before .before .before .pre .1 .mark)) (c .pause .ensures)
 
 returns-3 : tie.Need-returns-3
 unfolding wordOf silenceOf

@@ -47,9 +47,6 @@ sub-rest c = omega (arith, test c .0)
 part-rest-start : tie.Need-part-rest-start Inv-loop μ-loop
 part-rest-start c = omega (arith, test c .0)
 
-part-rest-end : tie.Need-part-rest-end Inv-loop μ-loop
-part-rest-end c = search needs
-
 -- what is left has room for a report, and so have the places
 long : (c : tie.In-loop Inv-loop μ-loop) → let l = c .before .loop in
     let a = c .before .before .before .args in
@@ -66,9 +63,6 @@ front-requires c κs = let h = c .before .before .before in
     let s = h .before .before .before in
     (s .pre .1, rw (rest-is (s .args .words .now) (h .before .loop .at), length-drop) (long h .0))
 
-report-of-requires : tie.Need-report-of-requires Inv-loop μ-loop
-report-of-requires c κs = search needs
-
 mul-put : tie.Need-mul-put Inv-loop μ-loop
 mul-put c = omega (arith, test (c .before .before .before .before .before) .1)
 
@@ -77,9 +71,6 @@ sub-put c = omega (arith, test (c .before .before .before .before .before) .1)
 
 part-put-start : tie.Need-part-put-start Inv-loop μ-loop
 part-put-start c = omega (arith, test (c .before .before .before .before .before) .1)
-
-part-put-end : tie.Need-part-put-end Inv-loop μ-loop
-part-put-end c = search needs
 
 put-requires : tie.Need-put-requires Inv-loop μ-loop
 put-requires c κs = let h = c .before .before .before .before .before .before in
@@ -145,9 +136,6 @@ silent c = let h = c .before .before .before .before .before in
 loop-again-2 : tie.Need-loop-again-2 Inv-loop μ-loop
 loop-again-2 c = (silent c, far (silent c))
 
-after-requires : tie.Need-after-requires Inv-loop μ-loop
-after-requires c κs = search needs
-
 same-length : tie.Need-same-length Inv-loop μ-loop
 same-length c = c .before .before .loop .inv .1 .long
 
@@ -166,14 +154,14 @@ runs-spec =
     mul-rest
     sub-rest
     part-rest-start
-    part-rest-end
+    (λ c. search needs)
     whole-requires
     front-requires
-    report-of-requires
+    (λ c κs. search needs)
     mul-put
     sub-put
     part-put-start
-    part-put-end
+    (λ c. search needs)
     put-requires
     add-at
     add-used
@@ -183,6 +171,6 @@ runs-spec =
     add-at-2
     loop-less-2
     loop-again-2
-    after-requires
+    (λ c κs. search needs)
     same-length
     returns)
