@@ -6,8 +6,8 @@
  *
  * States. A reader, a box, a lister and the like are values that you own: a function ending in _fresh, or istrolf_puck_made, gives one; each other function
  * takes one by value and gives the next in its answer. Store the next one over the old one and go on. A copy is a state of its own. Members may be read;
- * leave the writing to the functions. Whatever bytes stand in a state, a call is safe: what is no state is refused with ISTROLF_BAD_STATE and handed back
- * as it was.
+ * leave the writing to the functions: what they give keeps the rules of its kind. Whatever bytes stand in a state, a call is safe: one that breaks its rules is
+ * refused with ISTROLF_BAD_STATE and handed back as it was.
  *
  * Refusals. Where an answer has a member refusal, it is the first, and is 0 or one of the numbers below. A refusal hands back the old state, writes nothing
  * to what you lent, and has counts of 0. Only the long calls do all before what they refuse: istrolf_reader_read, istrolf_told_read, istrolf_puck_reader_read
@@ -33,7 +33,7 @@ enum {
     ISTROLF_BAD_BUTTONS = 3,  /* buttons above 7 */
     ISTROLF_BAD_WORD = 4,     /* a line word above 257 */
     ISTROLF_SHORT_BUFFER = 5, /* a buffer shorter than the report */
-    ISTROLF_BAD_STATE = 6,    /* a state that no function here gives */
+    ISTROLF_BAD_STATE = 6,    /* a state that breaks the rules of its kind; no function here gives one */
     ISTROLF_BAD_LISTING = 7,  /* a faulty line of a listing */
     ISTROLF_BAD_X1 = 8,       /* a movement that the format does not hold: the first of x1, y1, x2, y2 */
     ISTROLF_BAD_Y1 = 9,
