@@ -14,6 +14,7 @@ pub mod Goodness
 pub mod Counting
 pub mod Bounds
 pub mod Loop
+pub mod Tells
 pub mod WholeReports
 pub mod Refusals
 pub mod Joining

@@ -1,4 +1,4 @@
--- What is promised of `Reader::fresh`, `Reader::good`, `Reader::step` and `Reader::read`. "Tested in that order, where they apply; 0 is success."
+-- What is promised of `Reader::fresh`, `Reader::good`, `Reader::step`, `Reader::read` and `Reader::answers`. "Tested in that order, where they apply; 0 is success."
 use Prim.Native.Nat.{ℕ}
 use mathlib.Core.Path.{_≡_}
 use mathlib.Core.Bool.{Bool, cond}
@@ -12,10 +12,12 @@ use Rattle.reader.specs.State.{fresh, numbersOf}
 use Rattle.reader.specs.Good.{good}
 use Rattle.reader.specs.Rules.{refusing, wordOf}
 use Rattle.reader.specs.Line.{Long, whole, stopped, withRefusal, lineOf}
+use Rattle.reader.specs.Answers.{Told, told, untold, toldWith, tellingOf}
 use Rattle.reader.specs.declared.Reader.{Reader}
 use Rattle.reader.specs.declared.NewReader.{NewReader}
 use Rattle.reader.specs.declared.Read.{Read}
 use Rattle.reader.specs.declared.Reading.{Reading}
+use Rattle.reader.specs.declared.Answers.{Answers}
 
 -- "a format letter not in the table", 1; "(1 for a new reader: a fresh one of U)"
 abbrev pub newReader : ℕ → Reader → NewReader
@@ -69,3 +71,18 @@ ReadRefusal r words before answer after =
 
 abbrev pub ReadPromise : Reader → List ℕ → List ℤ → Reading → List ℤ → Type 0
 ReadPromise r words before answer after = whole answer after ≡ readOf r words before
+
+-- the answers to a line's words: 6 before all, and then the line
+unfoldable pub answersOf : Reader → List ℕ → List ℤ → Told
+answersOf r words out = cond (good r) (tellingOf r words out) (untold badState r out)
+
+-- 6 leaves all as it was, with counts of 0; 4 leaves what the words before it gave, but for the number
+abbrev pub toldBeforeBad : Reader → List ℕ → List ℤ → Answers → Told
+toldBeforeBad r words out answer = toldWith badWord (answersOf r (take (answer .taken) words) out)
+
+abbrev pub AnswersRefusal : Reader → List ℕ → List ℤ → Answers → List ℤ → Type 0
+AnswersRefusal r words before answer after =
+    RefusesRightly (λ (t : Told). t .answers .refusal) (untold badState r before ∷ toldBeforeBad r words before answer ∷ []) (told answer after)
+
+abbrev pub AnswersPromise : Reader → List ℕ → List ℤ → Answers → List ℤ → Type 0
+AnswersPromise r words before answer after = told answer after ≡ answersOf r words before

@@ -1,13 +1,15 @@
 // The reader: line words in, reports out. Here stand its parts, its words and numbers, and what a user calls.
-ghost use Rattle.reader.specs.Promises.{FreshPromise, StepPromise, ReadPromise};
+ghost use Rattle.reader.specs.Promises.{FreshPromise, StepPromise, ReadPromise, AnswersPromise};
 use crate::rules::refusing;
 use crate::state::no_bytes;
+use crate::telling::so_far;
 use wire::Report;
 
 mod good;
 mod line;
 mod rules;
 mod state;
+mod telling;
 mod whole;
 
 // The words that are no bytes.
@@ -66,6 +68,14 @@ pub struct Reading {
     pub dropped: usize,
 }
 
+// What a telling of answers gives back: the words taken, and the numbers written.
+pub struct Answers {
+    pub refusal: u8,
+    pub next: Reader,
+    pub taken: usize,
+    pub written: usize,
+}
+
 impl Reader {
     // A fresh reader: no bytes, awaiting in U, T, W. A letter that is not in the table is refused with 1 and a fresh one of U.
     pub fn fresh(letter: u8) -> NewReader
@@ -109,5 +119,15 @@ impl Reader {
         let size = wire::size(self.format);
         let marked = wire::marked(self.format);
         self.line(size, marked, words, out)
+    }
+
+    // A line of words, and what each is answered by to a lent slice: 0 for nothing, the number of bytes dropped, or -1 and the five numbers of a report.
+    pub fn answers(self, words: &[u16], out: &mut [i16]) -> Answers
+        ensures { λ r. ⌜ AnswersPromise self (now (words .entry)) (now (out .entry)) r (now (out .exit)) ⌝ }
+    {
+        if !self.good() {
+            return so_far(BAD_STATE, self, 0, 0);
+        }
+        self.told(words, out)
     }
 }
