@@ -10,7 +10,8 @@ use Rattle.frames.specs.Words.{break, silence}
 use Rattle.wire.specs.Reading.{settledBy}
 use Rattle.reader.specs.State.{reader, fresh, ready}
 use Rattle.reader.specs.Line.{Long, whole}
-use Rattle.reader.specs.Promises.{stepOf, readOf}
+use Rattle.reader.specs.Answers.{Told, told}
+use Rattle.reader.specs.Promises.{stepOf, readOf, answersOf}
 use Rattle.reader.specs.declared.Reader.{Reader}
 use Rattle.reader.proofs.Computing.{computing}
 
@@ -44,6 +45,19 @@ before-the-stop = refl
 pub the-rest : readOf (reader 0x53 (0x94 ∷ 5 ∷ 0 ∷ 0 ∷ 0 ∷ []) 2 false) (3 ∷ []) (old 5) ≡ gives 0 (ready 0x53) 1 1 0 (pos 4 ∷ pos 5 ∷ minus 3 ∷ pos 0 ∷ pos 0 ∷ [])
 unfolding computing
 the-rest = refl
+
+-- what a telling gives back: its number, the reader, the words taken and the numbers written, and the slice
+abbrev tellings : ℕ → Reader → ℕ → ℕ → List ℤ → Told
+tellings n next taken written out = told (record { refusal = n; next = next; taken = taken; written = written }) out
+
+-- S, 05 94 05 03 told in ten places: one dropped, nothing, nothing, and the report behind its minus 1; in eight it stops before the last
+pub each-told : answersOf (fresh 0x53) (5 ∷ 0x94 ∷ 5 ∷ 3 ∷ []) (old 10) ≡ tellings 0 (ready 0x53) 4 9 (pos 1 ∷ pos 0 ∷ pos 0 ∷ minus 1 ∷ pos 4 ∷ pos 5 ∷ minus 3 ∷ pos 0 ∷ pos 0 ∷ old 1)
+unfolding computing
+each-told = refl
+
+pub told-to-a-stop : answersOf (fresh 0x53) (5 ∷ 0x94 ∷ 5 ∷ 3 ∷ 300 ∷ []) (old 8) ≡ tellings 0 (reader 0x53 (0x94 ∷ 5 ∷ 0 ∷ 0 ∷ 0 ∷ []) 2 false) 3 3 (pos 1 ∷ pos 0 ∷ pos 0 ∷ old 5)
+unfolding computing
+told-to-a-stop = refl
 
 -- S, 94 05 98 00 00: two dropped, one zero report
 pub two-dropped : readOf (fresh 0x53) (0x94 ∷ 5 ∷ 0x98 ∷ 0 ∷ 0 ∷ []) (old 5) ≡ gives 0 (ready 0x53) 5 1 2 zero

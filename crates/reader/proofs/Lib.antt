@@ -1,8 +1,8 @@
 -- The laws of the reader: one answer (Permitted), what a refusal leaves (Refusals), Room, how far a long read goes (Bounds), word by word (Steps), good readers
 -- stay good (Goodness), Counting, Joining, There and Back, nothing before a silence (Awaiting), Useless, sentences of the paper (Sentences, Nowhere), demand 3's
 -- half of the reader (Damaged) with its worked lines (DamagedRuns), lines as they were sent (Followed) with theirs (FollowedRuns), Examples, wrong answers (Wrong);
--- what enters (Entered) and V's eighth bit (EighthBit); what answers
--- count together (Counted); a whole report at the front of a line (WholeReports); and what their proofs and those of the functions share.
+-- what enters (Entered) and V's eighth bit (EighthBit); what answers count together (Counted); a whole report at the front of a line (WholeReports); the loop of
+-- a telling (Tells); and what their proofs and those of the functions share.
 pub mod Computing
 pub mod Parts
 pub mod Entered

@@ -1,4 +1,4 @@
--- Refusals: 6 before 4, the old reader, no answer, counts of 0 and an unchanged slice; and 4 in a long read.
+-- Refusals: 6 before 4, the old reader, no answer, counts of 0 and an unchanged slice; and 4 in a long read or a telling.
 use Prim.Native.Nat.{ℕ, _<_, _≤_}
 use mathlib.Core.Path.{_≡_, refl, sym, _∙_, ap, subst}
 use mathlib.Core.Bool.{Bool, true, false}
@@ -18,17 +18,20 @@ use Rattle.wire.specs.declared.Format.the-variants.{FiveByte}
 use Rattle.reader.specs.State.{fresh}
 use Rattle.reader.specs.Good.{good}
 use Rattle.reader.specs.Rules.{refusing, wordOf}
+use Rattle.reader.specs.Counts.{writtenIn}
 use Rattle.reader.specs.Line.{Long, whole, stopped, reads, counted, lineOf, withRefusal}
-use Rattle.reader.specs.Promises.{FreshPromise, StepPromise, ReadPromise, FreshRefusal, StepRefusal, ReadRefusal, newReader, freshOf, stepOf, readOf}
+use Rattle.reader.specs.Answers.{Told, tells, told, untold, toldIn, toldWith, tellingOf}
+use Rattle.reader.specs.Promises.{FreshPromise, StepPromise, ReadPromise, AnswersPromise, FreshRefusal, StepRefusal, ReadRefusal, AnswersRefusal, newReader, freshOf, stepOf, readOf, answersOf}
 use Rattle.reader.specs.declared.Reader.{Reader}
 use Rattle.reader.specs.declared.NewReader.{NewReader}
 use Rattle.reader.specs.declared.Read.{Read}
 use Rattle.reader.specs.declared.Reading.{Reading}
+use Rattle.reader.specs.declared.Answers.{Answers}
 use Rattle.reader.specs.declared.Answer.{Answer}
 use Rattle.numbers.proofs.Choices.{cases}
 use Rattle.reader.proofs.Word.{word-number}
 use Rattle.reader.proofs.Permitted.{step-is}
-use Rattle.reader.proofs.Goodness.{step-word, read-line}
+use Rattle.reader.proofs.Goodness.{step-word, read-line, answers-line, writing}
 
 -- "(1 for a new reader: a fresh one of U)"
 pub unknown-letter : (letter : ℕ) (a : NewReader) → known letter ≡ false → FreshPromise letter a → a ≡ newReader badLetter (fresh (letterOf FiveByte))
@@ -43,6 +46,10 @@ bad-state r w s g e = rw (step-is r w s e, g)
 pub bad-state-read : (r : Reader) (words : List ℕ) (out : List ℤ) (a : Reading) (after : List ℤ) → good r ≡ false → ReadPromise r words out a after → whole a after ≡ stopped badState r out
 unfolding readOf
 bad-state-read r words out a after g e = rw (e, g)
+
+pub bad-state-answers : (r : Reader) (words : List ℕ) (out : List ℤ) (a : Answers) (after : List ℤ) → good r ≡ false → AnswersPromise r words out a after → told a after ≡ untold badState r out
+unfolding answersOf
+bad-state-answers r words out a after g e = rw (e, g)
 
 -- 4: a line word above 257, to a good reader
 pub above : (r : Reader) (w : ℕ) → silence < w → wordOf r w ≡ refusing badWord r
@@ -79,6 +86,15 @@ bad-word-read r p q w out a b x y g h f t e =
     let i = f ∙ read-line r p out g in
     e ∙ read-line r (p ++ w ∷ q) out g ∙ line-bad-word q w h p r out (sym (ap (λ (l : Long). l .reading .taken) i) ∙ t) ∙ ap (withRefusal badWord) (sym i)
 
+-- whatever the answers write, it ends with 0, or with 4 before a word above 257
+run-ends : (writes : Answer → List ℤ) (words : List ℕ) (r : Reader) (room : ℕ) → let f = run (writing writes) r words room in
+    (f .refusal ≡ success) ⊎ ((f .refusal ≡ badWord) × (silence < getD words (length (f .answers)) 0))
+run-ends writes words r room =
+    let f = run (writing writes) r words room in
+    ⊎-elim (λ e. inl (e .1))
+    (λ e. ⊎-elim (λ z. inl (e .number ∙ z)) (λ b. inr (e .number ∙ b .0, b .1)) (word-number (f .next) (getD words (length (f .answers)) 0)))
+    (ends (writing writes) words r room)
+
 -- a long read of a good reader ends with 0, or with 4 before a word above 257: the outcome of the words before it, but for the number
 abbrev Ends : Reader → List ℕ → List ℤ → Long → Type 0
 Ends r words out l =
@@ -87,17 +103,29 @@ Ends r words out l =
 
 line-ends : (words : List ℕ) (r : Reader) (out : List ℤ) → Ends r words out (lineOf r words out)
 unfolding lineOf
-line-ends words r out =
-    let f = run reads r words (length out) in
-    ⊎-elim (λ e. inl (e .1))
-    (λ e. ⊎-elim (λ z. inl (e .number ∙ z)) (λ b. inr (rw (up-to reads words r (length out), e .number ∙ b .0), b .1)) (word-number (f .next) (getD words (length (f .answers)) 0)))
-    (ends reads words r (length out))
+line-ends words r out = ⊎-elim inl (λ b. inr (rw (up-to reads words r (length out), b .0), b .1)) (run-ends writtenIn words r (length out))
 
 pub read-ends : (r : Reader) (words : List ℕ) (out : List ℤ) (a : Reading) (after : List ℤ) → good r ≡ true → ReadPromise r words out a after
     → (a .refusal ≡ success) ⊎ ((a .refusal ≡ badWord) × (silence < getD words (a .taken) 0))
 read-ends r words out a after g e =
     ⊎-elim inl (λ b. inr (ap (λ (l : Long). l .reading .refusal) (b .0), b .1))
     (subst (Ends r words out) (sym (e ∙ read-line r words out g)) (line-ends words r out))
+
+-- and so does a telling
+abbrev ToldEnds : Reader → List ℕ → List ℤ → Told → Type 0
+ToldEnds r words out t =
+    (t .answers .refusal ≡ success)
+    ⊎ ((t ≡ toldWith badWord (tellingOf r (take (t .answers .taken) words) out)) × (silence < getD words (t .answers .taken) 0))
+
+telling-ends : (words : List ℕ) (r : Reader) (out : List ℤ) → ToldEnds r words out (tellingOf r words out)
+unfolding tellingOf
+telling-ends words r out = ⊎-elim inl (λ b. inr (rw (up-to tells words r (length out), b .0), b .1)) (run-ends toldIn words r (length out))
+
+pub answers-end : (r : Reader) (words : List ℕ) (out : List ℤ) (a : Answers) (after : List ℤ) → good r ≡ true → AnswersPromise r words out a after
+    → (a .refusal ≡ success) ⊎ ((a .refusal ≡ badWord) × (silence < getD words (a .taken) 0))
+answers-end r words out a after g e =
+    ⊎-elim inl (λ b. inr (ap (λ (t : Told). t .answers .refusal) (b .0), b .1))
+    (subst (ToldEnds r words out) (sym (e ∙ answers-line r words out g)) (telling-ends words r out))
 
 -- every answer is a success, or a refusal with a number from the list and what it leaves
 pub fresh-refusals : (letter : ℕ) (a : NewReader) → FreshPromise letter a → FreshRefusal a
@@ -119,6 +147,16 @@ read-refusals r words out a after e = go (good r) refl
     go true g =
         ⊎-elim accepted (λ b. refusal (List·Memᴰ·tail (List·Memᴰ·head (b .0 ∙ ap (withRefusal badWord) (sym (read-line r (take (a .taken) words) out g))))))
         (subst (Ends r words out) (sym (e ∙ read-line r words out g)) (line-ends words r out))
+    go false g = refusal (List·Memᴰ·head (rw g at e))
+
+pub answers-refusals : (r : Reader) (words : List ℕ) (out : List ℤ) (a : Answers) (after : List ℤ) → AnswersPromise r words out a after → AnswersRefusal r words out a after
+unfolding answersOf
+answers-refusals r words out a after e = go (good r) refl
+  where
+    go : (t : Bool) → good r ≡ t → AnswersRefusal r words out a after
+    go true g =
+        ⊎-elim accepted (λ b. refusal (List·Memᴰ·tail (List·Memᴰ·head (b .0 ∙ ap (toldWith badWord) (sym (answers-line r (take (a .taken) words) out g))))))
+        (subst (ToldEnds r words out) (sym (e ∙ answers-line r words out g)) (telling-ends words r out))
     go false g = refusal (List·Memᴰ·head (rw g at e))
 
 -- "a bad word behind a stop for room is not reached": where words are left, what follows them changes nothing

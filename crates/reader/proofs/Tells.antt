@@ -1,6 +1,6 @@
 -- The telling's loop: an answer at the front of places, where the telling stands, and how it goes on and ends.
 use Prim.Native.Nat.{ℕ, suc, _+_, _-_, _<_, _≤_}
-use mathlib.Core.Path.{_≡_, refl, sym, _∙_, ap}
+use mathlib.Core.Path.{_≡_, refl, sym, _∙_}
 use mathlib.Core.Bool.{Bool, true, false}
 use mathlib.Core.List.{List, _∷_, [], _++_}
 use native.Mathlib.Omega.{arith}
@@ -22,7 +22,7 @@ use Rattle.reader.specs.declared.Answer.{Answer}
 use Rattle.reader.specs.declared.Answer.the-variants as answer
 
 -- an answer is told by a number or more
-pub some-told : (a : Answer) → 0 < length (toldIn a)
+some-told : (a : Answer) → 0 < length (toldIn a)
 some-told answer.Nothing = omega arith
 some-told (answer.Report p) = omega arith
 some-told (answer.Dropped k) = omega arith
@@ -35,14 +35,14 @@ module _ (a : Answer) (out : List ℤ) where
   pub has-none : length out < length (toldIn a) → (0 ≡ placesOf a out) × (out ≡ frontOf a out)
   has-none h = rw (lt-leb (length (toldIn a)) (length out) h) (refl, refl)
 
-  pub had-none : placesOf a out ≡ 0 → length out < length (toldIn a)
+  had-none : placesOf a out ≡ 0 → length out < length (toldIn a)
   had-none = go (hasRoom a out) refl
     where
       go : (b : Bool) → hasRoom a out ≡ b → placesOf a out ≡ 0 → length out < length (toldIn a)
       go true k z = absurd (omega (arith, rw k at z, some-told a))
       go false k z = leb-false (length (toldIn a)) (length out) k
 
-  pub had-room : (placesOf a out ≡ 0 → ⊥) → length (toldIn a) ≤ length out
+  had-room : (placesOf a out ≡ 0 → ⊥) → length (toldIn a) ≤ length out
   had-room = go (hasRoom a out) refl
     where
       go : (b : Bool) → hasRoom a out ≡ b → (placesOf a out ≡ 0 → ⊥) → length (toldIn a) ≤ length out

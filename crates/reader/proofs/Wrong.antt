@@ -10,7 +10,8 @@ use Rattle.frames.specs.Words.{break}
 use Rattle.reader.specs.State.{reader, fresh, ready}
 use Rattle.reader.specs.Rules.{answered}
 use Rattle.reader.specs.Line.{Long}
-use Rattle.reader.specs.Promises.{Step, FreshPromise, GoodPromise, StepPromise, ReadPromise, newReader}
+use Rattle.reader.specs.Answers.{Told}
+use Rattle.reader.specs.Promises.{Step, FreshPromise, GoodPromise, StepPromise, ReadPromise, AnswersPromise, newReader}
 use Rattle.reader.specs.declared.NewReader.{NewReader}
 use Rattle.reader.specs.declared.Answer.the-variants.{Nothing, Dropped}
 use Rattle.reader.proofs.Computing.{computing}
@@ -53,3 +54,12 @@ read-not-written e = omega (arith, ap (λ (l : Long). natAbs (getD (l .out) 0 (p
 pub read-writes-behind : ReadPromise (ready 0x53) (0x98 ∷ 0 ∷ 0 ∷ []) (replicate 6 (pos 9)) (record { refusal = 0; next = ready 0x53; taken = 3; reports = 1; dropped = 0 }) (zeroReport (pos 0)) → ⊥
 unfolding computing
 read-writes-behind e = omega (arith, ap (λ (l : Long). natAbs (getD (l .out) 5 (pos 0))) e)
+
+-- a dropped byte told as nothing; and a report told without its minus 1
+pub answers-drop-nothing : AnswersPromise (fresh 0x55) (0x85 ∷ []) (pos 9 ∷ []) (record { refusal = 0; next = fresh 0x55; taken = 1; written = 1 }) (pos 0 ∷ []) → ⊥
+unfolding computing
+answers-drop-nothing e = omega (arith, ap (λ (t : Told). natAbs (getD (t .out) 0 (pos 0))) e)
+
+pub answers-bare-report : AnswersPromise (ready 0x53) (0x98 ∷ 0 ∷ 0 ∷ []) (replicate 8 (pos 9)) (record { refusal = 0; next = ready 0x53; taken = 3; written = 7 }) (pos 0 ∷ pos 0 ∷ zeroReport (pos 9)) → ⊥
+unfolding computing
+answers-bare-report e = omega (arith, ap (λ (t : Told). natAbs (getD (t .out) 2 (pos 0))) e)

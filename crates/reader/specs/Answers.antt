@@ -35,7 +35,7 @@ told answers out = record { answers = answers; out = out }
 abbrev pub untold : ℕ → Reader → List ℤ → Told
 untold n r out = told (record { refusal = n; next = r; taken = 0; written = 0 }) out
 
--- "4 in a long read, which returns the reader, reports and counts as they stand before the bad word"
+-- with another number: 4 before a bad word, with all else as it stands there
 abbrev pub toldWith : ℕ → Told → Told
 toldWith n t = told (record { refusal = n; next = t .answers .next; taken = t .answers .taken; written = t .answers .written }) (t .out)
 

@@ -1,6 +1,6 @@
--- The reader, heading by heading of the paper: "The reader" (State, Rules, Line, its Parts and Whole reports, and the Answers told), "Numbers given back" (Good, Promises), and what the laws
--- count and run (Counts, Runs), lines with bit 7 of bytes turned over (EighthBit), and what is handed out of lines, as sent or with a stretch replaced
--- (DamagedLines).
+-- The reader, heading by heading of the paper: "The reader" (State, Rules, Line, its Parts and Whole reports, and the Answers told), "Numbers given back" (Good,
+-- Promises), and what the laws count and run (Counts, Runs), lines with bit 7 of bytes turned over (EighthBit), and what is handed out of lines, as sent or with
+-- a stretch replaced (DamagedLines).
 pub mod State
 pub mod Good
 pub mod Rules

@@ -1,4 +1,5 @@
--- What is promised of `Reader::fresh`, `Reader::good`, `Reader::step`, `Reader::read` and `Reader::answers`. "Tested in that order, where they apply; 0 is success."
+-- What is promised of `Reader::fresh`, `Reader::good`, `Reader::step`, `Reader::read` and `Reader::answers`. "Tested in that order, where they apply; 0 is
+-- success."
 use Prim.Native.Nat.{ℕ}
 use mathlib.Core.Path.{_≡_}
 use mathlib.Core.Bool.{Bool, cond}
