@@ -4,7 +4,7 @@ use mathlib.Core.Bool.{Bool, true, false, _&&_}
 use mathlib.Core.List.{List, [], _∷_, _++_}
 use Prim.Native.Nat.{ℕ, zero, suc, _+_, _-_, _*_, _/_, _<_, _≤_}
 use native.Mathlib.Omega.{arith}
-use native.Mathlib.Nat.{add-zero, zero-add}
+use native.Mathlib.Nat.{add-zero, zero-add, zero-mul, suc-mul, mul-one, mul-zero}
 use lib.ListN.{length, getD, take, drop, set, length-drop, take-append-drop, drop-of-length-le}
 use lib.Seq.{sets-eq, drop-cons, getD-drop}
 use lib.IntN.{ℤ, pos}
@@ -18,16 +18,17 @@ use Rattle.fold.proofs.Parts.{rest-is, back, none, one, joins, part-within, par
 use Rattle.frames.specs.Words.{isByte}
 use Rattle.wire.specs.Line.{markedBy}
 use Rattle.wire.specs.declared.Report.{Report}
-use Rattle.reader.specs.State.{fiveOf}
+use Rattle.reader.specs.State.{ready, fiveOf}
 use Rattle.reader.specs.Good.{good}
-use Rattle.reader.specs.Rules.{byteOf, wordOf}
+use Rattle.reader.specs.Rules.{answered, byteOf, dropping, silenceOf, wordOf}
 use Rattle.reader.specs.Counts.{reportsIn, droppedIn, writtenIn, droppedAmong}
 use Rattle.reader.specs.Line.{Long, whole, reads, lineOf}
-use Rattle.reader.specs.Parts.{Stands, Begins, firstOf, BytesFirst, AwaitsBehind}
+use Rattle.reader.specs.Parts.{Stands, Begins, firstOf, Alike, AwaitsBehind}
 use Rattle.reader.specs.declared.Reader.{Reader}
 use Rattle.reader.specs.declared.Read.{Read}
 use Rattle.reader.specs.declared.Reading.{Reading}
-use Rattle.reader.specs.declared.Answer.the-variants.{Dropped}
+use Rattle.reader.specs.declared.Answer.{Answer}
+use Rattle.reader.specs.declared.Answer.the-variants.{Nothing, Dropped}
 use Rattle.reader.proofs.Word.{word-format, lost-awaits}
 use Rattle.reader.proofs.Keeps.{word-good}
 use Rattle.reader.proofs.Counted.{empty, five-in, five-each, reports-first, reports-both, dropped-both}
@@ -167,35 +168,50 @@ module _ (r : Reader) (words : List ℕ) (out : List ℤ) {s : Read} (sound : go
       go true k = rw k at e ∙ ends-all (goes k .stands) (omega arith)
       go false k = rw k at e ∙ ends (starts r words out) (s .refusal) (stays k .stops refl)
 
--- bytes at the front of a line: one more, and what becomes of them while a silence is awaited
-pub byte-more : {n : ℕ} {words : List ℕ} → BytesFirst n words → n < length words → getD words n 0 ≤ 255 → BytesFirst (n + 1) words
-byte-more {n} {words} b h small = record { within = omega arith; are-bytes = λ i k. go i k (eqb i n) refl }
+-- words at the front of a line that lie between two: none yet, and one more
+pub none-alike : {low high : ℕ} {words : List ℕ} → Alike low high 0 words
+none-alike = record { within = omega arith; between = λ i h. absurd (omega arith) }
+
+pub alike-more : {low high n : ℕ} {words : List ℕ} → Alike low high n words → n < length words → low ≤ getD words n 0 → getD words n 0 ≤ high → Alike low high (n + 1) words
+alike-more {low} {high} {n} {words} b h l k = record { within = omega arith; between = λ i j. go i j (eqb i n) refl }
   where
-    go : (i : ℕ) → i < n + 1 → (e : Bool) → eqb i n ≡ e → isByte (getD words i 0) ≡ true
-    go i k true e = rw (eqb-true i n e) (le-leb (getD words n 0) 255 small)
-    go i k false e = b .are-bytes i (omega (arith, eqb-false i n e))
+    go : (i : ℕ) → i < n + 1 → (e : Bool) → eqb i n ≡ e → (low ≤ getD words i 0) × (getD words i 0 ≤ high)
+    go i j true e = rw (eqb-true i n e) (l, k)
+    go i j false e = b .between i (omega (arith, eqb-false i n e))
 
-lost : (r : Reader) (w : ℕ) → r .awaiting ≡ true → isByte w ≡ true → (words : List ℕ) (room : ℕ) → run reads r (w ∷ words) room ≡ behind (Dropped 1 ∷ []) (run reads r words room)
-unfolding run wordOf byteOf
-lost r w a i words room = let z : room - 0 ≡ room = omega arith in rw (i, a, le-leb 0 room (omega arith), z)
+-- what becomes of them where each leaves the reader as it is, with the same answer, and that writes nothing
+module _ (r : Reader) (a : Answer) {low high : ℕ} (same : (w : ℕ) → low ≤ w → w ≤ high → wordOf r w ≡ answered r a) (quiet : writtenIn a ≡ []) where
+  passing : (w : ℕ) → low ≤ w → w ≤ high → (words : List ℕ) (room : ℕ) → run reads r (w ∷ words) room ≡ behind (a ∷ []) (run reads r words room)
+  unfolding run
+  passing w l h words room = let z : room - 0 ≡ room = omega arith in rw (same w l h, quiet, le-leb 0 room (omega arith), z)
 
-pub lost-stands : (r : Reader) → r .awaiting ≡ true → (n : ℕ) (words : List ℕ) (out : List ℤ) → BytesFirst n words → Stands r words out r n 0 0 n out
-unfolding droppedAmong
-lost-stands r a zero words out b = starts r words out
-lost-stands r a (suc n) [] out b = absurd (omega (arith, b .within))
-lost-stands r a (suc n) (w ∷ words) out b =
-    let rest = lost-stands r a n words out (record { within = omega (arith, b .within); are-bytes = λ i h. b .are-bytes (suc i) (omega arith) }) in
-    record {
-      answers = Dropped 1 ∷ rest .answers;
-      part = record {
-        words-are = omega (arith, rest .part .words-are);
-        places-are = rest .part .places-are;
-        wrote = rest .part .wrote;
-        is = lost r w a (b .are-bytes 0 (omega arith)) words (length out) ∙ ap (behind (Dropped 1 ∷ [])) (rest .part .is);
-      };
-      reports-are = rest .reports-are;
-      dropped-are = omega (arith, rest .dropped-are);
-    }
+  alike-stands : (n : ℕ) (words : List ℕ) (out : List ℤ) → Alike low high n words → Stands r words out r n 0 0 (n * droppedIn a) out
+  unfolding droppedAmong
+  alike-stands zero words out b = rw (zero-mul (droppedIn a)) (starts r words out)
+  alike-stands (suc n) [] out b = absurd (omega (arith, b .within))
+  alike-stands (suc n) (w ∷ words) out b =
+      let rest = alike-stands n words out (record { within = omega (arith, b .within); between = λ i h. b .between (suc i) (omega arith) }) in
+      let w-is = b .between 0 (omega arith) in
+      record {
+        answers = a ∷ rest .answers;
+        part = record {
+          words-are = omega (arith, rest .part .words-are);
+          places-are = rw quiet (rest .part .places-are);
+          wrote = rw quiet (rest .part .wrote);
+          is = passing w (w-is .0) (w-is .1) words (length out) ∙ ap (behind (a ∷ [])) (rest .part .is);
+        };
+        reports-are = omega (arith, rest .reports-are, reports-first a (rest .answers), five-in a, ap length quiet);
+        dropped-are = rw (suc-mul n (droppedIn a)) (omega (arith, rest .dropped-are));
+      }
+
+-- bytes while a silence is awaited, and silences to a reader that is ready
+pub lost-stands : (r : Reader) → r .awaiting ≡ true → (n : ℕ) (words : List ℕ) (out : List ℤ) → Alike 0 255 n words → Stands r words out r n 0 0 n out
+unfolding wordOf byteOf
+lost-stands r a n words out b = rw (mul-one n) at (alike-stands r (Dropped 1) (λ w _ h. rw (le-leb w 255 h, a)) refl n words out b)
+
+pub silences-stand : (letter n : ℕ) (words : List ℕ) (out : List ℤ) → Alike 257 257 n words → Stands (ready letter) words out (ready letter) n 0 0 0 out
+unfolding wordOf silenceOf dropping
+silences-stand letter n words out b = rw (mul-zero n) at (alike-stands (ready letter) Nothing (λ w l h. let k : w ≡ 257 = omega arith in rw k) refl n words out b)
 
 -- words one by one, while nothing is written
 module _ {words : List ℕ} {out₀ out : List ℤ} {r₀ r : Reader} {at dropped : ℕ} (s : Stands r₀ words out₀ r at 0 0 dropped out) (sound : good r ≡ true) (format : r .format ≡ r₀ .format) where
@@ -222,7 +238,7 @@ module _ {words : List ℕ} {out₀ out : List ℤ} {r₀ r : Reader} {at droppe
 
     -- bytes behind one that an unmarked format dropped
     pub skipped : t .reports ≡ 0 → AwaitsBehind r (take (length words - at) (drop at words)) t → markedBy (r .format) ≡ false → (t .dropped ≡ 0 → ⊥) → getD words at 0 ≤ 255
-        → {n : ℕ} → BytesFirst n (take (length words - (at + t .taken)) (drop (at + t .taken) words)) → Stands r₀ words out₀ (t .next) (at + t .taken + n) 0 0 (dropped + t .dropped + n) last
+        → {n : ℕ} → Alike 0 255 n (take (length words - (at + t .taken)) (drop (at + t .taken) words)) → Stands r₀ words out₀ (t .next) (at + t .taken + n) 0 0 (dropped + t .dropped + n) last
     skipped none waits m some small b =
         let first : getD (take (length words - at) (drop at words)) 0 0 ≡ getD words at 0 = rw (rest-is words at, getD-drop at words 0 0, add-zero at) in
         over (rw none at took) (lost-stands (t .next) (waits m (rw first (le-leb (getD words at 0) 255 small)) some) _ _ _ b)
@@ -234,3 +250,13 @@ pub and-run : {r : Reader} {words : List ℕ} {out mid : List ℤ} {t : Reading}
 and-run {t = t} b ne {taken} {used} q =
     let five : 5 * (t .reports + used / 5) ≡ 5 * t .reports + used = omega (arith, far q .places) in
     record { stands = rw five (rw (add-zero (t .dropped)) at (on (b .stands) q)); stops = λ e. absurd (ne (omega arith)); sound = b .sound; same-format = b .same-format }
+
+-- silences, and a run behind them
+module _ {words : List ℕ} {out₀ out : List ℤ} {r₀ r : Reader} {at used reports dropped : ℕ} (s : Stands r₀ words out₀ r at used reports dropped out) (calm : r ≡ ready (r .format)) {n : ℕ} (quiet : Alike 257 257 n (take (length words - at) (drop at words))) where
+  pub silent : Stands r₀ words out₀ r (at + n) used reports dropped out
+  silent = rw (add-zero dropped) at (over s {u = r} {taken = n} {d = 0} (rw calm (silences-stand (r .format) n _ _ quiet)))
+
+  pub silent-run : {taken places : ℕ} {last : List ℤ}
+      → Stands (ready (r .format)) (take (length words - (at + n)) (drop (at + n) words)) (take (length out - used) (drop used out)) (ready (r .format)) taken places (places / 5) 0 last
+      → Stands r₀ words out₀ r (at + n + taken) (used + places) (reports + places / 5) dropped (putMid used (length out - used) out last)
+  silent-run q = rw (add-zero dropped) at (on silent (rw (← calm) at q))

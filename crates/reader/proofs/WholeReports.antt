@@ -1,15 +1,15 @@
--- A whole report at the front of a line, and a silence, to a reader that is ready: parts of the line, by the rules.
+-- A whole report at the front of a line, to a reader that is ready: a part of the line, by the rules.
 use Prim.Native.Nat.{ℕ, _+_, _-_, _%_, _<_, _≤_}
 use mathlib.Core.Path.{_≡_, refl, sym, _∙_, ap}
-use mathlib.Core.Bool.{Bool, true, false, _&&_}
+use mathlib.Core.Bool.{Bool, true, false, not, _&&_}
 use mathlib.Core.Logic.{_⊎_, inl, inr}
 use mathlib.Core.List.{List, [], _∷_, _++_}
 use native.Mathlib.Nat.{mod-eq-of-lt}
 use native.Mathlib.Omega.{arith}
 use lib.ListN.{length, getD, drop, replicate}
 use lib.IntN.{ℤ}
-use lib.Dec.{leb}
-use borrow.Author.Tests.{leb-true, le-leb}
+use lib.Dec.{eqb}
+use borrow.Author.Tests.{eqb-true, not-true, leb-true, le-leb}
 use Rattle.numbers.proofs.Tested.{left, right, each-at}
 use Rattle.fold.specs.Fold.{behind, run}
 use Rattle.frames.specs.Words.{isByte}
@@ -21,7 +21,7 @@ use Rattle.wire.specs.declared.Named.{Named}
 use Rattle.wire.specs.declared.Named.the-variants.{Known, Unknown}
 use Rattle.reader.specs.State.{reader, ready, fiveOf}
 use Rattle.reader.specs.Good.{good}
-use Rattle.reader.specs.Rules.{finishes, more, keep, byteOf, silenceOf, dropping, wordOf}
+use Rattle.reader.specs.Rules.{finishes, more, keep, byteOf, wordOf}
 use Rattle.reader.specs.Counts.{droppedAmong}
 use Rattle.reader.specs.Line.{reads}
 use Rattle.reader.specs.Parts.{Stands}
@@ -53,13 +53,11 @@ pub or-five : {size : ℕ} → (size ≡ 3) ⊎ (size ≡ 5) → (size ≡ 3 →
 or-five (inl e) ne = absurd (ne e)
 or-five (inr e) ne = e
 
--- two orders that are tested together
-pub both : (a b c d : ℕ) → leb a b && leb c d ≡ true → (a ≤ b) × (c ≤ d)
-both a b c d e = (leb-true a b (left (leb a b) (leb c d) e), leb-true c d (right (leb a b) (leb c d) e))
-
 -- a good reader with no bytes that awaits nothing is ready
-pub is-ready : (r : Reader) → good r ≡ true → r .count ≡ 0 → r .awaiting ≡ false → r ≡ ready (r .format)
-is-ready r g none calm = go (replicate 5 0) 0 false (zeros r g none) none calm
+pub is-ready : (r : Reader) → good r ≡ true → eqb (r .count) 0 && not (r .awaiting) ≡ true → r ≡ ready (r .format)
+is-ready r g calm =
+    let none = eqb-true (r .count) 0 (left (eqb (r .count) 0) (not (r .awaiting)) calm) in
+    go (replicate 5 0) 0 false (zeros r g none) none (not-true (r .awaiting) (right (eqb (r .count) 0) (not (r .awaiting)) calm))
   where
     go : (k : List ℕ) (n : ℕ) (b : Bool) → r .kept ≡ k → r .count ≡ n → r .awaiting ≡ b → r ≡ reader (r .format) k n b
     go k n b e f g = rw (← e, ← f, ← g)
@@ -150,9 +148,3 @@ module _ (letter : ℕ) (out : List ℤ) (room : 5 ≤ length out) where
   pub whole-stands : (size : ℕ) (words : List ℕ) → size ≡ sizeBy letter → (size ≡ 3) ⊎ (size ≡ 5) → size ≤ length words → wholeBy letter size words ≡ true → Reports size words
   whole-stands size words s (inl e) l w = rw e (three words (sym s ∙ e) (omega arith) (rw e at w))
   whole-stands size words s (inr e) l w = rw e (five words (sym s ∙ e) (omega arith) (rw e at w))
-
--- a silence
-pub silence-stands : (letter : ℕ) (words : List ℕ) (out : List ℤ) → 0 < length words → getD words 0 0 ≡ 257 → Stands (ready letter) words out (ready letter) 1 0 0 0 out
-unfolding run wordOf silenceOf dropping droppedAmong
-silence-stands letter [] out l e = absurd (omega arith)
-silence-stands letter (w ∷ words) out l e = record { answers = Nothing ∷ []; part = record { words-are = refl; places-are = refl; wrote = refl; is = rw (e, le-leb 0 (length out) (omega arith)) }; reports-are = refl; dropped-are = refl }

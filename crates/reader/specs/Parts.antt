@@ -45,10 +45,10 @@ firstOf r s out =
     (whole (record { refusal = 0; next = s .next; taken = 1; reports = reportsIn (s .answer); dropped = droppedIn (s .answer) }) (writtenIn (s .answer) ++ drop (length (writtenIn (s .answer))) out))
     (stopped (s .refusal) r out)
 
--- the first of the words are bytes
-pub record BytesFirst (n : ℕ) (words : List ℕ) : Type 0 where
+-- the first of the words lie between two: 0 and 255, bytes; 257 and 257, silences
+pub record Alike (low high n : ℕ) (words : List ℕ) : Type 0 where
   pub within : n ≤ length words
-  pub are-bytes : (i : ℕ) → i < n → isByte (getD words i 0) ≡ true
+  pub between : (i : ℕ) → i < n → (low ≤ getD words i 0) × (getD words i 0 ≤ high)
 
 -- "U, T, W then await silence": behind a byte that was dropped
 abbrev pub AwaitsBehind : Reader → List ℕ → Reading → Type 0

@@ -4,10 +4,10 @@ ghost use mathlib.Core.Bool.{true};
 ghost use Prim.Native.Nat.{_/_, _<_, _≤_};
 ghost use mathlib.Core.List.{_++_};
 ghost use lib.ListN.{length, drop};
-ghost use Rattle.reader.specs.State.{fiveOf};
+ghost use Rattle.reader.specs.State.{ready, fiveOf};
 ghost use Rattle.reader.specs.Line.{whole, lineOf};
 ghost use Rattle.reader.specs.Good.{good};
-ghost use Rattle.reader.specs.Parts.{Stands, Begins, Sized, firstOf, BytesFirst, AwaitsBehind};
+ghost use Rattle.reader.specs.Parts.{Stands, Begins, Sized, firstOf, Alike, AwaitsBehind};
 use crate::Answer;
 use crate::Read;
 use crate::Reader;
@@ -50,13 +50,13 @@ fn reading(refusal: u8, next: Reader, taken: usize, reports: usize, dropped: usi
     }
 }
 
-// How many of the words at the front are bytes.
-fn bytes(words: &[u16]) -> usize
-    ensures { λ n. ⌜ BytesFirst n (now (words .entry)) ⌝ }
+// How many of the words at the front lie between two.
+fn alike(low: u16, high: u16, words: &[u16]) -> usize
+    ensures { λ n. ⌜ Alike low high n (now (words .entry)) ⌝ }
 {
     let mut n: usize = 0;
     while n < words.len() {
-        if words[n] > 255 {
+        if (words[n] < low) | (words[n] > high) {
             break;
         }
         n = n + 1;
@@ -111,6 +111,18 @@ impl Reader {
         passed(self.format, words, out)
     }
 
+    // How many of the words at the front are silences, where the reader is ready; or none.
+    fn silences(self, words: &[u16]) -> usize
+        requires { ⌜ good self ≡ true ⌝ }
+        ensures { λ n. ⌜ Alike 257 257 n (now (words .entry)) × (0 < n → self ≡ ready (self .format)) ⌝ }
+    {
+        let ready = (self.count == 0) & !self.awaiting;
+        if !ready {
+            return 0;
+        }
+        alike(SILENCE, SILENCE, words)
+    }
+
     // Words one by one, up to a report or a silence, behind which whole reports may stand. Where U, T or W lost a byte they await a silence, and each byte
     // behind it is dropped alone.
     fn slowly(
@@ -141,7 +153,7 @@ impl Reader {
                 return reading(SUCCESS, r, at, t.reports, dropped);
             }
             if !marked & (t.dropped != 0) & (word <= 255) {
-                let n = bytes(&words[at..]);
+                let n = alike(0, 255, &words[at..]);
                 at = at + n;
                 dropped = dropped + n;
             }
@@ -199,8 +211,8 @@ impl Reader {
         self.counted(s, out)
     }
 
-    // The words of a line: whole reports at its front, and then part after part. What is left of it, from the next word on, is handed over with the reader
-    // that came back and the places that are left.
+    // The words of a line: whole reports at its front, and then part after part, or silences and the whole reports behind them. What is left of it, from the
+    // next word on, is handed over with the reader that came back and the places that are left.
     pub(crate) fn line(self, size: usize, marked: bool, words: &[u16], out: &mut [i16]) -> Reading
         requires { ⌜ Sized size marked self ⌝ }
         ensures { λ r. ⌜ whole r (now (out .exit)) ≡ lineOf self (now (words .entry)) (now (out .entry)) ⌝ }
@@ -215,6 +227,15 @@ impl Reader {
         let mut reports = q.used / 5;
         let mut dropped: usize = 0;
         while at < words.len() {
+            let n = r.silences(&words[at..]);
+            if n > 0 {
+                at = at + n;
+                let q = passed(r.format, &words[at..], &mut out[used..]);
+                at = at + q.taken;
+                used = used + q.used;
+                reports = reports + q.used / 5;
+                continue;
+            }
             let t = r.part(size, marked, &words[at..], &mut out[used..]);
             if t.taken == 0 {
                 return reading(t.refusal, r, at, reports, dropped);

@@ -77,14 +77,17 @@ fn front(letter: u8, size: usize, words: &[u16]) -> [u8; 5]
     ]
 }
 
-// The whole reports at the front, up to a word that begins none and is no silence, or up to the last that has room.
+// The whole reports at the front, up to a word that begins none and is no silence, up to two silences, or up to the last that has room.
 fn runs(letter: u8, size: usize, words: &[u16], out: &mut [i16]) -> Run
     requires { ⌜ (size ≡ sizeBy letter) × ((size ≡ 3) ⊎ (size ≡ 5)) ⌝ }
     ensures { λ r. ⌜ Stands (ready letter) (now (words .entry)) (now (out .entry)) (ready letter) (r .taken) (r .used) (r .used / 5) 0 (now (out .exit)) ⌝ }
 {
     let mut at: usize = 0;
     let mut used: usize = 0;
-    while (at + size <= words.len()) & (used + 5 <= out.len()) {
+    while at + size <= words.len() {
+        if used + 5 > out.len() {
+            break;
+        }
         let rest = &words[at..];
         if whole(letter, size, rest) {
             let report = wire::report_of(letter, front(letter, size, rest));
@@ -92,7 +95,7 @@ fn runs(letter: u8, size: usize, words: &[u16], out: &mut [i16]) -> Run
             at = at + size;
             used = used + 5;
         } else {
-            if rest[0] != SILENCE {
+            if (rest[0] != SILENCE) | (rest[1] == SILENCE) {
                 break;
             }
             at = at + 1;

@@ -6,10 +6,9 @@ use native.Mathlib.Omega.{arith}
 use lib.ListN.{length}
 use lib.Dec.{eqb}
 use borrow.Author.Needs.{needs}
-use borrow.Author.Tests.{eqb-true, eqb-false, not-true, not-false}
+use borrow.Author.Tests.{eqb-false, not-false}
 use borrow.Rule.Slice.PartMut.{putMid}
 use Rattle.numbers.proofs.Choices.{neither}
-use Rattle.numbers.proofs.Tested.{left, right}
 use Rattle.reader.specs.State.{ready}
 use Rattle.reader.specs.Parts.{Begins}
 use Rattle.reader.proofs.Loop.{Far, far, and-run}
@@ -51,10 +50,8 @@ part-passed-start-2 c = let s = c .before .before .before .before .before .befor
 test : (c : tie.Else1) → let t = c .before .before .before .before .before .by-letter .result in (t .taken ≡ 0 → ⊥) × (t .next ≡ ready (t .next .format))
 test c = let b = c .before .before .before .before .before .by-letter in
     let u = b .result .next in
-    let none = eqb (u .count) 0 in
-    let two = neither (eqb (b .result .taken) 0) (not (none && not (u .awaiting))) (c .if1 .left) in
-    let calm = not-false _ (two .1) in
-    (eqb-false (b .result .taken) 0 (two .0), is-ready u (b .ensures .sound) (eqb-true (u .count) 0 (left none (not (u .awaiting)) calm)) (not-true (u .awaiting) (right none (not (u .awaiting)) calm)))
+    let two = neither (eqb (b .result .taken) 0) (not (eqb (u .count) 0 && not (u .awaiting))) (c .if1 .left) in
+    (eqb-false (b .result .taken) 0 (two .0), is-ready u (b .ensures .sound) (not-false _ (two .1)))
 
 -- and with the run behind them
 all : (c : tie.After-passed) → let l = c .before .before .before .before .before .before .before .before .before .by-letter in

@@ -4,7 +4,7 @@ use mathlib.Core.Path.{_≡_}
 use mathlib.Core.Bool.{not, _&&_}
 use lib.ListN.{length}
 use lib.Dec.{eqb, leb}
-use borrow.Author.Tests.{eqb-true, leb-true, not-true, not-false}
+use borrow.Author.Tests.{leb-true, not-false}
 use borrow.Author.Needs.{needs}
 use Rattle.numbers.proofs.Tested.{left, right}
 use Rattle.reader.specs.State.{ready}
@@ -21,13 +21,10 @@ test : (c : tie.Else1) → let s = c .before .before .before .before in
     (s .args .self ≡ ready (s .args .self .format)) × (s .args .size ≤ length (s .args .words .now))
 test c = let s = c .before .before .before .before in
     let r = s .args .self in
-    let none = eqb (r .count) 0 in
+    let calm = eqb (r .count) 0 && not (r .awaiting) in
     let fits = leb (s .args .size) (length (s .args .words .now)) in
     let all = not-false _ (c .if1 .left) in
-    let calm = left (none && not (r .awaiting)) fits all in (
-      is-ready r (s .pre .sound) (eqb-true (r .count) 0 (left none (not (r .awaiting)) calm)) (not-true (r .awaiting) (right none (not (r .awaiting)) calm)),
-      leb-true _ _ (right (none && not (r .awaiting)) fits all),
-    )
+    (is-ready r (s .pre .sound) (left calm fits all), leb-true _ _ (right calm fits all))
 
 whole-requires : tie.Need-whole-requires
 whole-requires c κs = let s = c .before .before .before .before in

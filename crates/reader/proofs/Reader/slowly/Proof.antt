@@ -88,21 +88,21 @@ returns-2 c = let n = c .before .before .before .before .before in
 none : (c : tie.Else2 Inv-loop μ-loop) → c .before .before .before .before .before .before .before .before .first .result .reports ≡ 0
 none c = let t = c .before .before .before .before .before .before .before .before .first .result in eqb-true (t .reports) 0 (not-false _ (neither (not (eqb (t .reports) 0)) _ (c .if2 .left) .0))
 
-mul-bytes : tie.Need-mul-bytes Inv-loop μ-loop
-mul-bytes c = omega (arith, far (turn (c .before .before .before .before .before .before)) .within, c .before .before .before .before .before .before .before .before .before .before .before .before .before .before .before .before .before .good .1 .1 .1 .1 .0 .1)
+mul-alike : tie.Need-mul-alike Inv-loop μ-loop
+mul-alike c = omega (arith, far (turn (c .before .before .before .before .before .before)) .within, c .before .before .before .before .before .before .before .before .before .before .before .before .before .before .before .before .before .good .1 .1 .1 .1 .0 .1)
 
-sub-bytes : tie.Need-sub-bytes Inv-loop μ-loop
-sub-bytes c = omega (arith, far (turn (c .before .before .before .before .before .before)) .within, c .before .before .before .before .before .before .before .before .before .before .before .before .before .before .before .before .before .good .1 .1 .1 .1 .0 .1)
+sub-alike : tie.Need-sub-alike Inv-loop μ-loop
+sub-alike c = omega (arith, far (turn (c .before .before .before .before .before .before)) .within, c .before .before .before .before .before .before .before .before .before .before .before .before .before .before .before .before .before .good .1 .1 .1 .1 .0 .1)
 
-part-bytes-start : tie.Need-part-bytes-start Inv-loop μ-loop
-part-bytes-start c = omega (arith, far (turn (c .before .before .before .before .before .before)) .within)
+part-alike-start : tie.Need-part-alike-start Inv-loop μ-loop
+part-alike-start c = omega (arith, far (turn (c .before .before .before .before .before .before)) .within)
 
 -- and when bytes behind it were dropped, each alone
-lost : (c : tie.After-bytes Inv-loop μ-loop) → let f = c .before .before .before .before .before .before .before .before .before .before .before .before in
+lost : (c : tie.After-alike Inv-loop μ-loop) → let f = c .before .before .before .before .before .before .before .before .before .before .before .before in
     let l = c .before .before .before .before .before .before .before .before .before .before .before .before .before .before .before .before .before .loop in
     let a = c .before .before .before .before .before .before .before .before .before .before .before .before .before .before .before .before .before .before .before .args in
     let t = f .first .result in
-    Stands (a .self) (a .words .now) (a .out .now) (t .next) (l .at + t .taken + c .bytes .result) 0 0 (l .dropped + t .dropped + c .bytes .result) (f .first .last .1 .1 .1 .1 .1 .0)
+    Stands (a .self) (a .words .now) (a .out .now) (t .next) (l .at + t .taken + c .alike .result) 0 0 (l .dropped + t .dropped + c .alike .result) (f .first .last .1 .1 .1 .1 .1 .0)
 lost c = let f = c .before .before .before .before .before .before .before .before .before .before .before .before .first in
     let l = c .before .before .before .before .before .before .before .before .before .before .before .before .before .before .before .before .before .loop in
     let i = l .inv in
@@ -112,7 +112,7 @@ lost c = let f = c .before .before .before .before .before .before .before .befo
     let both = left (not (s .args .marked) && not some) byte (c .before .before .if3 .taken) in
     skipped (i .0) (i .1 .sound) (i .2) (f .ensures .0) (none (c .before .before .before .before)) (f .ensures .1) (sym (i .1 .mark) ∙ not-true _ (left (not (s .args .marked)) (not some) both))
     (λ e. holds (sym (not-true _ (right (not (s .args .marked)) (not some) both)) ∙ eq-eqb _ _ e))
-    (leb-true _ 255 (right (not (s .args .marked) && not some) byte (c .before .before .if3 .taken))) (c .bytes .ensures)
+    (leb-true _ 255 (right (not (s .args .marked) && not some) byte (c .before .before .if3 .taken))) (c .alike .ensures)
 
 add-at-2 : tie.Need-add-at-2 Inv-loop μ-loop
 add-at-2 c = omega (arith, far (lost c) .within, c .before .before .before .before .before .before .before .before .before .before .before .before .before .before .before .before .before .before .before .good .1 .1 .1 .1 .0 .1)
@@ -163,9 +163,9 @@ slowly-spec =
     (λ c κs. search needs)
     same-length-2
     returns-2
-    mul-bytes
-    sub-bytes
-    part-bytes-start
+    mul-alike
+    sub-alike
+    part-alike-start
     (λ c. search needs)
     (λ c κs. search needs)
     add-at-2
