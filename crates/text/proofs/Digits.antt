@@ -149,6 +149,10 @@ pub places-few : (width n p : ℕ) → width ≤ suc p → n < 10 ^ suc p → pl
 unfolding placesOf
 places-few width n p h k = cases (λ (q : ℕ). q ≤ suc p) (ltb (sizeOf n) width) (λ _. h) (λ _. size-few n p n k)
 
+pub unsigned-one : (width n : ℕ) → n < 10 → width < 2 → unsignedOf width n ≡ digitOf n ∷ []
+unfolding placesOf digitsOf
+unsigned-one width n h k = rw (size-one n h, le-ltb 1 width (omega arith))
+
 pub places-six : (n : ℕ) → n < 10 ^ 6 → placesOf 6 n ≡ 6
 unfolding placesOf
 places-six n h = cases (λ (q : ℕ). q ≡ 6) (ltb (sizeOf n) 6) (λ _. refl) (λ e. omega (arith, size-few n 5 n h, ltb-false (sizeOf n) 6 e))

@@ -2,7 +2,7 @@
 ghost use mathlib.Core.Path.{_≡_};
 ghost use lib.IntN.{natAbs};
 ghost use Rattle.text.specs.Growth.{slice, filledBy};
-ghost use Rattle.text.specs.Decimals.{digitOf, digitsOf, sizeOf, placesOf, isDigit, plusIn, minus, hasMinus};
+ghost use Rattle.text.specs.Decimals.{digitOf, digitsOf, sizeOf, placesOf, unsignedOf, isDigit, plusIn, minus, hasMinus};
 ghost use Rattle.text.specs.Promises.{DecimalToPromise, DecimalPromise, NumberPromise};
 use crate::Number;
 use crate::Text;
@@ -144,23 +144,33 @@ fn digits(out: &mut [u8], at: usize, places: usize, n: u64) -> usize
     at + room
 }
 
+// The digits of a number without a sign, of so many at least, to a slice at a place, and the place behind them. One digit, and the six digits of a line
+// number, are not counted, and have code of their own.
+fn unsigned_to(out: &mut [u8], at: usize, width: usize, n: u64) -> usize
+    ensures { λ r. ⌜ slice (now (out .exit)) r ≡ filledBy (slice (now (out .entry)) at) (unsignedOf width n) ⌝ }
+{
+    if (n < 10) & (width < 2) {
+        return Text::byte_to(out, at, digit(n));
+    }
+    if width == 6 {
+        if n < 1_000_000 {
+            return digits(out, at, 6, n);
+        }
+    }
+    digits(out, at, places(width, n), n)
+}
+
 impl Text {
-    // The decimal of a number, of so many digits at least, to a slice at a place, and the place behind it. The six digits of a line number are not counted,
-    // and have code of their own.
+    // The decimal of a number, of so many digits at least, to a slice at a place, and the place behind it.
     pub fn decimal_to(out: &mut [u8], at: usize, width: usize, x: i64) -> usize
         ensures { λ r. ⌜ DecimalToPromise (now (out .entry)) at width x r (now (out .exit)) ⌝ }
     {
         let n = magnitude(x);
         if x < 0 {
             let behind = Text::byte_to(out, at, b'-');
-            return digits(out, behind, places(width, n), n);
+            return unsigned_to(out, behind, width, n);
         }
-        if width == 6 {
-            if n < 1_000_000 {
-                return digits(out, at, 6, n);
-            }
-        }
-        digits(out, at, places(width, n), n)
+        unsigned_to(out, at, width, n)
     }
 
     // The decimal of a number, of so many digits at least.
