@@ -18,7 +18,9 @@ pub mod Pieces
 pub mod Quiet
 pub mod Refusals
 pub mod Scanned
+pub mod Several
 pub mod Small
+pub mod Telling
 pub mod Viewed
 pub mod Whole
 pub mod Widths

@@ -1,6 +1,6 @@
 -- What is found in a recording, to items of the listing.
 use Prim.Native.Nat.{ℕ}
-use mathlib.Core.Bool.{Bool, true, false, cond}
+use mathlib.Core.Bool.{cond}
 use mathlib.Core.List.{List, [], _∷_, _++_}
 use lib.Dec.{eqb}
 use lib.IntN.{_+ℤ_}
@@ -62,22 +62,6 @@ gaveOf r found.End = gave r (One (item.H (r .count)))
 abbrev pub itemsIn : Given → List Item
 itemsIn Nothing = []
 itemsIn (One i) = i ∷ []
-
--- whether anything is given, and whether that is a report
-abbrev pub isSome : Given → Bool
-isSome Nothing = false
-isSome (One i) = true
-
-abbrev pub isReport : Item → Bool
-isReport (item.D n k) = false
-isReport (item.R n buttons x y) = true
-isReport (item.H k) = false
-isReport (item.E n) = false
-isReport item.Over = false
-
-abbrev pub isReported : Given → Bool
-isReported Nothing = false
-isReported (One i) = isReport i
 
 -- one after the other
 unfoldable pub itemsFrom : Reader → List Found → List Item

@@ -6,6 +6,7 @@ pub mod Items
 pub mod Printing
 pub mod Listing
 pub mod Feeding
+pub mod Batches
 pub mod Promises
 pub mod Calls
 pub mod Examples

@@ -12,10 +12,9 @@ use crate::Scan;
 use crate::Scanner;
 use crate::Turn;
 use crate::WIDTH;
+use crate::batches;
 use crate::items;
-use crate::lines;
 use crate::printing;
-use crate::scanning::most_lines;
 use reader::Reader;
 use text::Text;
 
@@ -45,7 +44,7 @@ fn front(next: Lister, taken: usize, used: usize) -> Front
 }
 
 // The same at the start of a line, behind n others.
-fn passed(n: u32, reader: Reader, taken: usize, used: usize) -> Front
+pub(crate) fn passed(n: u32, reader: Reader, taken: usize, used: usize) -> Front
     ensures { λ r. ⌜ r ≡ record { next = passedTo n reader; taken = taken; used = used } ⌝ }
 {
     let next = Lister {
@@ -58,51 +57,6 @@ fn passed(n: u32, reader: Reader, taken: usize, used: usize) -> Front
         reader: reader,
     };
     front(next, taken, used)
-}
-
-// The lines of words at the front of a piece, behind some lines: each is read and printed at once, as long as any text has room.
-// Behind a report or a silence the reader is quiet: more silences change nothing, and are passed unread.
-fn words(line: u32, reader: Reader, input: &[u8], out: &mut [u8]) -> Front
-    requires { ⌜ 0 < line ⌝ }
-    ensures { λ r. ⌜ Stands (passedTo line reader) (now (input .entry)) (now (out .entry)) (r .next) (r .taken) (r .used) (now (out .exit)) ⌝ }
-{
-    let most = most_lines();
-    let mut n = line;
-    let mut r = reader;
-    let mut quiet = false;
-    let mut at: usize = 0;
-    let mut used: usize = 0;
-    if out.len() < 40 {
-        return passed(n, r, at, used);
-    }
-    while at + 6 <= input.len() {
-        if n >= most {
-            return passed(n, r, at, used);
-        }
-        let told = lines::word_in(input, at);
-        if told.taken == 0 {
-            return passed(n, r, at, used);
-        }
-        n = n + 1;
-        at = at + told.taken;
-        let silence = told.word == 257;
-        if quiet & silence {
-            continue;
-        }
-        let gave = items::word(r, n, told.word);
-        let next = gave.next;
-        let given = gave.given;
-        r = next;
-        quiet = silence;
-        if items::some(given) {
-            used = printing::put(out, used, WIDTH, given);
-            quiet = items::reports(given);
-            if out.len() - used < 40 {
-                return passed(n, r, at, used);
-            }
-        }
-    }
-    passed(n, r, at, used)
 }
 
 impl Lister {
@@ -177,7 +131,7 @@ impl Lister {
         if !(starts & (scanner.line > 0)) {
             return front(self, 0, 0);
         }
-        words(scanner.line, self.reader, input, out)
+        batches::words(scanner.line, self.reader, input, out)
     }
 
     // The front of a piece: lines of words, or else a byte.

@@ -1,7 +1,7 @@
 // What is found in a recording, to items of the listing.
 ghost use mathlib.Core.Path.{_≡_};
 ghost use lib.IntN.{_+ℤ_};
-ghost use Rattle.listing.specs.Items.{middleOf, buttonsOf, reportItem, answerGiven, formatGave, wordGave, gaveOf, isSome, isReport, isReported};
+ghost use Rattle.listing.specs.Items.{middleOf, buttonsOf, reportItem, answerGiven, formatGave, wordGave, gaveOf};
 use crate::Buttons;
 use crate::Found;
 use crate::Gave;
@@ -13,7 +13,7 @@ use reader::Reader;
 use wire::Report;
 
 // The middle button, which V does not have.
-fn middle(letter: u8, buttons: u8) -> Middle
+fn middle(letter: u8, buttons: u16) -> Middle
     ensures { λ r. ⌜ r ≡ middleOf letter buttons ⌝ }
 {
     if letter == b'V' {
@@ -25,7 +25,7 @@ fn middle(letter: u8, buttons: u8) -> Middle
     Middle::Up
 }
 
-fn buttons(letter: u8, buttons: u8) -> Buttons
+pub(crate) fn buttons(letter: u8, buttons: u16) -> Buttons
     ensures { λ r. ⌜ r ≡ buttonsOf letter buttons ⌝ }
 {
     Buttons {
@@ -36,7 +36,7 @@ fn buttons(letter: u8, buttons: u8) -> Buttons
 }
 
 // Two movements summed.
-fn sum(a: i16, b: i16) -> i64
+pub(crate) fn sum(a: i16, b: i16) -> i64
     ensures { λ r. ⌜ r ≡ a +ℤ b ⌝ }
 {
     a as i64 + b as i64
@@ -49,7 +49,12 @@ pub(crate) fn report(letter: u8, n: u32, p: Report) -> Item
     let y1 = p.y1;
     let x2 = p.x2;
     let y2 = p.y2;
-    Item::R(n, buttons(letter, p.buttons), sum(x1, x2), sum(y1, y2))
+    Item::R(
+        n,
+        buttons(letter, p.buttons as u16),
+        sum(x1, x2),
+        sum(y1, y2),
+    )
 }
 
 // The answer to the word of line n.
@@ -64,7 +69,7 @@ fn answered(letter: u8, n: u32, answer: Answer) -> Given
 }
 
 // A word of line n.
-pub(crate) fn word(reader: Reader, n: u32, word: u16) -> Gave
+fn word(reader: Reader, n: u32, word: u16) -> Gave
     ensures { λ r. ⌜ r ≡ wordGave reader n word ⌝ }
 {
     let read = reader.step(word);
@@ -73,38 +78,6 @@ pub(crate) fn word(reader: Reader, n: u32, word: u16) -> Gave
     Gave {
         next: next,
         given: answered(reader.format, n, answer),
-    }
-}
-
-// Whether anything is given.
-pub(crate) fn some(given: Given) -> bool
-    ensures { λ r. ⌜ r ≡ isSome given ⌝ }
-{
-    match given {
-        Given::Nothing => false,
-        Given::One(_) => true,
-    }
-}
-
-fn is_report(item: Item) -> bool
-    ensures { λ r. ⌜ r ≡ isReport item ⌝ }
-{
-    match item {
-        Item::D(_, _) => false,
-        Item::R(_, _, _, _) => true,
-        Item::H(_) => false,
-        Item::E(_) => false,
-        Item::Over => false,
-    }
-}
-
-// Whether a report is given.
-pub(crate) fn reports(given: Given) -> bool
-    ensures { λ r. ⌜ r ≡ isReported given ⌝ }
-{
-    match given {
-        Given::Nothing => false,
-        Given::One(item) => is_report(item),
     }
 }
 

@@ -4,6 +4,7 @@ ghost use Rattle.listing.specs.Promises.{SalvagePromise};
 use reader::Reader;
 use text::Text;
 
+mod batches;
 mod feeding;
 mod items;
 mod lines;

@@ -9,6 +9,7 @@ ghost use Rattle.listing.specs.Items.{itemsIn};
 ghost use Rattle.listing.specs.Promises.{LinePromise};
 ghost use Rattle.listing.specs.Printing.{pressed, middle, three, over, form, formOf, headOf, lineOf, firstLetter, openingOf, allBytes};
 ghost use Rattle.listing.specs.declared.Field.the-variants.{Number};
+ghost use Rattle.listing.specs.declared.Item.the-variants.{D, R};
 use crate::Buttons;
 use crate::Given;
 use crate::Item;
@@ -64,23 +65,41 @@ fn number(out: &mut [u8], at: usize, width: usize, x: i64) -> usize
     Text::decimal_to(out, behind, width, x)
 }
 
-// The letter and the fields of an item, line numbers at a width.
+// The letter and the fields of bytes dropped, line numbers at a width.
+pub(crate) fn dropped(out: &mut [u8], at: usize, width: u8, n: u32, k: u16) -> usize
+    ensures { λ r. ⌜ slice (now (out .exit)) r ≡ filledBy (slice (now (out .entry)) at) (headOf width (formOf (D n k))) ⌝ }
+{
+    let first = Text::byte_to(out, at, b'D');
+    let second = number(out, first, width as usize, n as i64);
+    number(out, second, PLAIN, k as i64)
+}
+
+// Those of a report.
+pub(crate) fn reported(
+    out: &mut [u8],
+    at: usize,
+    width: u8,
+    n: u32,
+    buttons: Buttons,
+    x: i64,
+    y: i64,
+) -> usize
+    ensures { λ r. ⌜ slice (now (out .exit)) r ≡ filledBy (slice (now (out .entry)) at) (headOf width (formOf (R n buttons x y))) ⌝ }
+{
+    let first = Text::byte_to(out, at, b'R');
+    let second = number(out, first, width as usize, n as i64);
+    let third = three(out, second, buttons);
+    let fourth = number(out, third, PLAIN, x);
+    number(out, fourth, PLAIN, y)
+}
+
+// Those of an item.
 fn fields(out: &mut [u8], at: usize, width: u8, item: Item) -> usize
     ensures { λ r. ⌜ slice (now (out .exit)) r ≡ filledBy (slice (now (out .entry)) at) (headOf width (formOf item)) ⌝ }
 {
     match item {
-        Item::D(n, k) => {
-            let first = Text::byte_to(out, at, b'D');
-            let second = number(out, first, width as usize, n as i64);
-            number(out, second, PLAIN, k as i64)
-        }
-        Item::R(n, buttons, x, y) => {
-            let first = Text::byte_to(out, at, b'R');
-            let second = number(out, first, width as usize, n as i64);
-            let third = three(out, second, buttons);
-            let fourth = number(out, third, PLAIN, x);
-            number(out, fourth, PLAIN, y)
-        }
+        Item::D(n, k) => dropped(out, at, width, n, k),
+        Item::R(n, buttons, x, y) => reported(out, at, width, n, buttons, x, y),
         Item::H(k) => {
             let first = Text::byte_to(out, at, b'H');
             number(out, first, PLAIN, k as i64)
