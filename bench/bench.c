@@ -329,20 +329,21 @@ static void check_words(void) {
     }
 }
 
-/* The recording behind so many lines, in pieces with little room. */
+/* The recording behind so many lines, in pieces with little room, and longer ones with room for some lines. */
 static void check_recording(uint32_t line, size_t length) {
+    enum { SOME = 1600 };
     istrolf_lister m, ours = istrolf_lister_fresh();
     size_t taken, written;
     plain_lister(&m);
     ours.line = m.line = line;
     for (size_t at = 0; at < length;) {
-        size_t piece = drawn(64), room = drawn(60);
+        size_t longer = drawn(2), piece = drawn(longer ? 400 : 64), room = drawn(longer ? SOME : 60);
         if (piece > length - at) piece = length - at;
-        memset(listing, '.', 60), memset(other_listing, '.', 60);
+        memset(listing, '.', SOME), memset(other_listing, '.', SOME);
         istrolf_listed a = istrolf_lister_feed(ours, text + at, piece, listing, room);
         uint8_t refusal = plain_feed(&m, text + at, piece, other_listing, room, &taken, &written);
         same(a.refusal == refusal && a.ended == m.ended && a.taken == taken && a.written == written, "counts of feed", at);
-        same(memcmp(listing, other_listing, 60) == 0, "text of feed", at);
+        same(memcmp(listing, other_listing, SOME) == 0, "text of feed", at);
         same(same_lister(&a.next, &m), "lister after feed", at);
         if (drawn(4) == 0 || at + piece == length) {
             istrolf_lister last = m;

@@ -29,11 +29,13 @@ use Rattle.reader.specs.Good as readers
 use Rattle.reader.specs.Rules.{refusing}
 use Rattle.reader.specs.Line.{Long, whole, stopped, withRefusal}
 use Rattle.reader.specs.Promises as reader
-use Rattle.reader.specs.Promises.{ReadPromise, beforeBad, newReader}
+use Rattle.reader.specs.Telling.{Told, told, untold}
+use Rattle.reader.specs.Promises.{ReadPromise, AnswersPromise, beforeBad, toldBeforeBad, newReader}
 use Rattle.reader.specs.declared.Reader.{Reader}
 use Rattle.reader.specs.declared.NewReader.{NewReader}
 use Rattle.reader.specs.declared.Read.{Read}
 use Rattle.reader.specs.declared.Reading.{Reading}
+use Rattle.reader.specs.declared.Answers.{Answers}
 use Rattle.reader.proofs.Permitted as permitted
 use Rattle.reader.proofs.Refusals as refusals
 use Rattle.reader.proofs.Goodness as goodness
@@ -139,7 +141,7 @@ refusal-one encoded a b = wire.one-refusal encoded
 pub length-one : (encoded : Encoded) → One (LengthPromise encoded)
 length-one encoded a b = wire.one-length encoded
 
--- `Reader::fresh`, `good`, `step`, `read`
+-- `Reader::fresh`, `good`, `step`, `read`, `answers`
 pub fresh-reader-one : (letter : ℕ) → One (reader.FreshPromise letter)
 fresh-reader-one = permitted.one-fresh
 
@@ -151,6 +153,9 @@ read-word-one = permitted.one-step
 
 pub read-line-one : (r : Reader) (words : List ℕ) (out : List ℤ) → OneWith (ReadPromise r words out)
 read-line-one = permitted.one-read
+
+pub answers-one : (r : Reader) (words : List ℕ) (out : List ℤ) → OneWith (AnswersPromise r words out)
+answers-one = permitted.one-answers
 
 -- `BallBox::fresh`, `good`, `step`
 pub fresh-box-one : One box.FreshPromise
@@ -232,6 +237,11 @@ pub read-line-refusals : (r : Reader) (words : List ℕ) (out : List ℤ) (a : R
     → ReadPromise r words out a after
     → RefusesRightly (λ (l : Long). l .reading .refusal) (stopped badState r out ∷ beforeBad r words out a ∷ []) (whole a after)
 read-line-refusals = refusals.read-refusals
+
+pub answers-refusals : (r : Reader) (words : List ℕ) (out : List ℤ) (a : Answers) (after : List ℤ)
+    → AnswersPromise r words out a after
+    → RefusesRightly (λ (t : Told). t .answers .refusal) (untold badState r out ∷ toldBeforeBad r words out a ∷ []) (told a after)
+answers-refusals = refusals.answers-refusals
 
 -- of the box: 6 and 3, with the box as it was and no word
 pub box-step-refusals : (b : BallBox) (e : Event) (r : Stepped)
@@ -315,6 +325,18 @@ pub read-line-ends : (r : Reader) (words : List ℕ) (out : List ℤ) (a : Readi
     → (a .refusal ≡ success) ⊎ ((a .refusal ≡ badWord) × (silence < getD words (a .taken) 0))
 read-line-ends = refusals.read-ends
 
+pub answers-bad-state : (r : Reader) (words : List ℕ) (out : List ℤ) (a : Answers) (after : List ℤ)
+    → readers.good r ≡ false
+    → AnswersPromise r words out a after
+    → told a after ≡ untold badState r out
+answers-bad-state = refusals.bad-state-answers
+
+pub answers-end : (r : Reader) (words : List ℕ) (out : List ℤ) (a : Answers) (after : List ℤ)
+    → readers.good r ≡ true
+    → AnswersPromise r words out a after
+    → (a .refusal ≡ success) ⊎ ((a .refusal ≡ badWord) × (silence < getD words (a .taken) 0))
+answers-end = refusals.answers-end
+
 -- the box tests 6 and then 3
 pub box-step-bad-state : (b : BallBox) (e : Event) (r : Stepped)
     → box.StepPromise b e r
@@ -381,6 +403,12 @@ pub read-stays-good : (r : Reader) (words : List ℕ) (out : List ℤ) (a : Read
     → ReadPromise r words out a after
     → (readers.good (a .next) ≡ true) × (a .next .format ≡ r .format)
 read-stays-good = goodness.read-stays-good
+
+pub answers-stay-good : (r : Reader) (words : List ℕ) (out : List ℤ) (a : Answers) (after : List ℤ)
+    → readers.good r ≡ true
+    → AnswersPromise r words out a after
+    → (readers.good (a .next) ≡ true) × (a .next .format ≡ r .format)
+answers-stay-good = goodness.answers-stay-good
 
 pub fresh-box-good : (b : BallBox) → box.FreshPromise b → boxes.good b ≡ true
 fresh-box-good = box-goodness.fresh-is-good

@@ -20,7 +20,7 @@ use Rattle.text.specs.declared.Text.{Text}
 use Rattle.wire.specs.Numbers.{badState}
 use Rattle.reader.specs.Good.{good}
 use Rattle.reader.specs.Rules.{wordOf}
-use Rattle.reader.specs.Answers.{toldIn, tells, Told, told, untold, toldBy, tellingOf}
+use Rattle.reader.specs.Telling.{toldIn, tells, Told, told, untold, toldBy, tellingOf}
 use Rattle.reader.specs.Promises.{stepOf, answersOf, AnswersPromise}
 use Rattle.reader.specs.declared.Reader.{Reader}
 use Rattle.reader.specs.declared.Read.{Read}

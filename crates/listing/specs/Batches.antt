@@ -10,7 +10,7 @@ use lib.Signed.{ltZ}
 use Rattle.fold.specs.Fold.{written, run}
 use Rattle.frames.specs.Words.{silence}
 use Rattle.reader.specs.Good.{good}
-use Rattle.reader.specs.Answers.{tells}
+use Rattle.reader.specs.Telling.{tells}
 use Rattle.reader.specs.Promises.{stepOf}
 use Rattle.reader.specs.declared.Reader.{Reader}
 use Rattle.listing.specs.Lines.{Tells, sixAt}

@@ -29,6 +29,7 @@ const MANY: usize = 32;
 // The places that the text of a line has room in.
 const ROOM: usize = 40;
 
+// The word of a silence.
 const SILENCE: u16 = 257;
 
 // The words of some lines, and the place behind them.
@@ -183,7 +184,7 @@ struct Printing {
     used: usize,
 }
 
-// Words whose lines stand behind others, read at once, and what they give printed to a slice at a place.
+// Words whose lines stand behind others, read at once, and what they give printed to a slice at a place. An answer is told in six numbers at most.
 fn printed(line: u32, reader: Reader, words: &[u16], out: &mut [u8], at: usize) -> Printing
     requires { ⌜ (0 < length (now words)) × (length (now words) ≤ 32) × (line + length (now words) ≤ mostLines) ⌝ }
     ensures { λ r. ⌜ Printed reader line (now (words .entry)) (now (out .entry)) at (r .all) (r .next) (r .used) (now (out .exit)) ⌝ }

@@ -12,7 +12,7 @@ use Rattle.reader.specs.Good.{placed, good}
 use Rattle.reader.specs.Rules.{entered, dropping, keep, start, stray, lose, byteOf, breakOf, silenceOf, wordOf}
 use Rattle.reader.specs.Counts.{droppedAmong}
 use Rattle.reader.specs.Line.{lineOf}
-use Rattle.reader.specs.Answers.{tellingOf}
+use Rattle.reader.specs.Telling.{tellingOf}
 use Rattle.reader.specs.Promises.{freshOf, stepOf, readOf, answersOf}
 use Rattle.reader.specs.Runs.{stepsOf}
 

@@ -10,7 +10,7 @@ use Rattle.frames.specs.Words.{break, silence}
 use Rattle.wire.specs.Reading.{settledBy}
 use Rattle.reader.specs.State.{reader, fresh, ready}
 use Rattle.reader.specs.Line.{Long, whole}
-use Rattle.reader.specs.Answers.{Told, told}
+use Rattle.reader.specs.Telling.{Told, told}
 use Rattle.reader.specs.Promises.{stepOf, readOf, answersOf}
 use Rattle.reader.specs.declared.Reader.{Reader}
 use Rattle.reader.proofs.Computing.{computing}

@@ -13,7 +13,7 @@ use Rattle.reader.specs.Good.{good}
 use Rattle.reader.specs.Rules.{wordOf}
 use Rattle.reader.specs.Counts.{writtenIn}
 use Rattle.reader.specs.Line.{Long, lineOf}
-use Rattle.reader.specs.Answers.{Told, toldIn, tellingOf}
+use Rattle.reader.specs.Telling.{Told, toldIn, tellingOf}
 use Rattle.reader.specs.Promises.{FreshPromise, StepPromise, ReadPromise, AnswersPromise, freshOf, stepOf, readOf, answersOf}
 use Rattle.reader.specs.declared.Reader.{Reader}
 use Rattle.reader.specs.declared.NewReader.{NewReader}

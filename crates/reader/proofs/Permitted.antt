@@ -8,7 +8,7 @@ use lib.Dec.{eqb}
 use lib.IntN.{ℤ, pos, natAbs}
 use Rattle.reader.specs.State.{numbersOf}
 use Rattle.reader.specs.Line.{Long}
-use Rattle.reader.specs.Answers.{Told}
+use Rattle.reader.specs.Telling.{Told}
 use Rattle.reader.specs.Promises.{Step, FreshPromise, GoodPromise, StepPromise, ReadPromise, AnswersPromise, stepOf}
 use Rattle.reader.specs.Runs.{stepsOf, StepsPromise}
 use Rattle.reader.specs.declared.Reader.{Reader}

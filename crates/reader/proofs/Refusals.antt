@@ -20,7 +20,7 @@ use Rattle.reader.specs.Good.{good}
 use Rattle.reader.specs.Rules.{refusing, wordOf}
 use Rattle.reader.specs.Counts.{writtenIn}
 use Rattle.reader.specs.Line.{Long, whole, stopped, reads, counted, lineOf, withRefusal}
-use Rattle.reader.specs.Answers.{Told, tells, told, untold, toldIn, toldWith, tellingOf}
+use Rattle.reader.specs.Telling.{Told, tells, told, untold, toldIn, toldWith, tellingOf}
 use Rattle.reader.specs.Promises.{FreshPromise, StepPromise, ReadPromise, AnswersPromise, FreshRefusal, StepRefusal, ReadRefusal, AnswersRefusal, newReader, freshOf, stepOf, readOf, answersOf}
 use Rattle.reader.specs.declared.Reader.{Reader}
 use Rattle.reader.specs.declared.NewReader.{NewReader}

@@ -19,7 +19,7 @@ use Rattle.wire.specs.Numbers.{success}
 use Rattle.reader.specs.Good.{good}
 use Rattle.reader.specs.Rules.{wordOf}
 use Rattle.reader.specs.Line.{Long, whole, counted, lineOf}
-use Rattle.reader.specs.Answers.{Told, toldIn, tells, told, toldBy, tellingOf}
+use Rattle.reader.specs.Telling.{Told, toldIn, tells, told, toldBy, tellingOf}
 use Rattle.reader.specs.Counts.{writtenIn, handedOut, numbers, droppedAmong}
 use Rattle.reader.specs.Promises.{ReadPromise, AnswersPromise}
 use Rattle.reader.specs.DamagedLines.{Took}

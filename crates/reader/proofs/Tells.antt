@@ -15,7 +15,7 @@ use Rattle.fold.proofs.Parts.{rest-is, back, none, one, joins, part-left, part-
 use Rattle.wire.specs.declared.Report.{Report}
 use Rattle.reader.specs.State.{fiveOf}
 use Rattle.reader.specs.Rules.{wordOf}
-use Rattle.reader.specs.Answers.{toldIn, tells, told, hasRoom, placesOf, frontOf, tellingOf}
+use Rattle.reader.specs.Telling.{toldIn, tells, told, hasRoom, placesOf, frontOf, tellingOf}
 use Rattle.reader.specs.declared.Reader.{Reader}
 use Rattle.reader.specs.declared.Read.{Read}
 use Rattle.reader.specs.declared.Answer.{Answer}

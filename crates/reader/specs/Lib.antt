@@ -1,4 +1,4 @@
--- The reader, heading by heading of the paper: "The reader" (State, Rules, Line, its Parts and Whole reports, and the Answers told), "Numbers given back" (Good,
+-- The reader, heading by heading of the paper: "The reader" (State, Rules, Line, its Parts and Whole reports, and the Telling of answers), "Numbers given back" (Good,
 -- Promises), and what the laws count and run (Counts, Runs), lines with bit 7 of bytes turned over (EighthBit), and what is handed out of lines, as sent or with
 -- a stretch replaced (DamagedLines).
 pub mod State
@@ -8,7 +8,7 @@ pub mod Counts
 pub mod Line
 pub mod Parts
 pub mod Whole
-pub mod Answers
+pub mod Telling
 pub mod Promises
 pub mod Runs
 pub mod EighthBit

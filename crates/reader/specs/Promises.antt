@@ -13,7 +13,7 @@ use Rattle.reader.specs.State.{fresh, numbersOf}
 use Rattle.reader.specs.Good.{good}
 use Rattle.reader.specs.Rules.{refusing, wordOf}
 use Rattle.reader.specs.Line.{Long, whole, stopped, withRefusal, lineOf}
-use Rattle.reader.specs.Answers.{Told, told, untold, toldWith, tellingOf}
+use Rattle.reader.specs.Telling.{Told, told, untold, toldWith, tellingOf}
 use Rattle.reader.specs.declared.Reader.{Reader}
 use Rattle.reader.specs.declared.NewReader.{NewReader}
 use Rattle.reader.specs.declared.Read.{Read}

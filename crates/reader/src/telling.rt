@@ -3,7 +3,7 @@ ghost use mathlib.Core.Path.{_≡_};
 ghost use mathlib.Core.Bool.{true};
 ghost use Rattle.reader.specs.Good.{good};
 ghost use Rattle.reader.specs.Parts.{Sized};
-ghost use Rattle.reader.specs.Answers.{told, placesOf, frontOf, tellingOf};
+ghost use Rattle.reader.specs.Telling.{told, placesOf, frontOf, tellingOf};
 use crate::Answer;
 use crate::Answers;
 use crate::BAD_STATE;

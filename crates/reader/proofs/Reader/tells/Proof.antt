@@ -8,7 +8,7 @@ use borrow.Author.Needs.{needs}
 use borrow.Rule.Slice.PartMut.{putMid}
 use Rattle.fold.proofs.Parts.{part-within, part-room, part-long}
 use Rattle.reader.specs.Good.{good}
-use Rattle.reader.specs.Answers.{tells, told}
+use Rattle.reader.specs.Telling.{tells, told}
 use Rattle.reader.specs.Parts.{Sized}
 use Rattle.reader.proofs.Word.{word-format}
 use Rattle.reader.proofs.Keeps.{word-good}

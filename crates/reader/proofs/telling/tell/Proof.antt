@@ -12,7 +12,7 @@ use mir.Val.{toZ}
 use mir.ValLaws.{toZ-pos}
 use borrow.Rule.Slice.PartMut.{putMid}
 use Rattle.fold.proofs.Parts.{rest-is}
-use Rattle.reader.specs.Answers.{toldIn}
+use Rattle.reader.specs.Telling.{toldIn}
 use Rattle.reader.specs.declared.Answer.the-variants.{Nothing, Report, Dropped}
 use Rattle.reader.proofs.Tells.{has-room, has-none, report-told}
 use Rattle.reader.proofs.telling.tell.Statement.{statement}
