@@ -3,6 +3,7 @@
  *   bench check          compares all answers; the first difference is told, and the status is 1
  *   bench time PART      a line for each stream: its name, nanoseconds a word of the library and of plain.c, each the best of several
  *   bench count PART     a line for each stream: its name, and half its words; runs each side over that half and over all, with a call of mark before and behind each
+ *   bench write FORMAT STREAM whole|half    the recording of a stream, or its first half, for the program mlist
  *
  * A part is read (the long read), step, encode, box or list. A word is a line word; of the encoder a report, of the box an event, of the lister a line. */
 #include "plain.h"
@@ -555,8 +556,22 @@ static int check(void) {
     return different;
 }
 
+/* The recording of the stream whose name begins with the same two letters. */
+static int write_recording(const char *format, const char *name, const char *part) {
+    for (int s = CLEAN; s < STREAMS; s++) {
+        if (memcmp(stream_names[s], name, 2) != 0) continue;
+        letter = (uint8_t)format[0];
+        make_words(letter, (stream)s, 0);
+        make_recording();
+        printf("%.*s", (int)ends[(part[0] == 'h' ? WORDS / 2 : WORDS) - 1], (const char *)text);
+        return 0;
+    }
+    return 2;
+}
+
 int main(int count, char **words_given) {
     if (count == 2 && words_given[1][1] == 'h') return check();
+    if (count == 5 && words_given[1][0] == 'w') return write_recording(words_given[2], words_given[3], words_given[4]);
     if (count != 3) return 2;
     const char *part = words_given[2];
     counting = words_given[1][0] == 'c';
