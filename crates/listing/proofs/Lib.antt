@@ -4,6 +4,7 @@
 pub mod Answers
 pub mod Bytes
 pub mod Calls
+pub mod Carried
 pub mod Ended
 pub mod Feeds
 pub mod Few

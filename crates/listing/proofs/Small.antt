@@ -46,6 +46,13 @@ abs-sum (pos a) (negsuc b) = cases (λ (z : ℤ). natAbs z ≤ a + suc b) (ltb a
 abs-sum (negsuc a) (pos b) = cases (λ (z : ℤ). natAbs z ≤ suc a + b) (ltb b (suc a)) (λ e. omega (arith, ltb-true b (suc a) e)) (λ _. omega arith)
 abs-sum (negsuc a) (negsuc b) = omega arith
 
+abs-few : (z : ℤ) → SFits w16 z → natAbs z ≤ 32768
+abs-few (pos n) h = omega arith
+abs-few (negsuc n) h = omega arith
+
+pub sum-few : {a b : ℤ} → SFits w16 a → SFits w16 b → natAbs (a +ℤ b) < 100000
+sum-few {a} {b} h k = omega (arith, abs-sum a b, abs-few a h, abs-few b k)
+
 abs-neg : (z : ℤ) → natAbs (negℤ z) ≡ natAbs z
 abs-neg (pos zero) = refl
 abs-neg (pos (suc n)) = refl

@@ -4,24 +4,25 @@ ghost use mathlib.Core.Bool.{_&&_};
 ghost use lib.Dec.{eqb};
 ghost use Rattle.frames.specs.Words.{silence};
 ghost use Prim.Native.Nat.{ℕ, _+_, _*_, _<_, _≤_};
+ghost use lib.IntN.{natAbs};
 ghost use lib.ListN.{length};
 ghost use Rattle.text.specs.Growth.{slice, filledBy};
 ghost use Rattle.listing.specs.Scanning.{width, mostLines};
 ghost use Rattle.listing.specs.Items.{itemsIn};
 ghost use Rattle.listing.specs.Printing.{allBytes};
 ghost use Rattle.listing.specs.Feeding.{passedTo, Stands};
+ghost use Rattle.listing.specs.Stamped.{Stamps};
 ghost use Rattle.listing.specs.Batches.{Gathered, Unread, Printed, ToldOf, itemsOver, plainOf, reportAt, givenAt, nextAt};
 ghost use Rattle.listing.specs.declared.Item.the-variants.{R};
 use crate::Buttons;
 use crate::Front;
-use crate::WIDTH;
+use crate::Stamp;
 use crate::feeding::passed;
 use crate::items;
 use crate::lines;
-use crate::printing;
 use crate::scanning::most_lines;
+use crate::stamped;
 use reader::Reader;
-use text::Text;
 
 // How many lines are taken at once.
 const MANY: usize = 32;
@@ -32,9 +33,8 @@ const ROOM: usize = 40;
 // The word of a silence.
 const SILENCE: u16 = 257;
 
-// The words of some lines, and the place behind them.
+// How many words were gathered, and the place behind their lines.
 struct Batch {
-    words: [u16; 32],
     count: usize,
     end: usize,
 }
@@ -49,13 +49,12 @@ fn again(last: u16, word: u16) -> bool
     false
 }
 
-// The words of the lines from a place of a piece on, so many at most: up to a line that is no word's, lies not whole in the piece, or is a second silence in a
-// row.
-fn gathered(input: &[u8], from: usize, most: usize) -> Batch
-    requires { ⌜ (from ≤ length (now input)) × (most ≤ 32) ⌝ }
-    ensures { λ r. ⌜ Gathered (now (input .entry)) from (r .words) (r .count) (r .end) × (r .count ≤ most) × (r .end ≤ length (now (input .entry))) ⌝ }
+// The words of the lines from a place of a piece on, so many at most, to the front of a slice: up to a line that is no word's, lies not whole in the piece, or is
+// a second silence in a row.
+fn gathered(input: &[u8], from: usize, most: usize, words: &mut [u16]) -> Batch
+    requires { ⌜ (from ≤ length (now input)) × (most ≤ length (now words)) ⌝ }
+    ensures { λ r. ⌜ Gathered (now (input .entry)) from (now (words .exit)) (r .count) (r .end) × (r .count ≤ most) × (r .end ≤ length (now (input .entry))) ⌝ }
 {
-    let mut words = [0u16; 32];
     let mut count: usize = 0;
     let mut at = from;
     let mut last: u16 = 0;
@@ -73,7 +72,6 @@ fn gathered(input: &[u8], from: usize, most: usize) -> Batch
         at = at + told.taken;
     }
     Batch {
-        words: words,
         count: count,
         end: at,
     }
@@ -115,7 +113,7 @@ struct Movement {
 
 fn moved(letter: u8, told: &[i16], from: usize) -> Movement
     requires { ⌜ from + 6 ≤ length (now told) ⌝ }
-    ensures { λ r. ⌜ ((n : ℕ) → R n (r .buttons) (r .x) (r .y) ≡ reportAt letter n (now (told .entry)) from) ⌝ }
+    ensures { λ r. ⌜ ((n : ℕ) → R n (r .buttons) (r .x) (r .y) ≡ reportAt letter n (now (told .entry)) from) × (natAbs (r .x) < 100000) × (natAbs (r .y) < 100000) ⌝ }
 {
     let pressed = plain(told[from + 1]);
     let x = items::sum(told[from + 2], told[from + 4]);
@@ -127,21 +125,28 @@ fn moved(letter: u8, told: &[i16], from: usize) -> Movement
     }
 }
 
-// What the numbers at a place tell of the word of line n, printed to a slice at a place, and the place behind it.
-fn answer_to(out: &mut [u8], at: usize, letter: u8, n: u32, told: &[i16], from: usize) -> usize
-    requires { ⌜ from + 6 ≤ length (now told) ⌝ }
-    ensures { λ r. ⌜ slice (now (out .exit)) r ≡ filledBy (slice (now (out .entry)) at) (allBytes width (itemsIn (givenAt letter n (now (told .entry)) from))) ⌝ }
+// What the numbers at a place tell of the word of a line, which has a stamp, printed to a slice at a place, and the place behind it.
+fn answer_to(
+    out: &mut [u8],
+    at: usize,
+    letter: u8,
+    stamp: Stamp,
+    told: &[i16],
+    from: usize,
+) -> usize
+    requires { ⌜ (at + 40 ≤ length (now out)) × (from + 6 ≤ length (now told)) ⌝ }
+    ensures { λ r. ⌜
+        ((n : ℕ) → Stamps n stamp → n ≤ mostLines → slice (now (out .exit)) r ≡ filledBy (slice (now (out .entry)) at) (allBytes width (itemsIn (givenAt letter n (now (told .entry)) from)))) × (r ≤ at + 40)
+        ⌝ }
 {
     let number = told[from];
     if number > 0 {
-        let end = printing::dropped(out, at, WIDTH, n, plain(number));
-        return Text::byte_to(out, end, b'\n');
+        return stamped::dropped(out, at, stamp, plain(number));
     }
     if number < 0 {
         let m = moved(letter, told, from);
         let buttons = m.buttons;
-        let end = printing::reported(out, at, WIDTH, n, buttons, m.x, m.y);
-        return Text::byte_to(out, end, b'\n');
+        return stamped::reported(out, at, stamp, buttons, m.x, m.y);
     }
     at
 }
@@ -158,20 +163,22 @@ fn next_at(told: &[i16], from: usize) -> usize
     from + 1
 }
 
-// What words give whose lines stand behind others, by what they were answered by, printed one behind the other.
+// What words give whose lines stand behind others, by what they were answered by, printed one behind the other: each line has its places.
 fn shown(line: u32, reader: Reader, words: &[u16], told: &[i16], out: &mut [u8], at: usize) -> usize
-    requires { ⌜ ToldOf reader (now words) (now told) × (6 * length (now words) ≤ length (now told)) × (line + length (now words) ≤ mostLines) ⌝ }
+    requires { ⌜ ToldOf reader (now words) (now told) × (6 * length (now words) ≤ length (now told)) × (line + length (now words) ≤ mostLines) × (at + 40 * length (now words) ≤ length (now out)) ⌝ }
     ensures { λ r. ⌜ slice (now (out .exit)) r ≡ filledBy (slice (now (out .entry)) at) (allBytes width (itemsOver reader line (now (words .entry)))) ⌝ }
 {
     let letter = reader.format;
     let mut n = line;
+    let mut stamp = stamped::stamp_of(line);
     let mut i: usize = 0;
     let mut from: usize = 0;
     let mut used = at;
     while i < words.len() {
         i = i + 1;
         n = n + 1;
-        used = answer_to(out, used, letter, n, told, from);
+        stamp = stamped::next(stamp, n);
+        used = answer_to(out, used, letter, stamp, told, from);
         from = next_at(told, from);
     }
     used
@@ -184,13 +191,20 @@ struct Printing {
     used: usize,
 }
 
-// Words whose lines stand behind others, read at once, and what they give printed to a slice at a place. An answer is told in six numbers at most.
-fn printed(line: u32, reader: Reader, words: &[u16], out: &mut [u8], at: usize) -> Printing
-    requires { ⌜ (0 < length (now words)) × (length (now words) ≤ 32) × (line + length (now words) ≤ mostLines) ⌝ }
+// Words whose lines stand behind others, read at once, and what they give printed to a slice at a place. What they are answered by is told in numbers, six at most
+// for each.
+fn printed(
+    line: u32,
+    reader: Reader,
+    words: &[u16],
+    told: &mut [i16],
+    out: &mut [u8],
+    at: usize,
+) -> Printing
+    requires { ⌜ (0 < length (now words)) × (6 * length (now words) ≤ length (now told)) × (line + length (now words) ≤ mostLines) × (at + 40 * length (now words) ≤ length (now out)) ⌝ }
     ensures { λ r. ⌜ Printed reader line (now (words .entry)) (now (out .entry)) at (r .all) (r .next) (r .used) (now (out .exit)) ⌝ }
 {
-    let mut told = [0i16; 192];
-    let t = reader.answers(words, &mut told);
+    let t = reader.answers(words, told);
     let next = t.next;
     if t.taken != words.len() {
         return Printing {
@@ -199,7 +213,7 @@ fn printed(line: u32, reader: Reader, words: &[u16], out: &mut [u8], at: usize) 
             used: at,
         };
     }
-    let used = shown(line, reader, words, &told, out, at);
+    let used = shown(line, reader, words, told, out, at);
     Printing {
         all: true,
         next: next,
@@ -251,14 +265,15 @@ pub(crate) fn words(line: u32, reader: Reader, input: &[u8], out: &mut [u8]) -> 
     let mut r = reader;
     let mut at: usize = 0;
     let mut used: usize = 0;
+    let mut words = [0u16; 32];
+    let mut told = [0i16; 192];
     while n < most {
-        let b = gathered(input, at, at_once(most - n, out.len() - used));
+        let b = gathered(input, at, at_once(most - n, out.len() - used), &mut words);
         let count = b.count;
         if count == 0 {
             return passed(n, r, at, used);
         }
-        let words = b.words;
-        let t = printed(n, r, &words[0..count], out, used);
+        let t = printed(n, r, &words[0..count], &mut told, out, used);
         if !t.all {
             return passed(n, r, at, used);
         }

@@ -1,5 +1,5 @@
 // The listing of a recording: a lister that is fed the input in pieces of any size. The scanner finds numbered words in the input (lines, scanning),
-// the reader makes items of them (items), and the items are printed (printing).
+// the reader makes items of them (items), and the items are printed (printing). Lines that lie whole in a piece are taken some at a time (batches, stamped).
 ghost use Rattle.listing.specs.Promises.{SalvagePromise};
 use reader::Reader;
 use text::Text;
@@ -11,6 +11,7 @@ mod lines;
 mod printing;
 mod scanning;
 mod shown;
+mod stamped;
 
 // The width of line numbers.
 pub(crate) const WIDTH: u8 = 6;
@@ -121,6 +122,12 @@ pub(crate) struct Front {
 pub(crate) struct Told {
     pub taken: usize,
     pub word: u16,
+}
+
+// The number of a line between tabs, but for its last digit, which stands beside.
+pub(crate) struct Stamp {
+    pub bytes: [u8; 8],
+    pub last: u8,
 }
 
 // The first line of a salvage: `S` and the width of line numbers.

@@ -20,13 +20,13 @@ use text::Text;
 const PLAIN: usize = 1;
 
 // A letter where a button is down.
-fn pressed(down: bool, letter: u8) -> u8
+pub(crate) fn pressed(down: bool, letter: u8) -> u8
     ensures { λ r. ⌜ r ≡ pressed down letter ⌝ }
 {
     if down { letter } else { b'-' }
 }
 
-fn middle(of: Middle) -> u8
+pub(crate) fn middle(of: Middle) -> u8
     ensures { λ r. ⌜ r ≡ middle of ⌝ }
 {
     match of {
@@ -66,7 +66,7 @@ fn number(out: &mut [u8], at: usize, width: usize, x: i64) -> usize
 }
 
 // The letter and the fields of bytes dropped, line numbers at a width.
-pub(crate) fn dropped(out: &mut [u8], at: usize, width: u8, n: u32, k: u16) -> usize
+fn dropped(out: &mut [u8], at: usize, width: u8, n: u32, k: u16) -> usize
     ensures { λ r. ⌜ slice (now (out .exit)) r ≡ filledBy (slice (now (out .entry)) at) (headOf width (formOf (D n k))) ⌝ }
 {
     let first = Text::byte_to(out, at, b'D');
@@ -75,15 +75,7 @@ pub(crate) fn dropped(out: &mut [u8], at: usize, width: u8, n: u32, k: u16) -> u
 }
 
 // Those of a report.
-pub(crate) fn reported(
-    out: &mut [u8],
-    at: usize,
-    width: u8,
-    n: u32,
-    buttons: Buttons,
-    x: i64,
-    y: i64,
-) -> usize
+fn reported(out: &mut [u8], at: usize, width: u8, n: u32, buttons: Buttons, x: i64, y: i64) -> usize
     ensures { λ r. ⌜ slice (now (out .exit)) r ≡ filledBy (slice (now (out .entry)) at) (headOf width (formOf (R n buttons x y))) ⌝ }
 {
     let first = Text::byte_to(out, at, b'R');

@@ -68,6 +68,10 @@ some-power : (q : ℕ) → 1 ≤ 10 ^ q
 some-power zero = omega arith
 some-power (suc q) = omega (arith, some-power q)
 
+size-is : (p n : ℕ) → 10 ^ suc p ≤ n → n < 10 ^ suc (suc p) → sizeOf n ≡ suc (suc p)
+size-is zero n h k = size-more n (omega arith) ∙ ap suc (size-one (n / 10) (omega arith))
+size-is (suc p) n h k = size-more n (omega (arith, some-power p)) ∙ ap suc (size-is p (n / 10) (omega arith) (omega arith))
+
 size-holds : (f q n : ℕ) → n ≤ f → sizeIn f n ≤ q → n < 10 ^ q
 unfolding sizeIn
 size-holds zero q n h k = omega (arith, some-power q)
@@ -152,6 +156,10 @@ places-few width n p h k = cases (λ (q : ℕ). q ≤ suc p) (ltb (sizeOf n) wid
 pub unsigned-one : (width n : ℕ) → n < 10 → width < 2 → unsignedOf width n ≡ digitOf n ∷ []
 unfolding placesOf digitsOf
 unsigned-one width n h k = rw (size-one n h, le-ltb 1 width (omega arith))
+
+pub unsigned-is : (p n : ℕ) → 10 ^ suc p ≤ n → n < 10 ^ suc (suc p) → unsignedOf 1 n ≡ digitsOf (suc (suc p)) n
+unfolding placesOf
+unsigned-is p n h k = rw (size-is p n h k, le-ltb (suc (suc p)) 1 (omega arith))
 
 pub places-six : (n : ℕ) → n < 10 ^ 6 → placesOf 6 n ≡ 6
 unfolding placesOf
