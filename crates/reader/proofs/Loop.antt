@@ -1,5 +1,5 @@
 -- The long read's loop: where it stands, the first word of what is left, and how it goes on and ends.
-use mathlib.Core.Path.{_≡_, refl, sym, _∙_, ap}
+use mathlib.Core.Path.{_≡_, refl, sym, _∙_, ap, subst}
 use mathlib.Core.Bool.{Bool, true, false, _&&_}
 use mathlib.Core.List.{List, [], _∷_, _++_}
 use Prim.Native.Nat.{ℕ, zero, suc, _+_, _-_, _*_, _/_, _<_, _≤_}
@@ -131,9 +131,6 @@ module _ {words : List ℕ} {out₀ out : List ℤ} {r₀ r : Reader} {at used r
     begins : Begins r (drop at words) (drop used out) t last
     begins = rw (rest-is words at, rest-is out used) at b
 
-    pub more : Stands r₀ words out₀ (t .next) (at + t .taken) (used + 5 * t .reports) (reports + t .reports) (dropped + t .dropped) (putMid used (length out - used) out last)
-    more = on (b .stands)
-
     -- it took no word: the slice is as it was, and the read ends
     module _ (z : t .taken ≡ 0) where
       pub unchanged : putMid used (length out - used) out last ≡ out
@@ -243,20 +240,28 @@ module _ {words : List ℕ} {out₀ out : List ℤ} {r₀ r : Reader} {at droppe
         let first : getD (take (length words - at) (drop at words)) 0 0 ≡ getD words at 0 = rw (rest-is words at, getD-drop at words 0 0, add-zero at) in
         over (rw none at took) (lost-stands (t .next) (waits m (rw first (le-leb (getD words at 0) 255 small)) some) _ _ _ b)
 
--- words one by one, and a run behind them
-pub and-run : {r : Reader} {words : List ℕ} {out mid : List ℤ} {t : Reading} → Begins r words out t mid → (t .taken ≡ 0 → ⊥) → {taken used : ℕ} {last : List ℤ}
-    → Stands (t .next) (take (length words - t .taken) (drop (t .taken) words)) (take (length mid - 5 * t .reports) (drop (5 * t .reports) mid)) (t .next) taken used (used / 5) 0 last
-    → Begins r words out (record { refusal = 0; next = t .next; taken = t .taken + taken; reports = t .reports + used / 5; dropped = t .dropped }) (putMid (5 * t .reports) (length mid - 5 * t .reports) mid last)
-and-run {t = t} b ne {taken} {used} q =
-    let five : 5 * (t .reports + used / 5) ≡ 5 * t .reports + used = omega (arith, far q .places) in
-    record { stands = rw five (rw (add-zero (t .dropped)) at (on (b .stands) q)); stops = λ e. absurd (ne (omega arith)); sound = b .sound; same-format = b .same-format }
+-- how a loop goes on: a run or silences, where the reader is ready; or another part
+module _ {words : List ℕ} {out₀ out : List ℤ} {r₀ r : Reader} {at used dropped : ℕ} (s : Stands r₀ words out₀ r at used (used / 5) dropped out) where
+  module _ (calm : r ≡ ready (r .format)) where
+    pub and-run : {taken places : ℕ} {last : List ℤ}
+        → Stands (ready (r .format)) (take (length words - at) (drop at words)) (take (length out - used) (drop used out)) (ready (r .format)) taken places (places / 5) 0 last
+        → Stands r₀ words out₀ r (at + taken) (used + places) ((used + places) / 5) dropped (putMid used (length out - used) out last)
+    and-run {taken} {places} q =
+        let sum : used / 5 + places / 5 ≡ (used + places) / 5 = omega (arith, far s .places) in
+        rw (add-zero dropped, sum) at (on s (rw (← calm) at q))
 
--- silences, and a run behind them
-module _ {words : List ℕ} {out₀ out : List ℤ} {r₀ r : Reader} {at used reports dropped : ℕ} (s : Stands r₀ words out₀ r at used reports dropped out) (calm : r ≡ ready (r .format)) {n : ℕ} (quiet : Alike 257 257 n (take (length words - at) (drop at words))) where
-  pub silent : Stands r₀ words out₀ r (at + n) used reports dropped out
-  silent = rw (add-zero dropped) at (over s {u = r} {taken = n} {d = 0} (rw calm (silences-stand (r .format) n _ _ quiet)))
+    pub and-silences : {n : ℕ} → Alike 257 257 n (take (length words - at) (drop at words)) → Stands r₀ words out₀ r (at + n) used (used / 5) dropped out
+    and-silences {n} b = rw (add-zero dropped) at (over s {u = r} {taken = n} {d = 0} (rw calm (silences-stand (r .format) n _ _ b)))
 
-  pub silent-run : {taken places : ℕ} {last : List ℤ}
-      → Stands (ready (r .format)) (take (length words - (at + n)) (drop (at + n) words)) (take (length out - used) (drop used out)) (ready (r .format)) taken places (places / 5) 0 last
-      → Stands r₀ words out₀ r (at + n + taken) (used + places) (reports + places / 5) dropped (putMid used (length out - used) out last)
-  silent-run q = rw (add-zero dropped) at (on silent (rw (← calm) at q))
+  pub and-part : {u : Reader} {taken n d : ℕ} {last : List ℤ} → Stands r (take (length words - at) (drop at words)) (take (length out - used) (drop used out)) u taken (5 * n) n d last
+      → Stands r₀ words out₀ u (at + taken) (used + 5 * n) ((used + 5 * n) / 5) (dropped + d) (putMid used (length out - used) out last)
+  and-part {n = n} q = let sum : used / 5 + n ≡ (used + 5 * n) / 5 = omega arith in rw sum at (on s q)
+
+  -- with another name for the reader that is left; and for the one that was handed in, with five places for each report
+  pub leaves : {u : Reader} → r ≡ u → Stands r₀ words out₀ u at used (used / 5) dropped out
+  leaves e = subst (λ (u : Reader). Stands r₀ words out₀ u at used (used / 5) dropped out) e s
+
+  pub handed : {u : Reader} → r₀ ≡ u → Stands u words out₀ r at (5 * (used / 5)) (used / 5) dropped out
+  handed e =
+      subst (λ (u : Reader). Stands u words out₀ r at (5 * (used / 5)) (used / 5) dropped out) e
+      (subst (λ (k : ℕ). Stands r₀ words out₀ r at k (used / 5) dropped out) (far s .places) s)

@@ -1,7 +1,7 @@
 // Over many words: a line, and the numbers of its reports to a lent slice.
 ghost use mathlib.Core.Path.{_≡_};
 ghost use mathlib.Core.Bool.{true};
-ghost use Prim.Native.Nat.{_/_, _<_, _≤_};
+ghost use Prim.Native.Nat.{_*_, _/_, _<_, _≤_};
 ghost use mathlib.Core.List.{_++_};
 ghost use lib.ListN.{length, drop};
 ghost use Rattle.reader.specs.State.{ready, fiveOf};
@@ -14,8 +14,7 @@ use crate::Reader;
 use crate::Reading;
 use crate::SILENCE;
 use crate::SUCCESS;
-use crate::whole::Run;
-use crate::whole::after;
+use crate::state::no_bytes;
 use crate::whole::passed;
 use crate::whole::whole;
 use wire::Report;
@@ -96,31 +95,16 @@ impl Reader {
         self.counted(s, out)
     }
 
-    // The whole reports at the front, where the reader is ready for them and the first is one.
-    fn quickly(self, size: usize, marked: bool, words: &[u16], out: &mut [i16]) -> Run
+    // Whether the reader is ready, and a whole report stands at the front.
+    fn begins(self, size: usize, marked: bool, words: &[u16]) -> bool
         requires { ⌜ Sized size marked self ⌝ }
-        ensures { λ q. ⌜ Stands self (now (words .entry)) (now (out .entry)) self (q .taken) (q .used) (q .used / 5) 0 (now (out .exit)) ⌝ }
+        ensures { λ b. ⌜ (b ≡ true → self ≡ ready (self .format)) ⌝ }
     {
         let ready = (self.count == 0) & !self.awaiting;
         if !(ready & (size <= words.len())) {
-            return after(0, 0);
+            return false;
         }
-        if !whole(self.format, size, words) {
-            return after(0, 0);
-        }
-        passed(self.format, words, out)
-    }
-
-    // How many of the words at the front are silences, where the reader is ready; or none.
-    fn silences(self, words: &[u16]) -> usize
-        requires { ⌜ good self ≡ true ⌝ }
-        ensures { λ n. ⌜ Alike 257 257 n (now (words .entry)) × (0 < n → self ≡ ready (self .format)) ⌝ }
-    {
-        let ready = (self.count == 0) & !self.awaiting;
-        if !ready {
-            return 0;
-        }
-        alike(SILENCE, SILENCE, words)
+        whole(self.format, size, words)
     }
 
     // Words one by one, up to a report or a silence, behind which whole reports may stand. Where U, T or W lost a byte they await a silence, and each byte
@@ -179,27 +163,41 @@ impl Reader {
         }
     }
 
-    // A part of the line: words one by one, and the whole reports behind them.
-    fn part(self, size: usize, marked: bool, words: &[u16], out: &mut [i16]) -> Reading
-        requires { ⌜ Sized size marked self ⌝ }
-        ensures { λ r. ⌜ Begins self (now (words .entry)) (now (out .entry)) r (now (out .exit)) ⌝ }
+    // The words at the front of a line, where the reader is ready: whole reports, silences, and words one by one up to where it is ready again; as long as it is.
+    fn swiftly(self, quick: bool, words: &[u16], out: &mut [i16]) -> Reading
+        requires { ⌜ (good self ≡ true) × (quick ≡ true → self ≡ ready (self .format)) ⌝ }
+        ensures { λ t. ⌜
+            Stands self (now (words .entry)) (now (out .entry)) (t .next) (t .taken) (5 * t .reports) (t .reports) (t .dropped) (now (out .exit)) × (good (t .next) ≡ true) × (t .next .format ≡ self .format)
+            ⌝ }
     {
-        let t = self.by_letter(words, out);
-        let next = t.next;
-        let at = t.taken;
-        let ready = (next.count == 0) & !next.awaiting;
-        if (at == 0) | !ready {
-            return t;
+        if !quick {
+            return reading(SUCCESS, self, 0, 0, 0);
         }
-        let used = 5 * t.reports;
-        let q = passed(next.format, &words[at..], &mut out[used..]);
-        reading(
-            SUCCESS,
-            next,
-            at + q.taken,
-            t.reports + q.used / 5,
-            t.dropped,
-        )
+        let letter = self.format;
+        let ready = no_bytes(letter, false);
+        let mut at: usize = 0;
+        let mut used: usize = 0;
+        let mut dropped: usize = 0;
+        while at < words.len() {
+            let q = passed(letter, &words[at..], &mut out[used..]);
+            at = at + q.taken;
+            used = used + q.used;
+            let n = alike(SILENCE, SILENCE, &words[at..]);
+            if n > 0 {
+                at = at + n;
+                continue;
+            }
+            let t = ready.by_letter(&words[at..], &mut out[used..]);
+            let next = t.next;
+            at = at + t.taken;
+            used = used + 5 * t.reports;
+            dropped = dropped + t.dropped;
+            let calm = (next.count == 0) & !next.awaiting;
+            if !calm | (t.taken == 0) {
+                return reading(SUCCESS, next, at, used / 5, dropped);
+            }
+        }
+        reading(SUCCESS, ready, at, used / 5, dropped)
     }
 
     // A line of one word.
@@ -211,7 +209,7 @@ impl Reader {
         self.counted(s, out)
     }
 
-    // The words of a line: whole reports at its front, and then part after part, or silences and the whole reports behind them. What is left of it, from the
+    // The words of a line: swiftly where the reader is ready, and one by one up to where it is again, or may go no further. What is left of the line, from the
     // next word on, is handed over with the reader that came back and the places that are left.
     pub(crate) fn line(self, size: usize, marked: bool, words: &[u16], out: &mut [i16]) -> Reading
         requires { ⌜ Sized size marked self ⌝ }
@@ -220,33 +218,28 @@ impl Reader {
         if words.len() == 1 {
             return self.single(size, marked, words, out);
         }
-        let q = self.quickly(size, marked, words, out);
         let mut r = self;
-        let mut at = q.taken;
-        let mut used = q.used;
-        let mut reports = q.used / 5;
+        let mut at: usize = 0;
+        let mut used: usize = 0;
         let mut dropped: usize = 0;
+        let mut quick = self.begins(size, marked, words);
         while at < words.len() {
-            let n = r.silences(&words[at..]);
-            if n > 0 {
-                at = at + n;
-                let q = passed(r.format, &words[at..], &mut out[used..]);
-                at = at + q.taken;
-                used = used + q.used;
-                reports = reports + q.used / 5;
-                continue;
-            }
-            let t = r.part(size, marked, &words[at..], &mut out[used..]);
+            let q = r.swiftly(quick, &words[at..], &mut out[used..]);
+            let mid = q.next;
+            at = at + q.taken;
+            used = used + 5 * q.reports;
+            dropped = dropped + q.dropped;
+            let t = mid.slowly(mid.format, size, marked, &words[at..], &mut out[used..]);
             if t.taken == 0 {
-                return reading(t.refusal, r, at, reports, dropped);
+                return reading(t.refusal, mid, at, used / 5, dropped);
             }
             let next = t.next;
             r = next;
             at = at + t.taken;
             used = used + 5 * t.reports;
-            reports = reports + t.reports;
             dropped = dropped + t.dropped;
+            quick = (next.count == 0) & !next.awaiting;
         }
-        reading(SUCCESS, r, at, reports, dropped)
+        reading(SUCCESS, r, at, used / 5, dropped)
     }
 }

@@ -1,116 +1,65 @@
 -- `line`: at the loop's head what is done, joined to what the rest of the line does, is the whole.
 use Prim.Native.Nat.{_-_, _+_, _*_, _/_}
-use mathlib.Core.Path.{_∙_, ap}
-use mathlib.Core.List.{List}
+use mathlib.Core.Path.{_≡_, refl, _∙_, ap}
+use mathlib.Core.Bool.{true}
 use native.Mathlib.Omega.{arith}
 use lib.ListN.{length}
-use lib.IntN.{ℤ}
 use borrow.Author.Needs.{needs}
 use borrow.Rule.Slice.PartMut.{putMid}
 use Rattle.wire.proofs.Letters.{at-most-five}
+use Rattle.reader.specs.State.{ready}
 use Rattle.reader.specs.Line.{whole}
 use Rattle.reader.specs.Parts.{Stands, Sized}
 use Rattle.reader.proofs.Parts.{stays-sized}
-use Rattle.reader.proofs.Loop.{far, more, unchanged, ends-before, ends-all, silent, silent-run}
+use Rattle.reader.proofs.WholeReports.{is-ready}
+use Rattle.reader.proofs.Loop.{starts, far, unchanged, ends-before, ends-all, and-part}
 use Rattle.reader.proofs.Reader.line.Statement.{statement}
 use Rattle.reader.proofs.Reader.line.Tie as tie
 
--- whatever the slice was before the whole reports at the front
 abbrev Inv-loop : tie.InvT-loop
-Inv-loop size marked words out₀ r₀ at₀ used₀ reports₀ dropped₀ out r at used reports dropped =
-    ((before : List ℤ) → Stands r₀ words before r₀ at₀ used₀ reports₀ dropped₀ out₀ → Stands r₀ words before r at used reports dropped out) × Sized size marked r
+Inv-loop size marked words out₀ r₀ at₀ used₀ dropped₀ quick₀ out r at used dropped quick =
+    Stands r₀ words out₀ r at used (used / 5) dropped out × Sized size marked r × (quick ≡ true → r ≡ ready (r .format))
 
 abbrev μ-loop : tie.MeasureT-loop
-μ-loop size marked words out₀ r₀ at₀ used₀ reports₀ dropped₀ out r at used reports dropped = length words - at
+μ-loop size marked words out₀ r₀ at₀ used₀ dropped₀ quick₀ out r at used dropped quick = length words - at
 
 loop-holds : tie.Need-loop-holds Inv-loop μ-loop
-loop-holds c = (λ before s. s, c .before .before .before .before .before .before .pre)
+loop-holds c = let s = c .before .before .before in (starts (s .args .self) (s .args .words .now) (s .args .out .now), s .pre, c .begins .ensures)
 
--- where it stands at the loop's head
-here : (c : tie.At-loop Inv-loop μ-loop) → let l = c .loop in
-    let a = c .before .before .before .before .before .before .before .args in
-    Stands (a .self) (a .words .now) (a .out .now) (l .r) (l .at) (l .used) (l .reports) (l .dropped) (l .out)
-here c = c .loop .inv .0 (c .before .before .before .before .before .before .before .args .out .now) (c .before .before .before .quickly .ensures)
+-- where it stands when the reader was ready, and is no more
+here : (c : tie.After-swiftly Inv-loop μ-loop) → let l = c .before .before .before .before .loop in
+    let a = c .before .before .before .before .before .before .before .before .args in
+    let q = c .swiftly .result in
+    let used = l .used + 5 * q .reports in
+    Stands (a .self) (a .words .now) (a .out .now) (q .next) (l .at + q .taken) used (used / 5) (l .dropped + q .dropped) (putMid (l .used) (length (l .out) - l .used) (l .out) (c .swiftly .last .1 .1 .1 .0))
+here c = and-part (c .before .before .before .before .loop .inv .0) (c .swiftly .ensures .0)
 
-silences-requires : tie.Need-silences-requires Inv-loop μ-loop
-silences-requires c κs = c .before .before .loop .inv .1 .sound
+sized : (c : tie.After-swiftly Inv-loop μ-loop) → let a = c .before .before .before .before .before .before .before .before .args in Sized (a .size) (a .marked) (c .swiftly .result .next)
+sized c = let e = c .swiftly .ensures in stays-sized (c .before .before .before .before .loop .inv .1) (e .1) (e .2)
 
--- where it stands when silences were passed
-quiet : (c : tie.Then2 Inv-loop μ-loop) → let l = c .before .before .before .before .loop in
-    let a = c .before .before .before .before .before .before .before .before .before .before .before .args in
-    Stands (a .self) (a .words .now) (a .out .now) (l .r) (l .at + c .before .silences .result) (l .used) (l .reports) (l .dropped) (l .out)
-quiet c = let e = c .before .silences .ensures in silent (here (c .before .before .before .before)) (e .1 (c .if2 .taken)) (e .0)
-
--- and when a run behind them was
-ran : (c : tie.After-passed Inv-loop μ-loop) → let l = c .before .before .before .before .before .before .before .loop in
-    let a = c .before .before .before .before .before .before .before .before .before .before .before .before .before .before .args in
-    let q = c .passed .result in
-    (before : List ℤ) → Stands (a .self) (a .words .now) before (l .r) (l .at) (l .used) (l .reports) (l .dropped) (l .out)
-    → Stands (a .self) (a .words .now) before (l .r) (l .at + c .before .before .before .before .silences .result + q .taken) (l .used + q .used) (l .reports + q .used / 5) (l .dropped)
-    (putMid (l .used) (length (l .out) - l .used) (l .out) (c .passed .last .1 .1 .0))
-ran c before s = let e = c .before .before .before .before .silences .ensures in silent-run s (e .1 (c .before .before .before .if2 .taken)) (e .0) (c .passed .ensures)
-
-add-at-2 : tie.Need-add-at-2 Inv-loop μ-loop
-add-at-2 c = omega (arith, far (ran (c .before .before) _ (here (c .before .before .before .before .before .before .before .before .before))), c .before .before .before .before .before .before .before .before .before .before .before .before .before .before .before .before .good .1 .1 .1 .0 .1)
-
-add-used : tie.Need-add-used Inv-loop μ-loop
-add-used c = omega (arith, far (ran (c .before .before .before) _ (here (c .before .before .before .before .before .before .before .before .before .before))), c .before .before .before .before .before .before .before .before .before .before .before .before .before .before .before .before .before .good .1 .1 .1 .1 .0 .1)
-
-add-reports : tie.Need-add-reports Inv-loop μ-loop
-add-reports c = omega (arith, far (ran (c .before .before .before .before) _ (here (c .before .before .before .before .before .before .before .before .before .before .before))), c .before .before .before .before .before .before .before .before .before .before .before .before .before .before .before .before .before .before .good .1 .1 .1 .1 .0 .1)
-
-loop-less : tie.Need-loop-less Inv-loop μ-loop
-loop-less c = omega (arith, far (ran (c .before .before .before .before) _ (here (c .before .before .before .before .before .before .before .before .before .before .before))))
-
-loop-again : tie.Need-loop-again Inv-loop μ-loop
-loop-again c = let i = c .before .before .before .before .before .before .before .before .before .before .before .loop .inv in (λ before s. ran (c .before .before .before .before) before (i .0 before s), i .1)
-
-part-requires : tie.Need-part-requires Inv-loop μ-loop
-part-requires c κs = c .before .before .before .before .before .before .loop .inv .1
+-- and behind the words one by one
+turn : (c : tie.After-slowly Inv-loop μ-loop) → let l = c .before .before .before .before .before .before .before .before .before .before .before .before .loop in
+    let a = c .before .before .before .before .before .before .before .before .before .before .before .before .before .before .before .before .args in
+    let q = c .before .before .before .before .before .before .before .before .swiftly .result in
+    let t = c .slowly .result in
+    let used = l .used + 5 * q .reports in
+    let out = putMid (l .used) (length (l .out) - l .used) (l .out) (c .before .before .before .before .before .before .before .before .swiftly .last .1 .1 .1 .0) in
+    let later = used + 5 * t .reports in
+    Stands (a .self) (a .words .now) (a .out .now) (t .next) (l .at + q .taken + t .taken) later (later / 5) (l .dropped + q .dropped + t .dropped) (putMid used (length out - used) out (c .slowly .last .1 .1 .1 .1 .1 .0))
+turn c = and-part (here (c .before .before .before .before .before .before .before .before)) (c .slowly .ensures .stands)
 
 same-length-2 : tie.Need-same-length-2 Inv-loop μ-loop
-same-length-2 c = let s = here (c .before .before .before .before .before .before .before .before .before .before .before) in ap length (unchanged s (c .before .before .before .before .part .ensures) (c .before .if3 .taken)) ∙ far s .long
+same-length-2 c = let s = here (c .before .before .before .before .before .before .before .before .before .before .before .before) in ap length (unchanged s (c .before .before .before .before .slowly .ensures) (c .before .if2 .taken)) ∙ far s .long
 
 returns-2 : tie.Need-returns-2 Inv-loop μ-loop
-returns-2 c = let s = here (c .before .before .before .before .before .before .before .before .before .before .before) in
-    let b = c .before .before .before .before .part .ensures in
-    rw (c .reading .ensures) (ap (whole _) (unchanged s b (c .before .if3 .taken)) ∙ ends-before s b (c .before .if3 .taken))
+returns-2 c = let s = here (c .before .before .before .before .before .before .before .before .before .before .before .before) in
+    let b = c .before .before .before .before .slowly .ensures in
+    rw (c .reading .ensures) (ap (whole _) (unchanged s b (c .before .if2 .taken)) ∙ ends-before s b (c .before .if2 .taken))
 
--- where it stands when words were taken
-turn : (c : tie.After-next Inv-loop μ-loop) → let f = c .before .before .before .before in
-    let l = c .before .before .before .before .before .before .before .before .before .before .before .loop in
-    let a = c .before .before .before .before .before .before .before .before .before .before .before .before .before .before .before .before .before .before .args in
-    let t = f .part .result in
-    Stands (a .self) (a .words .now) (a .out .now) (t .next) (l .at + t .taken) (l .used + 5 * t .reports) (l .reports + t .reports) (l .dropped + t .dropped)
-    (putMid (l .used) (length (l .out) - l .used) (l .out) (f .part .last .1 .1 .1 .1 .0))
-turn c = more (here (c .before .before .before .before .before .before .before .before .before .before .before)) (c .before .before .before .before .part .ensures)
-
-add-at-3 : tie.Need-add-at-3 Inv-loop μ-loop
-add-at-3 c = omega (arith, far (turn (c .before)), c .before .before .before .before .before .before .before .before .before .before .before .before .before .before .before .before .before .before .before .good .1 .1 .1 .0 .1)
-
-mul-used : tie.Need-mul-used Inv-loop μ-loop
-mul-used c = omega (arith, far (turn (c .before .before)), c .before .before .before .before .before .before .before .before .before .before .before .before .before .before .before .before .before .before .before .before .good .1 .1 .1 .1 .0 .1)
-
-add-used-2 : tie.Need-add-used-2 Inv-loop μ-loop
-add-used-2 c = omega (arith, far (turn (c .before .before)), c .before .before .before .before .before .before .before .before .before .before .before .before .before .before .before .before .before .before .before .before .good .1 .1 .1 .1 .0 .1)
-
-add-reports-2 : tie.Need-add-reports-2 Inv-loop μ-loop
-add-reports-2 c = omega (arith, far (turn (c .before .before .before)), c .before .before .before .before .before .before .before .before .before .before .before .before .before .before .before .before .before .before .before .before .before .good .1 .1 .1 .1 .0 .1)
-
-add-dropped : tie.Need-add-dropped Inv-loop μ-loop
-add-dropped c = let s = c .before .before .before .before .before .before .before .before .before .before .before .before .before .before .before .before .before .before .before .before .before .before in omega (arith, far (turn (c .before .before .before .before)), s .pre .below, s .pre .sized, at-most-five (s .args .self .format), s .good .1 .1 .1 .0 .1)
-
-loop-less-2 : tie.Need-loop-less-2 Inv-loop μ-loop
-loop-less-2 c = omega (arith, c .before .before .before .before .before .before .before .before .before .before .before .before .before .before .loop-test .taken)
-
-loop-again-2 : tie.Need-loop-again-2 Inv-loop μ-loop
-loop-again-2 c = let b = c .before .before .before .before .before .before .before .before .part .ensures in (λ before s. more (c .before .before .before .before .before .before .before .before .before .before .before .before .before .before .before .loop .inv .0 before s) b, stays-sized (c .before .before .before .before .before .before .before .before .before .before .before .before .before .before .before .loop .inv .1) (b .sound) (b .same-format))
-
-same-length-3 : tie.Need-same-length-3 Inv-loop μ-loop
-same-length-3 c = far (here (c .before .before)) .long
-
-returns-3 : tie.Need-returns-3 Inv-loop μ-loop
-returns-3 c = rw (c .reading2 .ensures) (ends-all (here (c .before .before)) (c .before .loop-test .left))
+loop-again : tie.Need-loop-again Inv-loop μ-loop
+loop-again c = let t = c .before .before .before .before .before .before .before .before .before .slowly in
+    let b = t .ensures in
+    (turn (c .before .before .before .before .before .before .before .before .before), stays-sized (sized (c .before .before .before .before .before .before .before .before .before .before .before .before .before .before .before .before .before)) (b .sound) (b .same-format), is-ready (t .result .next) (b .sound))
 
 pub line-spec : {M : Type 1} → statement M
 line-spec =
@@ -127,41 +76,33 @@ line-spec =
     (λ c. omega arith)
     (λ c. omega arith)
     (λ c. search needs)
-    silences-requires
-    (λ c. omega (arith, far (quiet c), c .before .before .before .before .before .before .before .before .before .before .before .good .1 .1 .1 .0 .1))
-    (λ c. omega (arith, far (quiet c), c .before .before .before .before .before .before .before .before .before .before .before .good .1 .1 .1 .0 .1))
-    (λ c. omega (arith, far (quiet c), c .before .before .before .before .before .before .before .before .before .before .before .good .1 .1 .1 .0 .1))
-    (λ c. omega (arith, far (quiet c)))
+    (λ c. omega (arith, far (c .before .before .loop .inv .0), c .before .before .before .before .before .before .good .1 .1 .1 .1 .0 .1))
+    (λ c. omega (arith, far (c .before .before .loop .inv .0), c .before .before .before .before .before .before .good .1 .1 .1 .1 .0 .1))
+    (λ c. omega (arith, far (c .before .before .loop .inv .0)))
     (λ c. search needs)
-    (λ c. omega (arith, far (quiet (c .before)), c .before .before .before .before .before .before .before .before .before .before .before .before .good .1 .1 .1 .1 .0 .1))
-    (λ c. omega (arith, far (quiet (c .before)), c .before .before .before .before .before .before .before .before .before .before .before .before .good .1 .1 .1 .1 .0 .1))
-    (λ c. omega (arith, far (quiet (c .before))))
+    (λ c κs. let i = c .before .before .before .loop .inv in (i .1 .sound, i .2))
+    (λ c. omega (arith, far (here (c .before .before .before)), c .before .before .before .before .before .before .before .before .before .before .before .good .1 .1 .1 .0 .1))
+    (λ c. omega (arith, far (here (c .before .before .before .before)), c .before .before .before .before .before .before .before .before .before .before .before .before .good .1 .1 .1 .1 .0 .1))
+    (λ c. omega (arith, far (here (c .before .before .before .before)), c .before .before .before .before .before .before .before .before .before .before .before .before .good .1 .1 .1 .1 .0 .1))
+    (λ c. let s = c .before .before .before .before .before .before .before .before .before .before .before .before .before in omega (arith, far (here (c .before .before .before .before .before)), s .pre .below, s .pre .sized, at-most-five (s .args .self .format), s .good .1 .1 .1 .0 .1))
+    (λ c. omega (arith, far (here (c .before .before .before .before .before)), c .before .before .before .before .before .before .before .before .before .before .before .before .before .good .1 .1 .1 .0 .1))
+    (λ c. omega (arith, far (here (c .before .before .before .before .before)), c .before .before .before .before .before .before .before .before .before .before .before .before .before .good .1 .1 .1 .0 .1))
+    (λ c. omega (arith, far (here (c .before .before .before .before .before))))
     (λ c. search needs)
-    (λ c κs. search needs)
-    add-at-2
-    add-used
-    add-reports
-    loop-less
-    loop-again
-    (λ c. omega arith)
-    (λ c. omega arith)
-    (λ c. omega arith)
+    (λ c. omega (arith, far (here (c .before .before .before .before .before .before)), c .before .before .before .before .before .before .before .before .before .before .before .before .before .before .good .1 .1 .1 .1 .0 .1))
+    (λ c. omega (arith, far (here (c .before .before .before .before .before .before)), c .before .before .before .before .before .before .before .before .before .before .before .before .before .before .good .1 .1 .1 .1 .0 .1))
+    (λ c. omega (arith, far (here (c .before .before .before .before .before .before))))
     (λ c. search needs)
-    (λ c. omega (arith, far (here (c .before .before .before .before .before)), c .before .before .before .before .before .before .before .before .before .before .before .before .good .1 .1 .1 .1 .0 .1))
-    (λ c. omega (arith, far (here (c .before .before .before .before .before)), c .before .before .before .before .before .before .before .before .before .before .before .before .good .1 .1 .1 .1 .0 .1))
-    (λ c. omega (arith, far (here (c .before .before .before .before .before)), c .before .before .before .before .before .before .before .before .before .before .before .before .good .1 .1 .1 .1 .0 .1))
-    (λ c. search needs)
-    part-requires
+    (λ c κs. (refl, sized (c .before .before .before .before .before .before .before)))
     (λ c κs. search needs)
     same-length-2
     returns-2
-    add-at-3
-    mul-used
-    add-used-2
-    add-reports-2
-    add-dropped
-    loop-less-2
-    loop-again-2
+    (λ c. omega (arith, far (turn (c .before .before .before .before .before)), c .before .before .before .before .before .before .before .before .before .before .before .before .before .before .before .before .before .before .before .before .before .good .1 .1 .1 .0 .1))
+    (λ c. omega (arith, far (turn (c .before .before .before .before .before .before)), c .before .before .before .before .before .before .before .before .before .before .before .before .before .before .before .before .before .before .before .before .before .before .good .1 .1 .1 .1 .0 .1))
+    (λ c. omega (arith, far (turn (c .before .before .before .before .before .before)), c .before .before .before .before .before .before .before .before .before .before .before .before .before .before .before .before .before .before .before .before .before .before .good .1 .1 .1 .1 .0 .1))
+    (λ c. let s = c .before .before .before .before .before .before .before .before .before .before .before .before .before .before .before .before .before .before .before .before .before .before .before in omega (arith, far (turn (c .before .before .before .before .before .before .before)), s .pre .below, s .pre .sized, at-most-five (s .args .self .format), s .good .1 .1 .1 .0 .1))
+    (λ c. omega (arith, far (turn (c .before .before .before .before .before .before .before .before .before)), c .before .before .before .before .before .before .if2 .left, c .before .before .before .before .before .before .before .before .before .before .before .before .before .before .before .before .before .before .before .before .loop-test .taken))
+    loop-again
     (λ c κs. search needs)
-    same-length-3
-    returns-3)
+    (λ c. far (c .before .before .loop .inv .0) .long)
+    (λ c. rw (c .reading2 .ensures) (ends-all (c .before .before .loop .inv .0) (c .before .loop-test .left))))
