@@ -1,35 +1,25 @@
-// calls: calls of the functions below those for C, with states, words and buffers that look random, wrong ones too. The C program of the same name hands the same
-// to the C functions and must write the same.
+// calls: calls of the functions below those for C, with states, words and rooms that look random, wrong ones too: long
+// reads, steps of the box, pieces for the lister and ends. The C program of the same name hands the same to the C
+// functions and must write the same: of each one number over all that the calls gave back.
 mod boxes;
-mod bridges;
 mod draws;
-mod encoder;
 mod listers;
 mod mixes;
 mod print;
-mod puckreaders;
-mod pucks;
-mod readbacks;
 mod readers;
-mod salvages;
-mod told;
-mod yards;
 
 fn main() {
-    readers::fresh();
-    readers::steps();
-    readers::reads();
-    encoder::encodes();
-    boxes::steps();
-    listers::recordings();
-    yards::calls();
-    bridges::fresh();
-    bridges::converts();
-    told::turns();
-    salvages::picks();
-    salvages::recordings();
-    readbacks::listings();
-    pucks::steps();
-    puckreaders::steps();
-    puckreaders::reads();
+    let mut read = readers::first();
+    let mut stepped = boxes::first();
+    let mut listed = listers::first();
+    let mut call: u64 = 0;
+    while call < 100000 {
+        read = readers::turn(read, call);
+        stepped = boxes::turn(stepped, call);
+        listed = listers::turn(listed, call);
+        call += 1;
+    }
+    print::line(b"istrolf_reader_read", read.sum);
+    print::line(b"istrolf_box", stepped.sum);
+    print::line(b"istrolf_lister", listed.sum);
 }

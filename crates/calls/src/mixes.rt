@@ -1,6 +1,5 @@
 // One number for all that a call gives back, in which each of its numbers has its place.
 use reader::Reader;
-use wire::Report;
 
 pub(crate) fn number(h: u64, v: u64) -> u64 {
     let high = ((h % 2147483647) * 31 + v / 4294967296) % 2147483647;
@@ -45,10 +44,6 @@ fn numbers(h: u64, v: &[i16]) -> u64 {
     sum
 }
 
-pub(crate) fn three(h: u64, v: &[u8; 3]) -> u64 {
-    bytes(h, v)
-}
-
 pub(crate) fn five(h: u64, v: &[u8; 5]) -> u64 {
     bytes(h, v)
 }
@@ -65,13 +60,10 @@ pub(crate) fn twelve(h: u64, v: &[i16; 12]) -> u64 {
     numbers(h, v)
 }
 
-pub(crate) fn report(h: u64, p: Report) -> u64 {
-    let pair = signed(signed(byte(h, p.buttons), p.x1), p.y1);
-    signed(signed(pair, p.x2), p.y2)
-}
-
-// A reader, with its mark as C holds it.
-pub(crate) fn reader(h: u64, r: Reader, awaiting: u8) -> u64 {
+pub(crate) fn reader(h: u64, r: Reader) -> u64 {
     let kept = r.kept;
-    byte(byte(five(byte(h, r.format), &kept), r.count), awaiting)
+    byte(
+        byte(five(byte(h, r.format), &kept), r.count),
+        r.awaiting as u8,
+    )
 }

@@ -46,11 +46,5 @@ cast-result c = rw (kept c) (tt, record { fits = omega (arith, small (c .before 
 cast-result-2 : tie.Need-cast-result-2
 cast-result-2 c = rw (same (c .before), up (c .before .args .v) (above c)) (tt, record { fits = omega (arith, few (c .before .args .v) (c .before .fits .v) (above c)) })
 
-returns : tie.Need-returns
-returns c = search needs
-
-returns-2 : tie.Need-returns-2
-returns-2 c = search needs
-
 pub distance-spec : {M : Type 1} → statement M
-distance-spec = tie.close (tie.spec sub-result cast-result cast-result-2 returns returns-2)
+distance-spec = tie.close (tie.spec sub-result cast-result cast-result-2 (λ c. search needs) (λ c. search needs))

@@ -11,41 +11,17 @@ Inv-loop h v sum₀ i₀ sum i = Unit {0}
 abbrev μ-loop : tie.MeasureT-loop
 μ-loop h v sum₀ i₀ sum i = length v - i
 
-loop-holds : tie.Need-loop-holds Inv-loop μ-loop
-loop-holds c = search needs
-
-mul-signed : tie.Need-mul-signed Inv-loop μ-loop
-mul-signed c = search needs
-
-shared-slice-copy-out-signed : tie.Need-shared-slice-copy-out-signed Inv-loop μ-loop
-shared-slice-copy-out-signed c = search needs
-
-signed-requires : tie.Need-signed-requires Inv-loop μ-loop
-signed-requires c κs = search needs
-
-add-i : tie.Need-add-i Inv-loop μ-loop
-add-i c = search needs
-
-loop-less : tie.Need-loop-less Inv-loop μ-loop
-loop-less c = search needs
-
-loop-again : tie.Need-loop-again Inv-loop μ-loop
-loop-again c = search needs
-
-returns : tie.Need-returns Inv-loop μ-loop
-returns c = search needs
-
 pub numbers-spec : {M : Type 1} → statement M
 numbers-spec =
     tie.close
     (tie.spec
     Inv-loop
     μ-loop
-    loop-holds
-    mul-signed
-    shared-slice-copy-out-signed
-    signed-requires
-    add-i
-    loop-less
-    loop-again
-    returns)
+    (λ c. search needs)
+    (λ c. search needs)
+    (λ c. search needs)
+    (λ c κs. search needs)
+    (λ c. search needs)
+    (λ c. search needs)
+    (λ c. search needs)
+    (λ c. search needs))
