@@ -13,6 +13,10 @@ int main(void) {
         istrolf_converted a = istrolf_bridge_convert(bridge, line + at, piece, bytes, sizeof bytes);
         for (size_t i = 0; i < 3 * a.sent; i++) printf("%d%s", bytes[i], i % 3 < 2 ? " " : "\n");
         if (a.dropped) printf("dropped %d\n", (int)a.dropped);
+        if (a.refusal) {
+            printf("refused %d\n", a.refusal); /* another call would be refused too */
+            return 1;
+        }
         bridge = a.next;
         at += a.taken;
     }

@@ -75,7 +75,8 @@ static void encoder(void) {
     same("encoding.length", (long long)e.length, 5);
     for (int i = 0; i < 7; i++) same("buffer", buffer[i], bytes[i]);
     const istrolf_report wide[4] = {{0, 900, 0, 0, 0}, {0, 0, 900, 0, 0}, {0, 0, 0, 900, 0}, {0, 0, 0, 0, 900}};
-    for (int i = 0; i < 4; i++) same("report", istrolf_encode('U', wide[i], buffer, 7).refusal, ISTROLF_BAD_X1 + i);
+    const uint8_t told[4] = {ISTROLF_BAD_X1, ISTROLF_BAD_Y1, ISTROLF_BAD_X2, ISTROLF_BAD_Y2};
+    for (int i = 0; i < 4; i++) same("report", istrolf_encode('U', wide[i], buffer, 7).refusal, told[i]);
     same("encoding.refusal", istrolf_encode('U', p, buffer, 4).refusal, ISTROLF_SHORT_BUFFER);
 }
 
@@ -126,11 +127,13 @@ static void box(void) {
     e.track.counter.x = 321, e.track.counter.y = -378;
     e.track.position.x = 323, e.track.position.y = 0;
     same_box(b, e);
+    same("track.counter.y, below 0", b.track.counter.y, -378);
     b = stepped(istrolf_box_motion(b, 32767, -32768), 0, 0, 0);
     e.track.counter.x = 32767, e.track.counter.y = -32768;
     e.track.position.x = 4095, e.track.position.y = 0;
     e.sums.counter.x = 33 + 321, e.sums.counter.y = 34 - 378;
     same_box(b, e);
+    same("sums.counter.y, below 0", b.sums.counter.y < 0, 1);
 
     /* the bytes go out in order; the last takes the state that was shown */
     for (int i = 1; i < 5; i++) {
@@ -338,21 +341,31 @@ static void bridge(void) {
     for (int i = 0; i < 14; i++) same("out", out[i], bytes[i]);
 
     /* no room: nothing is written, and the state stands before the word */
+    b.middle = 0, b.presses = 40700;
     a = istrolf_bridge_convert(b, words, 8, out, 8);
     same("converted.refusal", a.refusal, 0);
     same("converted.taken", (long long)a.taken, 0);
     same_reader(a.next.reader, 'A', four, 4, 0);
-    same_bridge(a.next, 1, 1, 700, 201, 302);
+    same_bridge(a.next, 1, 0, 40700, 201, 302);
+
+    /* in T there is no base, and a middle that was down and stays down is no press; the presses go up to 65535 */
+    const istrolf_bridge held = {{'T', {0}, 0, 0}, 0, 1, 65534, 0, 0};
+    const uint16_t taps[] = {ISTROLF_M, 0, 0, 0, 0, 0, ISTROLF_M, 0, 0};
+    a = istrolf_bridge_convert(held, taps, 3, out, 14);
+    same("converted.refusal", a.refusal, 0);
+    same("converted.reports", (long long)a.reports, 1);
+    same_bridge(a.next, 0, 1, 65534, 0, 0);
+    same("bridge.presses, the most", istrolf_bridge_convert(held, taps, 9, out, 14).next.presses, 65535);
 
     /* a mark of 2 in each place is refused, and handed back */
-    b.based = 2;
+    b.based = 2, b.x = -201, b.y = -302;
     a = istrolf_bridge_convert(b, words, 8, out, 14);
     same("converted.refusal", a.refusal, ISTROLF_BAD_STATE);
-    same_bridge(a.next, 2, 1, 700, 201, 302);
-    b.based = 1, b.middle = 2;
+    same_bridge(a.next, 2, 0, 40700, -201, -302);
+    b.based = 1, b.middle = 2, b.x = 201, b.y = 302;
     a = istrolf_bridge_convert(b, words, 8, out, 14);
     same("converted.refusal", a.refusal, ISTROLF_BAD_STATE);
-    same_bridge(a.next, 1, 2, 700, 201, 302);
+    same_bridge(a.next, 1, 2, 40700, 201, 302);
 }
 
 static void same_readback(istrolf_readback r, uint8_t width, uint8_t ended, uint8_t salvage, uint32_t last, uint32_t lines) {

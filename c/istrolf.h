@@ -14,10 +14,16 @@
  * and istrolf_bridge_convert before a bad word, istrolf_readback_read and istrolf_readback_rewrite before a line. Behind each function stand its refusals
  * in the order in which they are tested.
  *
- * Pointers. A pointer and the count of elements behind it stand for what you lend for the call alone: it is yours before and after, and nobody keeps
- * the pointer. It must point at that many elements, aligned as C has them, also when the count is 0 (any address that is not null will do then). What
- * is const is only read. What is not const is written from its front and must overlap nothing else that you hand to the same call; words or bytes
- * that are only read may overlap each other. Elements behind what was written keep their values. */
+ * Look at the refusal of each call. A call that was refused will be refused again if nothing is changed, so a loop that
+ * goes on until all is taken does not end by itself. A function ending in _fresh that is given a letter of no format
+ * answers BAD_LETTER, and beside it a fresh state of U, since there is no old one: it is a good one, no later call
+ * refuses it, and it takes the line for one of U.
+ *
+ * Pointers. A pointer and the count of elements behind it stand for what you lend for the call alone: it is yours
+ * before and after, and nobody keeps the pointer. It must point at that many elements, aligned as C has them. Where the
+ * count is 0 any address but null will do. What is const is only read. What is not const is written from its front and
+ * must overlap nothing else that you hand to the same call; words or bytes that are only read may overlap each other.
+ * Elements behind what was written keep their values. */
 #ifndef ISTROLF_H
 #define ISTROLF_H
 #include <stddef.h>
@@ -91,7 +97,10 @@ typedef struct {
     size_t dropped; /* bytes dropped */
 } istrolf_reading;
 
-/* A fresh reader of a format. Refusal: BAD_LETTER, and then the reader is a fresh one of U. */
+/* A fresh reader of a format. In S, V, A and B it takes the first report that begins. In U, T and W, where data can
+ * look like a first byte, it drops each byte up to the first ISTROLF_SILENCE, and so it does behind a byte that fits no
+ * place and behind an ISTROLF_BREAK: a port that tells no silences gets no report. Refusal: BAD_LETTER, and then the
+ * reader is a fresh one of U; look at the refusal. */
 istrolf_new_reader istrolf_reader_fresh(uint8_t letter);
 
 /* One word. Refusals: BAD_STATE, BAD_WORD. */
@@ -228,7 +237,7 @@ typedef struct {
     size_t sendable; /* how many words, from the first, can be sent: the place of the first that cannot */
 } istrolf_checked;
 
-/* A check of a format that has seen no word. Refusal: BAD_LETTER, and then the check is one of U. */
+/* A check of a format that has seen no word. Refusal: BAD_LETTER, and then it is one of U; look at the refusal. */
 istrolf_new_yard istrolf_yard_fresh(uint8_t letter);
 
 /* One word, for a log that comes in pieces. Behind a word that cannot be sent none can. Refusals: BAD_STATE, BAD_WORD. */
@@ -264,7 +273,8 @@ typedef struct {
 /* Room for all V reports that one report becomes; so many for each word, and a call takes them all. */
 enum { ISTROLF_BRIDGE_ROOM = 99 };
 
-/* A fresh bridge of the format that comes in. Refusal: BAD_LETTER, and then the bridge is a fresh one of U. */
+/* A fresh bridge of the format that comes in, with a fresh reader. Refusal: BAD_LETTER, and then the bridge is a fresh
+ * one of U; look at the refusal. */
 istrolf_new_bridge istrolf_bridge_fresh(uint8_t letter);
 
 /* Many words. Each report becomes the fewest V reports of at most 127 on either axis that add up to its movement, U's pairs summed, with its L and R.
@@ -388,14 +398,20 @@ typedef struct {
     size_t dropped; /* bytes dropped; those of replies are not among them */
 } istrolf_heard_words;
 
-/* A fresh one of a format, which awaits no reply. Refusal: BAD_LETTER, and then it is a fresh one of U. */
+/* A fresh one of a format, which awaits no reply, with a fresh reader. Refusal: BAD_LETTER, and then it is a fresh one
+ * of U; look at the refusal. */
 istrolf_new_told istrolf_told_fresh(uint8_t letter);
 
-/* This command was just sent: ' ', 'f', 't' or 5. Call it behind the break that the command itself may cause, and before the next word. It takes the place of an
- * unfinished reply. Refusals: BAD_STATE, NO_REPLY. */
+/* This command was sent: ' ', 'f', 't' or 5. Call it when the command has left the wire (behind tcdrain, and not behind
+ * write), behind the break that it may cause, and before the next word; hand over first what came before. Until it has
+ * left, the box goes on with its report, and a byte of that report can look like a reply; of 5 any byte does. Where the
+ * break, or a byte that was still on its way, comes only behind the call, the reply is ISTROLF_REPLY_BROKEN with a
+ * came.count of 0: nothing of it has come yet. Call again then, for the same command, and do not send it again. It takes
+ * the place of an unfinished reply. Refusals: BAD_STATE, NO_REPLY. */
 istrolf_told_command_answer istrolf_told_command(istrolf_told told, uint8_t byte);
 
-/* The byte just sent, any, woke a dormant box. Refusal: BAD_STATE. */
+/* The byte that was sent, any, woke a dormant box. Call it when that byte has left the wire, and again as above.
+ * Refusal: BAD_STATE. */
 istrolf_told_command_answer istrolf_told_waking(istrolf_told told);
 
 /* One word. Refusals: BAD_STATE, BAD_WORD. */
@@ -505,6 +521,97 @@ istrolf_read_puck_word istrolf_puck_reader_step(istrolf_puck_reader reader, uint
  * a self-test. Refusals: BAD_STATE; BAD_WORD, with all as it stands before the bad word. With 0 and taken below count, fewer than six numbers of out were left
  * for the next report: go on as with istrolf_reader_read. */
 istrolf_puck_reading istrolf_puck_reader_read(istrolf_puck_reader reader, const uint16_t *words, size_t count, int16_t *out, size_t room);
+
+/* ---- The layout of the structs in the archive, byte by byte. Where the language can ask, C11 and C++11, a caller
+ * whose compiler lays them out otherwise (packed, or not of 64 bits) does not compile. C99 cannot. */
+
+#if defined __cplusplus && __cplusplus >= 201103L
+#define ISTROLF_IS(fact) static_assert(fact, "libistrolf.a has this struct otherwise");
+#elif !defined __cplusplus && defined __STDC_VERSION__ && __STDC_VERSION__ >= 201112L
+#define ISTROLF_IS(fact) _Static_assert(fact, "libistrolf.a has this struct otherwise");
+#endif
+
+#ifdef ISTROLF_IS
+#define ISTROLF_SIZE(type, size) ISTROLF_IS(sizeof(istrolf_##type) == size)
+#define ISTROLF_AT(type, member, place) ISTROLF_IS(offsetof(istrolf_##type, member) == place)
+#define ISTROLF_BYTES(type, member, size) ISTROLF_IS(sizeof(((istrolf_##type *)0)->member) == size)
+ISTROLF_SIZE(report, 10) ISTROLF_AT(report, buttons, 0) ISTROLF_AT(report, x1, 2) ISTROLF_AT(report, y1, 4)
+    ISTROLF_AT(report, x2, 6) ISTROLF_AT(report, y2, 8)
+ISTROLF_SIZE(reader, 8) ISTROLF_AT(reader, format, 0) ISTROLF_AT(reader, kept, 1) ISTROLF_AT(reader, count, 6)
+    ISTROLF_AT(reader, awaiting, 7)
+ISTROLF_SIZE(new_reader, 9) ISTROLF_AT(new_reader, refusal, 0) ISTROLF_AT(new_reader, reader, 1)
+ISTROLF_SIZE(read_word, 22) ISTROLF_AT(read_word, refusal, 0) ISTROLF_AT(read_word, reports, 1)
+    ISTROLF_AT(read_word, dropped, 2) ISTROLF_AT(read_word, next, 3) ISTROLF_AT(read_word, report, 12)
+ISTROLF_SIZE(reading, 40) ISTROLF_AT(reading, refusal, 0) ISTROLF_AT(reading, next, 1) ISTROLF_AT(reading, taken, 16)
+    ISTROLF_AT(reading, reports, 24) ISTROLF_AT(reading, dropped, 32)
+ISTROLF_SIZE(encoding, 16) ISTROLF_AT(encoding, refusal, 0) ISTROLF_AT(encoding, length, 8)
+ISTROLF_SIZE(pair, 4) ISTROLF_AT(pair, x, 0) ISTROLF_AT(pair, y, 2)
+ISTROLF_SIZE(sum, 16) ISTROLF_AT(sum, x, 0) ISTROLF_AT(sum, y, 8)
+ISTROLF_SIZE(box, 80) ISTROLF_AT(box, settings.format, 0) ISTROLF_AT(box, settings.mode, 1)
+    ISTROLF_AT(box, settings.buttons, 2) ISTROLF_AT(box, track.counter, 4) ISTROLF_AT(box, track.position, 8)
+    ISTROLF_AT(box, track.last, 12) ISTROLF_AT(box, going.length, 16) ISTROLF_AT(box, going.sent, 17)
+    ISTROLF_AT(box, going.bytes, 18) ISTROLF_AT(box, memory.states, 23) ISTROLF_AT(box, memory.count, 31)
+    ISTROLF_AT(box, memory.showing, 32) ISTROLF_AT(box, sums.limit, 40) ISTROLF_AT(box, sums.counter, 56)
+    ISTROLF_AT(box, due, 72) ISTROLF_AT(box, dormant, 73)
+ISTROLF_SIZE(stepped, 88) ISTROLF_AT(stepped, refusal, 0) ISTROLF_AT(stepped, sent, 1) ISTROLF_AT(stepped, word, 2)
+    ISTROLF_AT(stepped, next, 8)
+ISTROLF_SIZE(lister, 32) ISTROLF_AT(lister, line, 0) ISTROLF_AT(lister, ended, 4) ISTROLF_AT(lister, held, 5)
+    ISTROLF_AT(lister, count, 16) ISTROLF_AT(lister, reader, 24)
+ISTROLF_SIZE(listed, 56) ISTROLF_AT(listed, refusal, 0) ISTROLF_AT(listed, ended, 1) ISTROLF_AT(listed, taken, 8)
+    ISTROLF_AT(listed, written, 16) ISTROLF_AT(listed, next, 24)
+ISTROLF_SIZE(yard, 5) ISTROLF_AT(yard, format, 0) ISTROLF_AT(yard, first, 1) ISTROLF_AT(yard, last, 2)
+    ISTROLF_AT(yard, count, 3) ISTROLF_AT(yard, ended, 4)
+ISTROLF_SIZE(new_yard, 6) ISTROLF_AT(new_yard, refusal, 0) ISTROLF_AT(new_yard, yard, 1)
+ISTROLF_SIZE(judged, 7) ISTROLF_AT(judged, refusal, 0) ISTROLF_AT(judged, can, 1) ISTROLF_AT(judged, next, 2)
+ISTROLF_SIZE(checked, 16) ISTROLF_AT(checked, refusal, 0) ISTROLF_AT(checked, proper, 1)
+    ISTROLF_AT(checked, sendable, 8)
+ISTROLF_SIZE(bridge, 16) ISTROLF_AT(bridge, reader, 0) ISTROLF_AT(bridge, based, 8) ISTROLF_AT(bridge, middle, 9)
+    ISTROLF_AT(bridge, presses, 10) ISTROLF_AT(bridge, x, 12) ISTROLF_AT(bridge, y, 14)
+ISTROLF_SIZE(new_bridge, 18) ISTROLF_AT(new_bridge, refusal, 0) ISTROLF_AT(new_bridge, bridge, 2)
+ISTROLF_SIZE(converted, 56) ISTROLF_AT(converted, refusal, 0) ISTROLF_AT(converted, next, 2)
+    ISTROLF_AT(converted, taken, 24) ISTROLF_AT(converted, reports, 32) ISTROLF_AT(converted, sent, 40)
+    ISTROLF_AT(converted, dropped, 48)
+ISTROLF_SIZE(readback, 12) ISTROLF_AT(readback, width, 0) ISTROLF_AT(readback, ended, 1)
+    ISTROLF_AT(readback, salvage, 2) ISTROLF_AT(readback, last, 4) ISTROLF_AT(readback, lines, 8)
+ISTROLF_SIZE(read_lines, 40) ISTROLF_AT(read_lines, refusal, 0) ISTROLF_AT(read_lines, line, 4)
+    ISTROLF_AT(read_lines, taken, 8) ISTROLF_AT(read_lines, items, 16) ISTROLF_AT(read_lines, next, 24)
+ISTROLF_SIZE(rewritten, 40) ISTROLF_AT(rewritten, refusal, 0) ISTROLF_AT(rewritten, line, 4)
+    ISTROLF_AT(rewritten, taken, 8) ISTROLF_AT(rewritten, written, 16) ISTROLF_AT(rewritten, next, 24)
+ISTROLF_SIZE(came, 3) ISTROLF_AT(came, count, 0) ISTROLF_AT(came, first, 1) ISTROLF_AT(came, second, 2)
+ISTROLF_SIZE(told, 12) ISTROLF_AT(told, reader, 0) ISTROLF_AT(told, awaited, 8) ISTROLF_AT(told, came, 9)
+ISTROLF_SIZE(reply, 7) ISTROLF_AT(reply, kind, 0) ISTROLF_AT(reply, format, 1) ISTROLF_AT(reply, mode, 2)
+    ISTROLF_AT(reply, buttons, 3) ISTROLF_AT(reply, came, 4)
+ISTROLF_SIZE(new_told, 13) ISTROLF_AT(new_told, refusal, 0) ISTROLF_AT(new_told, told, 1)
+ISTROLF_SIZE(told_command_answer, 14) ISTROLF_AT(told_command_answer, refusal, 0)
+    ISTROLF_AT(told_command_answer, discarded, 1) ISTROLF_AT(told_command_answer, next, 2)
+ISTROLF_SIZE(heard_word, 32) ISTROLF_AT(heard_word, refusal, 0) ISTROLF_AT(heard_word, reports, 1)
+    ISTROLF_AT(heard_word, dropped, 2) ISTROLF_AT(heard_word, reply, 3) ISTROLF_AT(heard_word, next, 10)
+    ISTROLF_AT(heard_word, report, 22)
+ISTROLF_SIZE(heard_words, 48) ISTROLF_AT(heard_words, refusal, 0) ISTROLF_AT(heard_words, reply, 1)
+    ISTROLF_AT(heard_words, next, 8) ISTROLF_AT(heard_words, taken, 24) ISTROLF_AT(heard_words, reports, 32)
+    ISTROLF_AT(heard_words, dropped, 40)
+ISTROLF_SIZE(picked, 32) ISTROLF_AT(picked, refusal, 0) ISTROLF_AT(picked, taken, 8) ISTROLF_AT(picked, runs, 16)
+    ISTROLF_AT(picked, left, 24)
+ISTROLF_SIZE(salvaged, 16) ISTROLF_AT(salvaged, whole, 0) ISTROLF_AT(salvaged, written, 8)
+ISTROLF_SIZE(puck, 88) ISTROLF_AT(puck, ball, 0) ISTROLF_AT(puck, test.left, 80) ISTROLF_AT(puck, test.buttons, 81)
+    ISTROLF_AT(puck, revision, 82) ISTROLF_AT(puck, maker, 83)
+ISTROLF_SIZE(stepped_puck, 96) ISTROLF_AT(stepped_puck, refusal, 0) ISTROLF_AT(stepped_puck, sent, 1)
+    ISTROLF_AT(stepped_puck, word, 2) ISTROLF_AT(stepped_puck, next, 8)
+ISTROLF_SIZE(self_test, 5) ISTROLF_AT(self_test, revision, 0) ISTROLF_AT(self_test, maker, 1)
+    ISTROLF_AT(self_test, device, 2) ISTROLF_AT(self_test, error, 3) ISTROLF_AT(self_test, buttons, 4)
+ISTROLF_SIZE(puck_reader, 4) ISTROLF_AT(puck_reader, kept, 0) ISTROLF_AT(puck_reader, count, 3)
+ISTROLF_SIZE(read_puck_word, 24) ISTROLF_AT(read_puck_word, refusal, 0) ISTROLF_AT(read_puck_word, movements, 1)
+    ISTROLF_AT(read_puck_word, tests, 2) ISTROLF_AT(read_puck_word, dropped, 3) ISTROLF_AT(read_puck_word, next, 4)
+    ISTROLF_AT(read_puck_word, movement, 8) ISTROLF_AT(read_puck_word, test, 18)
+ISTROLF_SIZE(puck_reading, 32) ISTROLF_AT(puck_reading, refusal, 0) ISTROLF_AT(puck_reading, next, 1)
+    ISTROLF_AT(puck_reading, taken, 8) ISTROLF_AT(puck_reading, reports, 16) ISTROLF_AT(puck_reading, dropped, 24)
+ISTROLF_BYTES(reader, kept, 5) ISTROLF_BYTES(box, going.bytes, 5) ISTROLF_BYTES(box, memory.states, 8)
+ISTROLF_BYTES(lister, held, 5) ISTROLF_BYTES(puck_reader, kept, 3)
+#undef ISTROLF_BYTES
+#undef ISTROLF_AT
+#undef ISTROLF_SIZE
+#undef ISTROLF_IS
+#endif
 
 #ifdef __cplusplus
 }

@@ -40,7 +40,12 @@ static void heard(recorder *r, const uint16_t *words, size_t count) {
         if (a.dropped > 0) printf("%zu dropped\n", a.dropped);
         words += a.taken;
         count -= a.taken;
-        if (a.refusal == ISTROLF_BAD_WORD) words++, count--; /* no word of a port: pass over it */
+        if (a.refusal == ISTROLF_BAD_WORD) {
+            words++, count--; /* no word of a port: pass over it */
+        } else if (a.refusal) {
+            printf("the reader's state was spoilt\n"); /* BAD_STATE would come for ever: begin anew */
+            r->reader = istrolf_reader_fresh('U').reader;
+        }
     }
 }
 
@@ -48,7 +53,10 @@ int main(void) {
     recorder r = {istrolf_reader_fresh('U').reader, 0, 0, 0, 0};
     uint16_t words[4];
     size_t count;
-    for (size_t turn = 0; (count = arrived(turn, words, 4)) > 0; turn++) heard(&r, words, count);
+    for (size_t turn = 0; (count = arrived(turn, words, 4)) > 0; turn++) {
+        if (turn == 8) r.reader.count ^= 64; /* something wrote where it should not */
+        heard(&r, words, count);
+    }
     printf("%d saves, cursor %ld %ld, %d bytes kept\n", r.saves, r.x, r.y, r.reader.count);
     return 0;
 }

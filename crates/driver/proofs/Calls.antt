@@ -32,9 +32,6 @@ module _ (f : Feed) (before after : List ℕ) (a : Driven) (p : whole a after �
   call-taken : a .taken ≡ f .taken
   call-taken = ap (λ (w : Whole). w .driven .taken) p
 
-  call-ended : a .ended ≡ f .next .ended
-  call-ended = ap (λ (w : Whole). w .driven .ended) p
-
 -- whatever the driver: no call takes more than there is, or writes more than has room
 pub feed-within : (m : Driver) (input before after : List ℕ) (a : Driven) → FeedPromise m input before a after
     → (a .taken ≤ length input) × (a .written ≤ length before)
@@ -69,10 +66,6 @@ module _ (m : Driver) (input before after : List ℕ) (a : Driven) (h : Kept m) 
   pub takes-some : enough ≤ length before → 1 ≤ m .owed + length input → (1 ≤ a .taken) ⊎ (a .next .owed < m .owed)
   takes-some room some = rw (call-next f before after a feeds, call-taken f before after a feeds) (some-taken input m (length before) b h room some)
 
-  -- it tells whether it has ended
-  pub tells-ended : a .ended ≡ a .next .ended
-  tells-ended = call-ended f before after a feeds ∙ sym (ap (λ (m : Driver). m .ended) (call-next f before after a feeds))
-
 -- and the end of the input
 module _ (m : Driver) (before after : List ℕ) (a : Driven) (h : Kept m) (p : FinishPromise m before a after) where
   abbrev l : Feed
@@ -90,9 +83,6 @@ module _ (m : Driver) (before after : List ℕ) (a : Driven) (h : Kept m) (p : F
   -- with so many places it has ended, or has less to do
   pub ends-or-less : enough ≤ length before → (a .next .ended ≡ true) ⊎ (owing (a .next) < owing m)
   ends-or-less room = rw (call-next l before after a finishes) (end-on m (length before) h room)
-
-  pub tells-end : a .ended ≡ a .next .ended
-  tells-end = call-ended l before after a finishes ∙ sym (ap (λ (m : Driver). m .ended) (call-next l before after a finishes))
 
 -- what calls wrote, and what comes behind the bytes that they took
 calls : (ks : List Call) (rest : List ℕ) (m : Driver) → Kept m → Permitted m ks → Kept (driverAfter m ks) × (allOf m (takenBy ks ++ rest) ≡ writtenBy ks ++ allOf (driverAfter m ks) rest)

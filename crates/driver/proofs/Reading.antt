@@ -12,7 +12,7 @@ use lib.Signed.{ltZ}
 use lib.ListN.{length, getD, take, drop, drop-of-length-le}
 use lib.Seq.{drop-cons}
 use borrow.Author.Tests.{ltb-true, ltb-false, le-leb, lt-leb, eq-eqb, ne-eqb}
-use Rattle.numbers.proofs.Choices.{cases, or-else, neither}
+use Rattle.numbers.proofs.Choices.{or-else, neither}
 use Rattle.wire.specs.Line.{known}
 use Rattle.text.specs.Decimals.{plain, readable, plusIn, placesOf, sizeIn, numberIn}
 use Rattle.text.specs.declared.Number.{Number}
@@ -35,10 +35,6 @@ module _ (bound : ℕ) (says : ℕ → Order) where
   is-up-to (negsuc n) h = absurd (true≢false (neither true (ltZ (pos bound) (negsuc n)) h .0))
 
 -- the bytes in front of the first that is this one, byte by byte
-pub to-within : (stop : ℕ) (l : List ℕ) → lengthTo stop l ≤ length l
-to-within stop [] = omega arith
-to-within stop (c ∷ l) = cases (λ (n : ℕ). n ≤ suc (length l)) (eqb c stop) (λ _. omega arith) (λ _. omega (arith, to-within stop l))
-
 module _ (bytes : List ℕ) (stop i : ℕ) (inv : i + lengthTo stop (drop i bytes) ≡ lengthTo stop bytes) where
   next : i < length bytes → drop i bytes ≡ getD bytes i 0 ∷ drop (i + 1) bytes
   next h = rw add-one (drop-cons bytes i 0 h)

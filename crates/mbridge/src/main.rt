@@ -3,7 +3,7 @@ ghost use mathlib.Core.Path.{_≡_};
 ghost use Prim.Native.Nat.{_≤_};
 ghost use lib.ListN.{length};
 ghost use Rattle.text.specs.Growth.{textOf};
-ghost use Rattle.mbridge.specs.Lines.{byteLine, badLine};
+ghost use Rattle.mbridge.specs.Lines.{numbered, byteLine, badLine};
 use bridge::Bridge;
 use libc::STDIN_FILENO;
 use libc::STDOUT_FILENO;
@@ -31,26 +31,29 @@ fn show(out: &[u8], count: usize) -> bool
     is_shown
 }
 
+// A line of a letter and a number.
+fn numbered(letter: u8, n: u32) -> Text
+    ensures { λ r. ⌜ r ≡ textOf (numbered letter n) ⌝ }
+{
+    Text::none()
+        .with(letter)
+        .with(b'\t')
+        .decimal(1, n as i64)
+        .with(b'\n')
+}
+
 // The line of a byte.
 fn byte_line(b: u8) -> Text
     ensures { λ r. ⌜ r ≡ textOf (byteLine b) ⌝ }
 {
-    Text::none()
-        .with(b'B')
-        .with(b'\t')
-        .decimal(1, b as i64)
-        .with(b'\n')
+    numbered(b'B', b as u32)
 }
 
 // A line that is bad in a recording too, with the number of the bad line.
 fn bad_line(line: u32) -> Text
     ensures { λ r. ⌜ r ≡ textOf (badLine line) ⌝ }
 {
-    Text::none()
-        .with(b'E')
-        .with(b'\t')
-        .decimal(6, line as i64)
-        .with(b'\n')
+    numbered(b'E', line)
 }
 
 // The lines of so many bytes, to a slice: how long they are.

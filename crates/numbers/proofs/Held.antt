@@ -23,16 +23,6 @@ near-between m (pos a) hi (negsuc x) h k p q = absurd (subst T p tt)
 pub between-fits : {w : Width} {lo hi x : ℤ} → SFits w lo → SFits w hi → ltZ x lo ≡ false → ltZ hi x ≡ false → SFits w x
 between-fits {w} {lo} {hi} {x} h k p q = record { sfits = near-between (2 ^ hbits w) lo hi x (h .sfits) (k .sfits) p q }
 
--- and so is what is held between them
-fits-in : {w : Width} (lo hi x : ℤ) (s t : Bool) → ltZ x lo ≡ s → ltZ hi x ≡ t → SFits w lo → SFits w hi → SFits w (cond s lo (cond t hi x))
-fits-in lo hi x true t p q h k = h
-fits-in lo hi x false true p q h k = k
-fits-in lo hi x false false p q h k = between-fits h k p q
-
-pub held-fits : {w : Width} (lo hi x : ℤ) → SFits w lo → SFits w hi → SFits w (held lo hi x)
-unfolding held
-held-fits lo hi x h k = fits-in lo hi x (ltZ x lo) (ltZ hi x) refl refl h k
-
 -- what is held between two ends lies between them
 ltZ-leZ : (a b : ℤ) → ltZ a b ≡ false → leZ b a ≡ true
 ltZ-leZ (pos a) (pos b) e = le-leb b a (ltb-false a b e)

@@ -15,15 +15,12 @@ use Rattle.listing.specs.declared.Given.{Given}
 use Rattle.listing.specs.declared.Given.the-variants as given
 use Rattle.salvaged.specs.Log.{Log}
 
--- the line of the word at a place: line 1 is the format's, and the first word has place 0
-abbrev pub lineAt : ℕ → ℕ
-lineAt place = place + 2
-
 -- the bytes of the run that starts at a place
 abbrev pub bytesAt : ℕ → List ℕ → ℕ → List ℕ
 bytesAt letter words place = take (sizeBy letter) (drop place words)
 
--- a report, at the line of its last byte; and bytes left out, at the line of the last of them
+-- a report, at the line of its last byte; and bytes left out, at the line of the last of them. Line 1 is the format's, so the word at a place, counted
+-- from 0, stands two lines on.
 unfoldable pub itemOf : ℕ → List ℕ → Piece → Item
 itemOf letter words (piece.picked s) = reportItem letter (s + sizeBy letter + 1) (reportBy letter (bytesAt letter words s))
 itemOf letter words (piece.left a n) = item.D (a + n + 1) n

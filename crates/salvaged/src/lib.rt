@@ -7,7 +7,6 @@ mod log;
 mod walk;
 
 // What is told: the bytes written, and whether every line had room.
-#[repr(C)]
 pub struct Salvaged {
     pub written: usize,
     pub whole: bool,

@@ -1,0 +1,49 @@
+-- `numbered`: a letter, a tab and a decimal.
+use borrow.Author.Needs.{needs}
+use native.Mathlib.Omega.{arith}
+use mathlib.Core.Path.{_∙_}
+use mathlib.Core.List.{[], _∷_}
+use lib.IntN.{pos}
+use mir.Syntax.{w64}
+use mir.Facts.{toZ-pos}
+use Rattle.text.specs.Growth.{grown, none}
+use Rattle.text.specs.Decimals.{plain, decimalOf}
+use Rattle.text.proofs.Laws.{both}
+use Rattle.mbridge.proofs.numbered.Statement.{statement}
+use Rattle.mbridge.proofs.numbered.Tie as tie
+
+none-requires : tie.Need-none-requires
+none-requires c κs = search needs
+
+with-requires : tie.Need-with-requires
+with-requires c κs = search needs
+
+with-requires-2 : tie.Need-with-requires-2
+with-requires-2 c κs = search needs
+
+cast-decimal : tie.Need-cast-decimal
+cast-decimal c = search needs
+
+decimal-requires : tie.Need-decimal-requires
+decimal-requires c κs = search needs
+
+with-requires-3 : tie.Need-with-requires-3
+with-requires-3 c κs = search needs
+
+returns : tie.Need-returns
+returns c = let n = c .before .before .before .before .before .args .n in
+    c .with3 .ensures
+    ∙ rw (c .before .decimal .ensures, c .before .before .with2 .ensures, c .before .before .before .with .ensures, c .before .before .before .before .none .ensures, toZ-pos w64 {n = n} (omega arith))
+    (both (grown (grown none (c .before .before .before .before .before .args .letter)) 9) (decimalOf plain (pos n)) (10 ∷ []))
+
+pub numbered-spec : {M : Type 1} → statement M
+numbered-spec =
+    tie.close
+    (tie.spec
+    none-requires
+    with-requires
+    with-requires-2
+    cast-decimal
+    decimal-requires
+    with-requires-3
+    returns)
