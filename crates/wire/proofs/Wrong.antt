@@ -35,7 +35,8 @@ pub encode-second-as-first : EncodePromise (letterOf ThreeByte) (record { button
 unfolding encodeIn namedBy holds
 encode-second-as-first e = omega (arith, ap (λ (l : Encoding). l .refusal) e)
 
--- U's second pair read as zero; and its first pair read from the second
+-- U's second pair read as zero; its first pair read from the second; and both pairs read as one, the X bytes joined to one 16-bit number and
+-- the Y bytes to another, the second byte above the first or below it
 pub report-second-zero : ReportPromise (letterOf FiveByte) (0x85 ∷ 0x05 ∷ 0xFD ∷ 0x85 ∷ 0x00 ∷ []) (record { buttons = 2; x1 = pos 5; y1 = minus 3; x2 = pos 0; y2 = pos 0 }) → ⊥
 unfolding reportBy namedBy readU untwos number bit
 report-second-zero e = omega (arith, ap (λ (r : Report). natAbs (r .x2)) e)
@@ -43,6 +44,14 @@ report-second-zero e = omega (arith, ap (λ (r : Report). natAbs (r .x2)) e)
 pub report-first-from-second : ReportPromise (letterOf FiveByte) (0x85 ∷ 0x05 ∷ 0xFD ∷ 0x85 ∷ 0x00 ∷ []) (record { buttons = 2; x1 = minus 123; y1 = pos 0; x2 = minus 123; y2 = pos 0 }) → ⊥
 unfolding reportBy namedBy readU untwos number bit
 report-first-from-second e = omega (arith, ap (λ (r : Report). natAbs (r .x1)) e)
+
+pub report-joined : ReportPromise (letterOf FiveByte) (0x85 ∷ 0x05 ∷ 0xFD ∷ 0x85 ∷ 0x00 ∷ []) (report 2 (untwos 32768 0x8505) (untwos 32768 0x00FD)) → ⊥
+unfolding reportBy namedBy readU untwos number bit
+report-joined e = omega (arith, ap (λ (r : Report). natAbs (r .x1)) e)
+
+pub report-joined-below : ReportPromise (letterOf FiveByte) (0x85 ∷ 0x05 ∷ 0xFD ∷ 0x85 ∷ 0x00 ∷ []) (report 2 (untwos 32768 0x0585) (untwos 32768 0xFD00)) → ⊥
+unfolding reportBy namedBy readU untwos number bit
+report-joined-below e = omega (arith, ap (λ (r : Report). natAbs (r .x1)) e)
 
 -- a first byte of S with two of its fixed bits only; and a first digit 8 of W
 pub fits-two-bits : FitsPromise (letterOf Mm) 0 0xA0 true → ⊥
