@@ -1,6 +1,6 @@
 -- Wrong answers, two or more for each promise, that it does not permit.
 use mathlib.Core.Path.{_≡_, sym, ap, subst, _∙_}
-use mathlib.Core.Bool.{true}
+use mathlib.Core.Bool.{true, false}
 use native.Mathlib.Omega.{arith}
 use lib.Dec.{T}
 use lib.IntN.{pos, natAbs}
@@ -18,7 +18,7 @@ use Rattle.ballbox.specs.Latching.{latched}
 use Rattle.ballbox.specs.Commands.{letterP, commandOf, obeyed}
 use Rattle.ballbox.specs.Events.{onButtons, latching, sending, dropped, onHost, awake}
 use Rattle.ballbox.specs.Good.{good, goodSettings, goodTrack, goodGoing, goodMemory}
-use Rattle.ballbox.specs.Promises.{stepOf, FreshPromise, StepPromise}
+use Rattle.ballbox.specs.Promises.{stepOf, FreshPromise, GoodPromise, StepPromise}
 use Rattle.ballbox.specs.declared.BallBox.{BallBox}
 use Rattle.ballbox.specs.declared.Event.the-variants.{Motion, Buttons, Host, Latch, Send}
 use Rattle.ballbox.specs.declared.Memory.{Memory}
@@ -68,6 +68,19 @@ press-due e = omega (arith, ap (λ (s : Step). s .next .memory .count) e)
 pub press-forgotten : StepPromise freshBox (Buttons 4) (silently (withButtons 4 freshBox)) → ⊥
 unfolding stepOf freshBox good goodSettings goodTrack goodGoing goodMemory awake onButtons remembering namedBy sizeBy known
 press-forgotten e = omega (arith, ap (λ (s : Step). s .next .memory .count) e)
+
+-- a fresh box called bad; one whose buttons are 8, and one that remembers a state in prompt mode, called good
+pub good-refuses-fresh : GoodPromise freshBox false → ⊥
+unfolding freshBox good goodSettings goodTrack goodGoing goodMemory namedBy sizeBy known
+good-refuses-fresh e = subst T (sym e) tt
+
+pub good-eight : GoodPromise (withButtons 8 freshBox) true → ⊥
+unfolding freshBox good goodSettings goodTrack goodGoing goodMemory namedBy sizeBy known
+good-eight e = subst T e tt
+
+pub good-in-prompt : GoodPromise (withMode modeD pressed) true → ⊥
+unfolding freshBox good goodSettings goodTrack goodGoing goodMemory remembering namedBy sizeBy known
+good-in-prompt e = subst T e tt
 
 -- D that keeps the memory
 pub prompt-remembers : StepPromise pressed (Host modeD) (silently (withMode modeD pressed)) → ⊥

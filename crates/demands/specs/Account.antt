@@ -4,9 +4,10 @@ use mathlib.Core.Path.{_≡_, refl, _∙_, ap}
 use mathlib.Core.Bool.{true, false}
 use mathlib.Core.List.{List, [], _∷_}
 use lib.IntN.{ℤ, pos, _+ℤ_, +ℤ-idl}
+use Rattle.numbers.specs.Signed.{minus}
 use Rattle.frames.specs.Passages.{nothing}
 use Rattle.wire.specs.Line.{letterOf}
-use Rattle.wire.specs.declared.Format.the-variants.{Absolute, ThreeByte}
+use Rattle.wire.specs.declared.Format.the-variants.{Microsoft, Absolute, ThreeByte}
 use Rattle.ballbox.specs.Box.{freshBox, modeO}
 use Rattle.ballbox.specs.Promises.{FreshPromise}
 use Rattle.ballbox.specs.declared.BallBox.{BallBox}
@@ -94,3 +95,33 @@ withA = Host (letterOf Absolute) ∷ Motion (pos 5) (pos 0) ∷ slots 5 (Motion 
 pub not-in-A : (Comes x-axis withA (pos 8) (pos 13) (pos 0) (pos 0) (pos 0) (pos 0) (pos 0) (pos 0)) × (neverA freshBox withA ≡ false)
 unfolding computing
 not-in-A = (record { is-fed = refl; in-finished = refl; in-going = refl; in-counter = refl; over-the-limit = refl; over-sixteen = refl; in-broken = refl; by-formats = refl }, refl)
+
+-- The same downwards, in V, whose wire turns y over: 300 to the south, of which its report says 127; the counter at its
+-- end, and 5 more; T clears it; 10 latched and broken off; 20 latched, and 3 counted.
+abbrev sevenDown : List Event
+sevenDown =
+    Host (letterOf Microsoft)
+    ∷ Motion (pos 0) (minus 300)
+    ∷ slots 3 (Motion (pos 0) (minus 32768) ∷ Motion (pos 0) (minus 5) ∷ Host (letterOf ThreeByte)
+    ∷ Motion (pos 0) (minus 10) ∷ Latch ∷ Host modeO
+    ∷ Motion (pos 0) (minus 20) ∷ Latch ∷ Motion (pos 0) (minus 3) ∷ [])
+
+pub seven-parts-down : (Comes y-axis sevenDown (minus 33106) (minus 127) (minus 20) (minus 3) (minus 173) (minus 5) (minus 10) (minus 32768)) × (neverA freshBox sevenDown ≡ true)
+unfolding computing
+seven-parts-down = (record { is-fed = refl; in-finished = refl; in-going = refl; in-counter = refl; over-the-limit = refl; over-sixteen = refl; in-broken = refl; by-formats = refl }, refl)
+
+-- U with its second pair: 5 in the first, and in the second -127 of -200 and 127 of 150; then a report that is going,
+-- 9, -9 and 4, -6, and 1, 2 counted.
+abbrev secondPairs : List Event
+secondPairs =
+    Motion (pos 5) (pos 0) ∷ slots 3 (Motion (minus 200) (pos 150)
+    ∷ slots 2 (Motion (pos 9) (minus 9) ∷ slots 3 (Motion (pos 4) (minus 6)
+    ∷ slots 1 (Motion (pos 1) (pos 2) ∷ []))))
+
+pub second-pairs : (Comes x-axis secondPairs (minus 181) (minus 122) (pos 13) (pos 1) (minus 73) (pos 0) (pos 0) (pos 0))
+    × (Comes y-axis secondPairs (pos 137) (pos 127) (minus 15) (pos 2) (pos 23) (pos 0) (pos 0) (pos 0))
+unfolding computing
+second-pairs = (
+  record { is-fed = refl; in-finished = refl; in-going = refl; in-counter = refl; over-the-limit = refl; over-sixteen = refl; in-broken = refl; by-formats = refl },
+  record { is-fed = refl; in-finished = refl; in-going = refl; in-counter = refl; over-the-limit = refl; over-sixteen = refl; in-broken = refl; by-formats = refl },
+)

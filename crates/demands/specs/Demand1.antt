@@ -1,11 +1,11 @@
 -- Demand 1: "Every public entry takes every event, line word, state and buffer and ends with an answer. A refusal has a number from the list, hands
 -- back the old state and writes nothing; a reader given many words does all before the bad one and stops there."
-use Prim.Native.Nat.{ℕ, _<_, _≤_}
+use Prim.Native.Nat.{ℕ, _+_, _<_, _≤_}
 use mathlib.Core.Path.{_≡_, refl}
 use mathlib.Core.Bool.{Bool, true, false}
 use mathlib.Core.List.{List, [], _∷_, _++_, List·Memᴰ·head as here}
 use mathlib.Core.Logic.{_⊎_}
-use lib.ListN.{length, getD}
+use lib.ListN.{length, getD, take}
 use lib.IntN.{ℤ}
 use Rattle.frames.specs.Words.{silence, lineWords}
 use Rattle.wire.specs.Line.{known, letterOf, markedBy, namedBy, sizeOf}
@@ -55,6 +55,9 @@ use Rattle.listing.specs.Promises as lister
 use Rattle.listing.specs.Promises.{Whole, FeedPromise, FinishPromise}
 use Rattle.listing.specs.declared.Lister.{Lister}
 use Rattle.listing.specs.declared.Listed.{Listed}
+use Rattle.listing.specs.declared.Scanner.{Scanner}
+use Rattle.listing.specs.declared.Item.{Item}
+use Rattle.listing.specs.declared.Given.{Given}
 use Rattle.listing.proofs.Answers as listing
 use Rattle.listing.proofs.Refusals as listing-refusals
 use Rattle.listing.proofs.Calls as calls
@@ -434,6 +437,29 @@ pub finish-stays-good : (m : Lister) (before after : List ℕ) (a : Listed)
     → listers.good (a .next) ≡ true
 finish-stays-good = listing-refusals.finish-stays-good
 
+-- `Scanner::byte`, `closed`, `end`, `Item::reported`, `Item::line`, `Given::line` and `salvage_opening`, which refuse
+-- nothing: one answer
+pub byte-scan-one : (s : Scanner) (byte : ℕ) → One (lister.ByteScanPromise s byte)
+byte-scan-one s byte a b = listing.one-byte-scan s byte
+
+pub closed-scan-one : (s : Scanner) → One (lister.ClosedScanPromise s)
+closed-scan-one s a b = listing.one-closed-scan s
+
+pub end-scan-one : (s : Scanner) → One (lister.EndScanPromise s)
+end-scan-one s a b = listing.one-end-scan s
+
+pub reported-one : (letter n : ℕ) (r : Report) → One (lister.ReportedPromise letter n r)
+reported-one letter n r a b = listing.one-reported letter n r
+
+pub item-line-one : (item : Item) → One (lister.ItemLinePromise item)
+item-line-one item a b = listing.one-item-line item
+
+pub given-line-one : (given : Given) (salvage : Bool) (width : ℕ) → One (lister.LinePromise given salvage width)
+given-line-one given salvage width a b = listing.one-line given salvage width
+
+pub salvage-opening-one : One lister.SalvagePromise
+salvage-opening-one a b = listing.one-salvage
+
 -- `Yard::fresh`, `Yard::step`, `yard::check`: one answer
 pub fresh-yard-one : (letter : ℕ) → One (yard.FreshPromise letter)
 fresh-yard-one letter = yard-answers.one-fresh letter
@@ -632,6 +658,27 @@ pub rewrite-ends : (r : Readback) (piece before after : List ℕ) (a : Rewritten
     → readback.RewritePromise r piece before a after
     → (a .refusal ≡ success) ⊎ (a .refusal ≡ faultyLine) ⊎ (a .refusal ≡ tooWide)
 rewrite-ends = readback-rewrites.good-rewrite
+
+-- 7 and 15 are to these what 4 is to a long read: what comes back is as it stood before the line, that is what a call
+-- of the bytes taken gives, but for the number and the line; an end that is missing leaves the reader as it was
+pub readback-as-before : (r : Readback) (piece : List ℕ) (before after rest : List ℤ) (a b : Back)
+    → readbacks.good r ≡ true
+    → readback.ReadPromise r piece before a after
+    → readback.ReadPromise r (take (a .taken) piece) before b rest
+    → readback-pieces.whole b rest ≡ readback-pieces.faultless (readback-pieces.whole a after)
+readback-as-before = readback-refusals.as-before
+
+pub rewrite-as-before : (r : Readback) (piece before after rest : List ℕ) (a b : Rewritten)
+    → readbacks.good r ≡ true
+    → readback.RewritePromise r piece before a after
+    → readback.RewritePromise r (take (a .taken) piece) before b rest
+    → readback-rewriting.rewriting b rest ≡ readback-rewriting.faultless (readback-rewriting.rewriting a after)
+rewrite-as-before = readback-rewrites.rewrite-as-before
+
+pub readback-finish-refusals : (r : Readback) (left : ℕ) (a : Back)
+    → readback.FinishPromise r left a
+    → RefusesRightly (λ (b : Back). b .refusal) (readback.refused r ∷ readback-pieces.back faultyLine r 0 0 (r .lines + 1) ∷ []) a
+readback-finish-refusals = readback-refusals.finish-refusals
 
 -- `salvaged::list`, which refuses nothing: one answer
 pub salvage-list-one : (input before : List ℕ) → OneWith (salvaged.ListPromise input before)

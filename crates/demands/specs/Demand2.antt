@@ -14,8 +14,8 @@ use Rattle.wire.specs.Holds.{accepted, carriedBy}
 use Rattle.wire.specs.Numbers.{success}
 use Rattle.wire.specs.Encoder.{refusalOf, lengthOf}
 use Rattle.wire.specs.Promises.{EncodePromise}
-use Rattle.frames.specs.Passages.{nothing, passageWords, partWords}
-use Rattle.wire.specs.Messages.{messageBytes}
+use Rattle.frames.specs.Passages.{UnderWay, nothing, passageWords, partWords}
+use Rattle.wire.specs.Messages.{Message, messageBytes}
 use Rattle.wire.specs.declared.Report.{Report}
 use Rattle.wire.specs.declared.Format.{Format}
 use Rattle.wire.specs.declared.Encoded.{Encoded}
@@ -36,16 +36,19 @@ use Rattle.reader.specs.declared.Answer.the-variants as answer
 use Rattle.reader.proofs.There as there
 use Rattle.reader.proofs.Back as back
 use Rattle.reader.proofs.Counting as counting
+use Rattle.ballbox.specs.Box.{freshBox}
 use Rattle.ballbox.specs.Good.{good}
-use Rattle.ballbox.specs.Events.{bytesLeft, awake, asleep}
-use Rattle.ballbox.specs.Promises.{StepPromise, outcome, aboveSeven}
+use Rattle.ballbox.specs.Events.{awake, asleep}
+use Rattle.ballbox.specs.Promises.{FreshPromise, StepPromise, outcome, aboveSeven}
 use Rattle.ballbox.specs.declared.BallBox.{BallBox}
 use Rattle.ballbox.specs.declared.Event.{Event}
 use Rattle.ballbox.specs.declared.Stepped.{Stepped}
 use Rattle.ballbox.proofs.Refusals.{awake-step, asleep-step}
+use Rattle.ballbox.proofs.Goodness.{fresh-is-good}
 use Rattle.history.specs.Runs.{RunPromise, wordsGiven}
 use Rattle.history.specs.History.{passagesOf, goingAfter}
-use Rattle.history.proofs.Bridge.{run-passages}
+use Rattle.history.specs.Carried.{Carries}
+use Rattle.history.proofs.Bridge.{run-carried}
 
 -- "each event moves the box as the rules say": `awake` and `asleep` are the rules of crates/ballbox/specs/Events.antt
 pub box-awake : (b : BallBox) (e : Event) (r : Stepped)
@@ -64,7 +67,8 @@ pub box-asleep : (b : BallBox) (e : Event) (r : Stepped)
     → outcome r ≡ asleep b e
 box-asleep = asleep-step
 
--- "each report has the manual's bytes": those of the table, from the encoder, and in a run of the box those of what was latched
+-- "each report has the manual's bytes": those of the table, from the encoder, and in a run of the box those of what was
+-- latched; where a report or a reply is going at its start, behind the bytes of it that had gone
 pub encoded : (f : Format) (r : Report) (before after : List ℕ) (a : Encoded)
     → accepted f r ≡ true
     → sizeOf f ≤ length before
@@ -73,12 +77,20 @@ pub encoded : (f : Format) (r : Report) (before after : List ℕ) (a : Encoded)
     × (after ≡ bytesOf f r ++ drop (sizeOf f) before)
 encoded = accepted-written
 
-pub in-a-run : (b : BallBox) (events : List Event) (run : List Stepped)
+pub in-a-run : (b : BallBox) (going : UnderWay Message) (events : List Event) (run : List Stepped)
     → good b ≡ true
-    → bytesLeft b ≡ false
+    → Carries b going
+    → RunPromise b events run
+    → partWords messageBytes going ++ wordsGiven run ≡ passageWords messageBytes (passagesOf b going events) ++ partWords messageBytes (goingAfter b going events)
+in-a-run = run-carried
+
+-- so in every run of a fresh box, whatever the host sends
+pub in-a-run-from-fresh : (b : BallBox) (events : List Event) (run : List Stepped)
+    → FreshPromise b
     → RunPromise b events run
     → wordsGiven run ≡ passageWords messageBytes (passagesOf b nothing events) ++ partWords messageBytes (goingAfter b nothing events)
-in-a-run = run-passages
+unfolding freshBox
+in-a-run-from-fresh b events run fresh permitted = run-carried b nothing events run (fresh-is-good b fresh) (rw fresh) permitted
 
 -- "reading them with a ready reader gives back the report, less the button Microsoft's format doesn't carry"
 pub read-back : (letter : ℕ) (p : Report) (before after : List ℕ) (e : Encoded) (steps : List Read)

@@ -24,8 +24,9 @@ use Rattle.ballbox.specs.declared.Event.the-variants.{Host}
 use Rattle.history.specs.Runs.{RunPromise, wordsGiven}
 use Rattle.history.specs.History.{passagesOf, goingAfter}
 use Rattle.history.specs.Asked.{onlyAsks}
+use Rattle.history.specs.Carried.{SetTo}
 use Rattle.history.proofs.Bridge.{run-passages}
-use Rattle.history.proofs.Asking.{SetTo, asked-sound}
+use Rattle.history.proofs.Asking.{asked-sound}
 use Rattle.history.proofs.Setting.{set-to, set-words}
 
 -- "an awake box", any good one, is "set to one format", f, by its letter, and "then asked only for reports, over every sequence of events": a is the

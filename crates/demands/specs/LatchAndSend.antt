@@ -18,7 +18,7 @@ use Rattle.ballbox.specs.declared.Event.the-variants.{Motion, Buttons, Host, La
 use Rattle.ballbox.specs.declared.Stepped.{Stepped}
 use Rattle.history.specs.Runs.{RunPromise, wordsGiven}
 use Rattle.history.specs.Presses.{lastBox}
-use Rattle.history.specs.Slots.{slotOf, joined, Timed, timedWords, timedBox, apartly}
+use Rattle.history.specs.Slots.{slotOf, joined, Timed, timedWords, timedBox, timedNumbers, numbersTold, apartly}
 use Rattle.history.proofs.Slots as slots-of
 use Rattle.demands.specs.Computing.{computing}
 use Rattle.demands.specs.Worked.{slots}
@@ -32,10 +32,11 @@ pub slot-was : (b : BallBox) (p q : Stepped)
     → joined (outcome p) (outcome q) ≡ slotOf b
 slot-was = slots-of.slot-was
 
--- and so over every list of events, with Latch and Send in place of each Slot: its words, and its last box
+-- and so over every list of events, with Latch and Send in place of each Slot: its words, its last box, and the numbers
+-- told, of Latch and of Send that of the Slot
 pub slots-were : (b : BallBox) (events : List Timed) (answers : List Stepped)
     → RunPromise b (apartly events) answers
-    → (wordsGiven answers ≡ timedWords b events) × (lastBox b answers ≡ timedBox b events)
+    → (wordsGiven answers ≡ timedWords b events) × (lastBox b answers ≡ timedBox b events) × (numbersTold answers ≡ timedNumbers b events)
 slots-were = slots-of.slots-were
 
 -- "A host byte may now break off a report of which no byte has gone, so a lone 256 can stand on the line." In U: a movement is latched, and the host

@@ -1,11 +1,14 @@
--- The user's demands as theorems over what the other crates promise (Demand1, Demand2, Demand3, and runs of the box worked out in Worked), the eighth bit of a
--- Microsoft byte (EighthBit), presses that outlive a busy line (Presses, worked out in Taps), latch and send apart (LatchAndSend), what the limit threw away
--- (Excess), the account of a move (Account), the paper's figures (Figures, in the words of Said), the useless programs that are shut out (Strength), the yard
--- check (ProperBox), answers read by name (Replies, worked out in WorkedReplies), and a box to try, through to the listing of its recording (TriedBox, worked
+-- The user's demands as theorems over what the other crates promise (Demand1, Demand2, Demand3, and runs of the box
+-- worked out in Worked), the eighth bit of a Microsoft byte (EighthBit, with laws in Turned), presses that outlive a
+-- busy line (Presses, worked out in Taps), latch and send apart (LatchAndSend), what the limit threw away (Excess), the
+-- account of a move (Account), the paper's figures (Figures, in the words of Said), the useless programs that are shut
+-- out (Strength), the yard check (ProperBox), answers read by name (Replies, worked out in WorkedReplies), all numbers
+-- of refusals in their order (Refusals), and a box to try, through to the listing of its recording (TriedBox, worked
 -- out in WorkedBox); and what examples compute with (Computing).
 pub mod Demand1
 pub mod Demand2
 pub mod Demand3
+pub mod Turned
 pub mod EighthBit
 pub mod Presses
 pub mod Computing
@@ -20,5 +23,6 @@ pub mod Strength
 pub mod ProperBox
 pub mod Replies
 pub mod WorkedReplies
+pub mod Refusals
 pub mod TriedBox
 pub mod WorkedBox

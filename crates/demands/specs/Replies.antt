@@ -1,22 +1,23 @@
 -- Answers read by name. "The host half still guesses at replies. Add a reader for them. It is told the command just sent [..] and reads exactly that reply, then hands
 -- over to the report reader."
-use Prim.Native.Nat.{ℕ, _+_, _*_, _<_}
+use Prim.Native.Nat.{ℕ, _+_, _*_, _<_, _≤_}
 use mathlib.Core.Path.{_≡_, refl, _∙_, sym}
-use mathlib.Core.Bool.{true, false}
-use mathlib.Core.List.{List, [], _∷_, _++_}
-use lib.ListN.{length, take}
+use mathlib.Core.Bool.{true, false, cond}
+use mathlib.Core.List.{List, [], _∷_, _++_, map}
+use lib.ListN.{length, take, drop}
 use lib.IntN.{ℤ}
 use Rattle.frames.specs.Passages.{Passage, silent, finished, nothing, Unbroken, Sub}
 use Rattle.frames.specs.Words.{silence, lineWords}
 use Rattle.wire.specs.Line.{letterOf, markedOf, sizeBy}
+use Rattle.wire.specs.Digits.{among}
 use Rattle.wire.specs.Numbers.{success, badState, badWord, RefusesRightly}
 use Rattle.wire.specs.Holds.{carried}
 use Rattle.wire.specs.Messages.{Latched, Message, report, finishedReports}
 use Rattle.wire.specs.declared.Format.{Format}
-use Rattle.reader.specs.Counts.{byteIn, bytesIn, reportsIn, droppedIn}
+use Rattle.reader.specs.Counts.{byteIn, bytesIn, reportsIn, droppedIn, writtenIn}
 use Rattle.reader.specs.DamagedLines.{Within, EndsAt}
 use Rattle.ballbox.specs.Good as boxes
-use Rattle.ballbox.specs.Commands.{ack, commandOf}
+use Rattle.ballbox.specs.Commands.{letterf, lettert, ack, commandOf}
 use Rattle.ballbox.specs.Commands as box
 use Rattle.ballbox.specs.Promises as box-promises
 use Rattle.ballbox.specs.declared.BallBox.{BallBox}
@@ -26,17 +27,19 @@ use Rattle.ballbox.specs.declared.Event.the-variants.{Host}
 use Rattle.history.specs.Runs.{RunPromise, wordsGiven}
 use Rattle.history.specs.Asked.{allHosts}
 use Rattle.history.specs.Presses.{noHost}
-use Rattle.history.proofs.Asking.{SetWith, hosted-sound}
+use Rattle.history.specs.Carried.{SetWith}
+use Rattle.history.proofs.Asking.{hosted-sound}
 use Rattle.history.proofs.Setting.{set-to}
-use Rattle.replies.specs.Replying.{isNone, sizeOf}
+use Rattle.replies.specs.Replying.{came, none, isNone, sizeOf, letterOfCode}
+use Rattle.replies.specs.Accepted.{sevenBytes, sevenLetters, modeLetters}
 use Rattle.replies.specs.Good.{good}
 use Rattle.replies.specs.Rules.{kindOf, refusing}
-use Rattle.replies.specs.Line.{Long, whole, stopped, unused, asOne, withRefusal}
+use Rattle.replies.specs.Line.{Long, whole, stopped, joined, unused, asOne, withRefusal, Bounds}
 use Rattle.replies.specs.Counts.{wholeBytes, brokenBytes}
 use Rattle.replies.specs.Promises.{FreshPromise, GoodPromise, TellPromise, StepPromise, ReadPromise, noReply, tellingOf, beforeBad}
 use Rattle.tellings.specs.Items.{Item, telling, asItems, wordsIn, Done, ItemsPromise}
 use Rattle.tellings.specs.Clear.{Clear}
-use Rattle.tellings.specs.Lines.{repliesSent, HandsOutAt, HandsOut, TellsReplies, InReport, ReadsReply}
+use Rattle.tellings.specs.Lines.{lineItems, partItems, repliesSent, HandsOutAt, HandsOut, TellsReplies, InReport, ReadsReply}
 use Rattle.tellings.specs.Runs.{hasReply, answerOf, onlyAsksOrTells, itemsGiven, sendsIn}
 use Rattle.replies.specs.declared.Asked.{Asked}
 use Rattle.replies.specs.declared.Asked.the-variants.{Command, Waking}
@@ -51,8 +54,10 @@ use Rattle.replies.proofs.Refusals as refusals
 use Rattle.replies.proofs.Goodness as goodness
 use Rattle.replies.proofs.Counting as counting
 use Rattle.replies.proofs.Joining as joining
+use Rattle.replies.proofs.Room as room
+use Rattle.replies.proofs.Accepted as accepted
 use Rattle.tellings.proofs.There as there
-use Rattle.tellings.proofs.Passed.{IsReply, lineItems, partItems}
+use Rattle.tellings.proofs.Passed.{IsReply}
 use Rattle.tellings.proofs.Damaged as damaged
 use Rattle.tellings.proofs.Answering.{with-replies}
 use Rattle.tellings.proofs.Runs.{run-items}
@@ -229,6 +234,67 @@ pub joins : (s : ToldReader) (p q : List ℕ) (out : List ℤ) (a b c : HeardLin
     → ReadPromise s (p ++ q) out a x
     → whole a x ≡ asOne b y (whole c z)
 joins = joining.joining
+
+-- "It stops, with answer 0, before a word that would finish a report when fewer than five places are left", the reply
+-- still pending; any other word is taken, and the rest is read by the reader that came back, with the places that are
+-- left
+pub stops-for-room : (s : ToldReader) (w : ℕ) (q : List ℕ) (out : List ℤ) (h : Heard) (a : HeardLine) (after : List ℤ)
+    → good s ≡ true
+    → StepPromise s w h
+    → ReadPromise s (w ∷ q) out a after
+    → h .refusal ≡ success
+    → length out < 5 * reportsIn (h .answer)
+    → whole a after ≡ stopped success s out
+stops-for-room = room.stops-for-room
+
+pub goes-on : (s : ToldReader) (w : ℕ) (q : List ℕ) (out : List ℤ) (h : Heard) (a b : HeardLine) (x y : List ℤ)
+    → good s ≡ true
+    → StepPromise s w h
+    → ReadPromise s (w ∷ q) out a x
+    → h .refusal ≡ success
+    → 5 * reportsIn (h .answer) ≤ length out
+    → ReadPromise (h .next) q (drop (5 * reportsIn (h .answer)) out) b y
+    → whole a x ≡ joined 1 (reportsIn (h .answer)) (droppedIn (h .answer)) (h .reply) (writtenIn (h .answer)) (whole b y)
+goes-on = room.goes-on
+
+-- "a bad word behind a stop for room is not reached": where words are left, what follows them changes nothing
+pub not-reached : (s : ToldReader) (p q : List ℕ) (out : List ℤ) (a b : HeardLine) (x y : List ℤ)
+    → good s ≡ true
+    → ReadPromise s p out b y
+    → b .taken < length p
+    → ReadPromise s (p ++ q) out a x
+    → (a ≡ b) × (x ≡ y)
+not-reached = refusals.not-reached
+
+-- no further than the words, the places and the bytes that there are
+pub within : (s : ToldReader) (words : List ℕ) (out : List ℤ) (a : HeardLine) (after : List ℤ)
+    → ReadPromise s words out a after
+    → Bounds s words out a
+within = room.within
+
+-- "Only the seven `f` bytes and the `t` pairs of a known format and mode are accepted", and all of them are; any other
+-- word breaks the reply
+pub code-exactly : (s : ToldReader) (t : Telling) (w : ℕ) (h : Heard)
+    → good s ≡ true
+    → TellPromise s (Command letterf) t
+    → w ≤ silence
+    → StepPromise (t .next) w h
+    → h .reply ≡ cond (among sevenBytes w) (reply.Format (letterOfCode w)) (reply.Broken none)
+code-exactly = accepted.code-exactly
+
+pub seven-formats : map letterOfCode sevenBytes ≡ sevenLetters
+seven-formats = accepted.seven-formats
+
+pub letters-exactly : (s : ToldReader) (t : Telling) (f m : ℕ) (h k : Heard)
+    → good s ≡ true
+    → TellPromise s (Command lettert) t
+    → f ≤ silence
+    → StepPromise (t .next) f h
+    → m ≤ silence
+    → StepPromise (h .next) m k
+    → (h .reply ≡ cond (among sevenLetters f) reply.Nothing (reply.Broken none))
+    × (among sevenLetters f ≡ true → k .reply ≡ cond (among modeLetters m) (reply.Letters f m) (reply.Broken (came 1 f 0)))
+letters-exactly = accepted.letters-exactly
 
 -- Demand 3: "Demand 3 now also covers runs with `f` and `t` when the reader is told of each and the stretch stays clear of everything from a telling to the reply's
 -- last byte or break."

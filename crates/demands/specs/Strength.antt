@@ -1,13 +1,13 @@
 -- "Four useless programs have to be caught": what meets the promises is none of them.
 use Prim.Native.Nat.{ℕ, zero, suc, _+_, _-_, _*_, _≤_, zero-le}
-use mathlib.Core.Path.{_≡_, sym, _∙_, ap}
-use mathlib.Core.Bool.{true}
+use mathlib.Core.Path.{_≡_, refl, sym, _∙_, ap}
 use mathlib.Core.List.{List, [], _∷_, List·Memᴰ·head, List·Memᴰ·tail}
 use native.Mathlib.Omega.{arith}
-use lib.ListN.{take, getD, List·getD-eq-default}
+use lib.ListN.{take, getD, replicate, List·getD-eq-default}
 use lib.Dec.{lit≤}
 use lib.IntN.{ℤ, pos}
 use Rattle.frames.specs.Words.{silence}
+use Rattle.frames.proofs.Sender.{givenOver}
 use Rattle.wire.specs.Line.{letterOf, sizeBy}
 use Rattle.wire.specs.Reading.{report}
 use Rattle.wire.specs.Numbers.{success, accepted, refusal}
@@ -27,16 +27,20 @@ use Rattle.reader.specs.declared.Reading.{Reading}
 use Rattle.reader.specs.declared.Answer.the-variants as answer
 use Rattle.reader.proofs.Refusals.{step-refusals}
 use Rattle.reader.proofs.Useless.{skipping-the-rest}
-use Rattle.ballbox.specs.Good as boxes
+use Rattle.ballbox.specs.Box.{freshBox}
+use Rattle.ballbox.specs.Commands.{letterP}
 use Rattle.ballbox.specs.Promises as box
 use Rattle.ballbox.specs.declared.BallBox.{BallBox}
 use Rattle.ballbox.specs.declared.Event.{Event}
-use Rattle.ballbox.specs.declared.Event.the-variants.{Send}
+use Rattle.ballbox.specs.declared.Event.the-variants.{Host, Latch, Send}
 use Rattle.ballbox.specs.declared.Stepped.{Stepped}
-use Rattle.ballbox.proofs.Useless.{not-only-silence}
+use Rattle.history.specs.Runs.{RunPromise, wordsGiven}
+use Rattle.history.specs.History.{nextBox}
+use Rattle.history.proofs.Bridge.{permitted}
+use Rattle.demands.specs.Computing.{computing}
 use Rattle.demands.specs.Figures.{figures}
 use Rattle.demands.specs.Demand2.{line-counts}
-use Rattle.demands.specs.Worked.{marked-S}
+use Rattle.demands.specs.Worked.{marked-S, exactly-S}
 
 -- what an encoder does: the answer, and the buffer after it
 pub record Encoder : Type 0 where
@@ -129,12 +133,51 @@ no-refusing-reader p k n =
     let z : _≡_ {A = ℕ} 0 1 = cc in
     omega arith
 
--- "a box that sends only silence (2, Slot)": one by which every good box that is asked by Send sends 257
-pub no-silent-box : (step : BallBox → Event → Stepped)
-    → ((b : BallBox) (e : Event) → box.StepPromise b e (step b e))
-    → ((b : BallBox) → boxes.good b ≡ true → box.sentWords (step b Send .sent) ≡ silence ∷ [])
+-- the long read likewise: one that refuses every line of one word or more
+pub no-refusing-read : (read : Reader → List ℕ → List ℤ → Long)
+    → ((r : Reader) (words : List ℕ) (out : List ℤ) → reader.ReadPromise r words out (read r words out .reading) (read r words out .out))
+    → ((r : Reader) (w : ℕ) (words : List ℕ) (out : List ℤ) → read r (w ∷ words) out .reading .refusal ≡ success → ⊥)
     → ⊥
-no-silent-box = not-only-silence
+no-refusing-read read keeps refuses =
+    let a = reader.freshOf (letterOf Mm) in
+    let words : List ℕ = 0x03 ∷ 257 ∷ 0x9C ∷ 0x00 ∷ 0x00 ∷ [] in
+    let out : List ℤ = replicate 5 (pos 0) in
+    let l = read (a .reader) (0x90 ∷ words) out in
+    refuses (a .reader) 0x90 words out (exactly-S a refl .by-read out (l .out) (l .reading) (keeps (a .reader) (0x90 ∷ words) out) (lit≤ tt) .refusal)
+
+-- what a box does, event by event
+pub record BoxProgram : Type 0 where
+  pub fresh : BallBox
+  pub step : BallBox → Event → Stepped
+
+pub record KeepsStepping (p : BoxProgram) : Type 0 where
+  pub fresh : box.FreshPromise (p .fresh)
+  pub step : (b : BallBox) (e : Event) → box.StepPromise b e (p .step b e)
+
+abbrev pub runBy : BoxProgram → BallBox → List Event → List Stepped
+runBy p b [] = []
+runBy p b (e ∷ events) = p .step b e ∷ runBy p (p .step b e .next) events
+
+run-kept : (p : BoxProgram)
+    → KeepsStepping p
+    → (b : BallBox) (events : List Event)
+    → RunPromise b events (runBy p b events)
+unfolding RunPromise
+run-kept p k b [] = tt
+run-kept p k b (e ∷ events) = (k .step b e, run-kept p k (p .step b e .next) events)
+
+-- "a box that sends only silence (2, Slot)": one whose runs, from a fresh box, give no word but 257
+pub no-silent-box : (p : BoxProgram)
+    → KeepsStepping p
+    → ((events : List Event) (i : ℕ) → getD (wordsGiven (runBy p (p .fresh) events)) i silence ≡ silence)
+    → ⊥
+unfolding computing givenOver
+no-silent-box p k silent =
+    let events : List Event = Host letterP ∷ Latch ∷ Send ∷ [] in
+    let given : wordsGiven (runBy p (p .fresh) events) ≡ givenOver nextBox (λ b e. box.stepOf b e .words) freshBox events =
+    permitted (p .fresh) events (runBy p (p .fresh) events) (run-kept p k (p .fresh) events) ∙ ap (λ (b : BallBox). givenOver nextBox (λ b e. box.stepOf b e .words) b events) (k .fresh) in
+    let z : _≡_ {A = ℕ} 0x87 silence = sym (ap (λ (words : List ℕ). getD words 0 silence) given) ∙ silent events 0 in
+    omega arith
 
 -- "a long read that reads its first report and skips the rest (2, since every word's answer is fixed)"
 pub no-skipping-read : (read : Reader → List ℕ → List ℤ → Long)

@@ -41,7 +41,7 @@ pub record SendsWords (f : Format) (events : List Event) (words : List ℕ) (pas
   pub is : sent (setTo f) events ≡ passages
   pub ends : stillGoing (setTo f) events ≡ nothing
 
-run-of : {f : Format} {events : List Event} {words : List ℕ} {passages : List (Passage Message)}
+pub run-of : {f : Format} {events : List Event} {words : List ℕ} {passages : List (Passage Message)}
     → SendsWords f events words passages
     → Run f freshBox (setTo f) events (answersTo (setTo f .next) events)
 unfolding computing

@@ -1,18 +1,21 @@
 -- Worked runs with replies: the widened demand 3 at small runs of the box, with the items, the passages and the replies computed. Lines on which a reply is broken, told
 -- again or loses a byte stand in crates/tellings/proofs/Examples.antt.
-use mathlib.Core.Path.{_≡_, refl}
+use mathlib.Core.Path.{_≡_, refl, _∙_, ap}
 use mathlib.Core.Bool.{true, false}
 use mathlib.Core.List.{List, [], _∷_, _++_}
 use native.Mathlib.Omega.{arith}
 use lib.IntN.{pos}
 use Rattle.numbers.specs.Signed.{minus}
-use Rattle.frames.specs.Passages.{Passage, silent, finished, nothing, none, gone}
+use Rattle.frames.specs.Passages.{Passage, silent, finished, broken, nothing, none, gone}
 use Rattle.wire.specs.Line.{letterOf}
+use Rattle.wire.specs.Reading.{report}
 use Rattle.wire.specs.Messages.{Message, reply, latchedIn, showingIn}
+use Rattle.wire.specs.declared.Report.{Report}
 use Rattle.wire.specs.declared.Format.{Format}
-use Rattle.wire.specs.declared.Format.the-variants.{Mm, FiveByte}
+use Rattle.wire.specs.declared.Format.the-variants.{Mm, FiveByte, ThreeByte}
+use Rattle.reader.specs.Counts.{handedOut}
 use Rattle.ballbox.specs.Box.{freshBox}
-use Rattle.ballbox.specs.Commands.{letterf, lettert}
+use Rattle.ballbox.specs.Commands.{space, letterf, lettert}
 use Rattle.ballbox.specs.Promises.{sentWords}
 use Rattle.ballbox.specs.declared.BallBox.{BallBox}
 use Rattle.ballbox.specs.declared.Event.{Event}
@@ -20,13 +23,18 @@ use Rattle.ballbox.specs.declared.Event.the-variants.{Motion, Buttons, Host, La
 use Rattle.history.specs.Runs.{wordsGiven, answerTo, answersTo}
 use Rattle.history.specs.Presses.{boxAfter}
 use Rattle.history.proofs.Permitted.{answer-permitted, answers-permitted}
-use Rattle.tellings.specs.Items.{Item, telling, asItems, Done, ItemsPromise}
+use Rattle.tellings.specs.Items.{Item, word, telling, asItems, Done, ItemsPromise, ownAnswersOf, repliesOf}
 use Rattle.tellings.specs.Lines.{HandsOut, HandsOutAt, TellsReplies, ReadsReply, in-finished}
 use Rattle.tellings.specs.Runs.{onlyAsksOrTells, itemsGiven}
+use Rattle.replies.specs.Replying.{came}
 use Rattle.replies.specs.Good.{good}
+use Rattle.replies.specs.Promises.{FreshPromise, freshOf}
 use Rattle.replies.specs.declared.Asked.the-variants.{Command}
+use Rattle.replies.specs.declared.Reply.{Reply}
 use Rattle.replies.specs.declared.Reply.the-variants as told
 use Rattle.replies.specs.declared.ToldReader.{ToldReader}
+use Rattle.replies.specs.declared.NewToldReader.{NewToldReader}
+use Rattle.tellings.proofs.Apart.{doneOf, done-are}
 use Rattle.tellings.proofs.Computing as replies
 use Rattle.demands.specs.Computing.{computing}
 use Rattle.demands.specs.Demand3.{sent, stillGoing, from-then-on}
@@ -129,3 +137,56 @@ letters-read s done g items =
     let a = answerTo busy (Host lettert) in
     sent-reply-read busy lettert a twoSends (answersTo (a .next) twoSends) s done refl refl refl
     (answer-permitted busy (Host lettert)) refl refl (answers-permitted (a .next) twoSends) g items
+
+-- a fresh reader of f, given the items, tells these replies and hands out these reports
+abbrev pub Hears : Format → List Item → List Reply → List Report → Type 0
+Hears f items replies found =
+    (a : NewToldReader) (done : List Done)
+    → FreshPromise (letterOf f) a
+    → ItemsPromise (a .reader) items done
+    → (repliesOf done ≡ replies) × (handedOut (ownAnswersOf done) ≡ found)
+
+hears : (f : Format) (items : List Item) {replies : List Reply} {found : List Report}
+    → (let done = doneOf (freshOf (letterOf f) .reader) items in (repliesOf done ≡ replies) × (handedOut (ownAnswersOf done) ≡ found))
+    → Hears f items replies found
+hears f items h a done e p =
+    let d = done-are (a .reader) items done p ∙ ap (λ (n : NewToldReader). doneOf (n .reader) items) e in
+    (ap repliesOf d ∙ h .0, ap (λ (l : List Done). handedOut (ownAnswersOf l)) d ∙ h .1)
+
+-- U, a broken reply: of `t`'s reply one byte has gone when `f` breaks it off. The 256 goes to the report reader too,
+-- which then awaits a silence: the next report is not read, and the one behind the silence is.
+abbrev eventsBroken : List Event
+eventsBroken = Send ∷ Host lettert ∷ Send ∷ Host letterf ∷ Send ∷ Motion (pos 5) (pos 0) ∷ slots 6 (Motion (pos 7) (pos 0) ∷ slots 5 [])
+
+abbrev itemsBroken : List Item
+itemsBroken =
+    word 257 ∷ telling (Command lettert) ∷ word 0x55 ∷ word 256 ∷ telling (Command letterf)
+    ∷ asItems (0x10 ∷ 0x87 ∷ 0x05 ∷ 0x00 ∷ 0x00 ∷ 0x00 ∷ 257 ∷ 0x87 ∷ 0x07 ∷ 0x00 ∷ 0x00 ∷ 0x00 ∷ [])
+
+pub in-broken : SendsItems FiveByte eventsBroken itemsBroken
+    (silent ∷ broken 1 lettersU ∷ finished (reply (0x10 ∷ [])) ∷ finished (latchedIn FiveByte (report 0 (pos 5) (pos 0))) ∷ silent ∷ finished (latchedIn FiveByte (report 0 (pos 7) (pos 0))) ∷ [])
+unfolding computing replies.computing
+in-broken = record { asked = refl; line = refl; is = refl; ends = refl }
+
+pub broken-unread : Hears FiveByte itemsBroken (told.Broken (came 1 0x55 0) ∷ told.Format 0x55 ∷ []) (report 0 (pos 7) (pos 0) ∷ [])
+unfolding computing replies.computing
+broken-unread = hears FiveByte itemsBroken (refl, refl)
+
+-- T, a space and its ACK, and a movement. A reader that was told of the space reads both. One that was not takes the
+-- ACK, 06, for a first byte with L and M down, and hands out a press that nobody made.
+abbrev eventsT : List Event
+eventsT = Send ∷ Host space ∷ Send ∷ Motion (pos 5) (pos 3) ∷ slots 3 []
+
+pub in-T : SendsItems ThreeByte eventsT
+    (word 257 ∷ telling (Command space) ∷ asItems (0x06 ∷ 0x00 ∷ 0x05 ∷ 0x03 ∷ []))
+    (silent ∷ finished (reply (0x06 ∷ [])) ∷ finished (latchedIn ThreeByte (report 0 (pos 5) (pos 3))) ∷ [])
+unfolding computing replies.computing
+in-T = record { asked = refl; line = refl; is = refl; ends = refl }
+
+pub told-T : Hears ThreeByte (word 257 ∷ telling (Command space) ∷ asItems (0x06 ∷ 0x00 ∷ 0x05 ∷ 0x03 ∷ [])) (told.Ack ∷ []) (report 0 (pos 5) (pos 3) ∷ [])
+unfolding computing replies.computing
+told-T = hears ThreeByte _ (refl, refl)
+
+pub untold-T : Hears ThreeByte (asItems (257 ∷ 0x06 ∷ 0x00 ∷ 0x05 ∷ 0x03 ∷ [])) [] (report 6 (pos 0) (pos 5) ∷ [])
+unfolding computing replies.computing
+untold-T = hears ThreeByte _ (refl, refl)

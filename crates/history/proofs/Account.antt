@@ -44,7 +44,7 @@ use Rattle.ballbox.proofs.Refusals.{ruled, refused-next}
 use Rattle.history.specs.History.{begun, pairedAt, paired, withPair, isFive, unsentReply, whenAwake, whenAsleep, toldBy, nextBox, passagesOf, goingAfter}
 use Rattle.history.specs.Presses.{boxAfter}
 use Rattle.history.specs.Sums.{Kind, over-limit, over-counter, Axis, x-axis, y-axis, excessOf, thrownIn, sumOf}
-use Rattle.history.proofs.Carries.{Carries}
+use Rattle.history.specs.Carried.{Carries}
 use Rattle.history.proofs.Sending.{bytes-left}
 use Rattle.history.proofs.Bridge.{step-sends, told-is, buttons-line}
 use Rattle.history.proofs.Asking.{latching-alike, sending-alike, refused-told}

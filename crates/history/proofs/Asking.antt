@@ -34,33 +34,15 @@ use Rattle.ballbox.proofs.Refusals.{ruled, refused-next}
 use Rattle.ballbox.proofs.Obeying.{dropped-settings, dropped-awake}
 use Rattle.history.specs.History.{formatOf, latchedNow, begun, pairedAt, paired, isFive, unsentReply, whenAwake, toldBy, nextBox, passagesOf, goingAfter}
 use Rattle.history.specs.Asked.{hostsPass, allHosts, asks, onlyAsks}
-use Rattle.history.proofs.Carries.{Alike, Carries}
+use Rattle.history.specs.Carried.{SetOf, HeldWith, SetWith, SetTo}
+use Rattle.history.proofs.Carries.{Alike}
 use Rattle.history.proofs.Sending.{latched-carries, five-is, pair-accepted, pairs}
 use Rattle.history.proofs.Bridge.{step-sends, told-is, buttons-line}
-
--- the box is set to f, good and awake, and this, which passes a test, is going
-pub record SetOf (f : Format) (T : Message → Type 0) (b : BallBox) (g : UnderWay Message) : Type 0 where
-  pub good : good b ≡ true
-  pub awake : b .dormant ≡ false
-  pub format : b .settings .format ≡ letterOf f
-  pub carries : Carries b g
-  pub sound : SoundPart messageBytes T g
 
 -- a test of messages that what is latched passes, and what passes it with U's second pair
 pub record Lasting (f : Format) (T : Message → Type 0) : Type 0 where
   pub of-latched : (b : BallBox) → good b ≡ true → b .dormant ≡ false → b .settings .format ≡ letterOf f → T (report (latchedNow b))
   pub of-pair : (b : BallBox) (n : ℕ) (m : Message) → b .settings .format ≡ letterOf f → T m → T (pairedAt b n m)
-
--- such a test: a report that f holds, or a reply that passes another; the narrower theorems have no replies
-abbrev pub HeldWith : (List ℕ → Type 0) → Format → Message → Type 0
-HeldWith P f (report l) = HeldBy f (report l)
-HeldWith P f (reply bytes) = P bytes
-
-abbrev pub SetWith : (List ℕ → Type 0) → Format → BallBox → UnderWay Message → Type 0
-SetWith P f b g = SetOf f (HeldWith P f) b g
-
-abbrev pub SetTo : Format → BallBox → UnderWay Message → Type 0
-SetTo f b g = SetWith (λ _. ⊥) f b g
 
 pub same-format : (b : BallBox) (f : Format) → b .settings .format ≡ letterOf f → formatOf b ≡ f
 same-format b f e = rw (e, letter-named f)

@@ -1,4 +1,4 @@
--- The bridge: from any good box with nothing going, over every list of events, the words of a run are the words of its passages.
+-- The bridge: from any good box, over every list of events, the words of a run are the words of its passages.
 use Prim.Native.Nat.{ℕ}
 use mathlib.Core.Path.{_≡_, refl, sym, _∙_, ap, ap₂}
 use mathlib.Core.Bool.{Bool, true, false, cond}
@@ -23,7 +23,8 @@ use Rattle.ballbox.proofs.Goodness.{stepped-good}
 use Rattle.ballbox.proofs.Refusals.{ruled}
 use Rattle.history.specs.Runs.{RunPromise, wordsGiven}
 use Rattle.history.specs.History.{whenAwake, whenAsleep, toldBy, nextBox, passagesOf, goingAfter}
-use Rattle.history.proofs.Carries.{Alike, Carries, same-line, Sends}
+use Rattle.history.specs.Carried.{Carries}
+use Rattle.history.proofs.Carries.{Alike, same-line, Sends}
 use Rattle.history.proofs.Sending.{send-sends, latch-sends}
 use Rattle.history.proofs.Hosts.{host-busy, host-idle}
 
@@ -91,10 +92,6 @@ Holds b g = (good b ≡ true) × Carries b g
 step : (b : BallBox) (e : Event) (g : UnderWay Message) → Holds b g → (partWords messageBytes g ++ stepOf b e .words ≡ passageWords messageBytes (toldBy b e g .passages) ++ partWords messageBytes (toldBy b e g .going)) × Holds (nextBox b e) (toldBy b e g .going)
 step b e g h = let s = step-sends b e g (h .0) (h .1) in (s .words, (stepped-good b e (h .0), s .carries))
 
-rules-bridge : (b : BallBox) (events : List Event) → good b ≡ true → bytesLeft b ≡ false → givenOver nextBox (λ b e. stepOf b e .words) b events ≡ passageWords messageBytes (passagesOf b nothing events) ++ partWords messageBytes (goingAfter b nothing events)
-rules-bridge b events k h =
-    bridge messageBytes nextBox (λ b e. stepOf b e .words) toldBy Holds step b nothing events (k, h)
-
 -- any answers that the promise permits give the words of the rules
 pub permitted : (b : BallBox) (events : List Event) (answers : List Stepped) → RunPromise b events answers → wordsGiven answers ≡ givenOver nextBox (λ b e. stepOf b e .words) b events
 unfolding RunPromise givenOver
@@ -106,6 +103,13 @@ permitted b (e ∷ events) (a ∷ answers) p =
     ap₂ _++_ (ap (λ (x : box.Step). x .words) (p .0))
     (permitted (a .next) events answers (p .1) ∙ rw n)
 
--- The words of a run are the words of its passages and of what is going after them: dormancy, format commands and replies included.
+-- The words of a run, behind what of the report or reply that was going has gone before it, are the words of its
+-- passages and of what is going after them: dormancy, format commands and replies included.
+pub run-carried : (b : BallBox) (g : UnderWay Message) (events : List Event) (answers : List Stepped) → good b ≡ true → Carries b g → RunPromise b events answers
+    → partWords messageBytes g ++ wordsGiven answers ≡ passageWords messageBytes (passagesOf b g events) ++ partWords messageBytes (goingAfter b g events)
+run-carried b g events answers k h p =
+    ap (λ (ws : List ℕ). partWords messageBytes g ++ ws) (permitted b events answers p) ∙ bridge messageBytes nextBox (λ b e. stepOf b e .words) toldBy Holds step b g events (k, h)
+
+-- and with nothing going
 pub run-passages : (b : BallBox) (events : List Event) (answers : List Stepped) → good b ≡ true → bytesLeft b ≡ false → RunPromise b events answers → wordsGiven answers ≡ passageWords messageBytes (passagesOf b nothing events) ++ partWords messageBytes (goingAfter b nothing events)
-run-passages b events answers k h p = permitted b events answers p ∙ rules-bridge b events k h
+run-passages b events answers k h p = run-carried b nothing events answers k h p

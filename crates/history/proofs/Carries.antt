@@ -1,49 +1,24 @@
--- What is going in the box, as the history tells it.
+-- What is going in a box, and what an answer does to it.
 use Prim.Native.Nat.{ℕ, _≤_, _<_}
 use mathlib.Core.Path.{_≡_, _∙_}
-use mathlib.Core.Bool.{true, false}
 use mathlib.Core.List.{List, [], _∷_, _++_}
 use native.Mathlib.Omega.{arith}
 use lib.ListN.{length, getD, List·getD-append}
 use lib.Seq.{getD-take}
 use Rattle.frames.specs.Passages.{UnderWay, nothing, first, passageWords, partWords}
 use Rattle.frames.specs.Sender.{Told}
-use Rattle.wire.specs.Line.{letterOf}
 use Rattle.wire.specs.Table.{five}
-use Rattle.wire.specs.Holds.{accepted}
 use Rattle.wire.specs.Reading.{at}
 use Rattle.wire.specs.Messages.{Message, report, reply, messageBytes}
 use Rattle.wire.proofs.Front.{size-between}
 use Rattle.wire.proofs.Codec.{bytes-length}
 use Rattle.ballbox.specs.Box as box
-use Rattle.ballbox.specs.Events.{bytesLeft}
 use Rattle.ballbox.specs.declared.BallBox.{BallBox}
-use Rattle.ballbox.specs.declared.Going.{Going}
-
--- the box's bytes for it
-abbrev pub onLine : UnderWay Message → Going
-onLine nothing = box.nothing
-onLine (first n m) = record { length = length (messageBytes m); sent = n; bytes = five (messageBytes m) }
-
--- a report of the format that is set, which it holds; a reply of at most three bytes
-abbrev pub Sendable : BallBox → Message → Type 0
-Sendable b (report l) = (b .settings .format ≡ letterOf (l .format)) × (accepted (l .format) (l .report) ≡ true)
-Sendable b (reply bytes) = length bytes ≤ 3
-
--- bytes of it are left, and the box is awake
-pub record Rightly (b : BallBox) (n : ℕ) (m : Message) : Type 0 where
-  pub left : n < length (messageBytes m)
-  pub sendable : Sendable b m
-  pub awake : b .dormant ≡ false
+use Rattle.history.specs.Carried.{Sendable, Rightly, Carries}
 
 pub at-most-five : (b : BallBox) (m : Message) → Sendable b m → length (messageBytes m) ≤ 5
 at-most-five b (report l) s = omega (arith, bytes-length (l .format) (l .report), size-between (l .format) .1)
 at-most-five b (reply bytes) s = omega arith
-
--- this is going in the box: it has no bytes left, or just these
-abbrev pub Carries : BallBox → UnderWay Message → Type 0
-Carries b nothing = bytesLeft b ≡ false
-Carries b (first n m) = (b .going ≡ onLine (first n m)) × Rightly b n m
 
 -- a box with the format and the sleep of another
 pub record Alike (b c : BallBox) : Type 0 where

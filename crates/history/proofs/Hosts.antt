@@ -17,7 +17,8 @@ use Rattle.ballbox.specs.declared.Command.the-variants.{SetFormat, SetStream, S
 use Rattle.ballbox.proofs.Cases.{dropped-idle}
 use Rattle.ballbox.proofs.Obeying.{dropped-settings, dropped-awake}
 use Rattle.history.specs.History.{unsentReply}
-use Rattle.history.proofs.Carries.{Carries, Sends}
+use Rattle.history.specs.Carried.{Carries}
+use Rattle.history.proofs.Carries.{Sends}
 use Rattle.history.proofs.Sending.{bytes-left}
 
 -- a reply to be sent, of which nothing has gone

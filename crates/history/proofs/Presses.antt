@@ -43,7 +43,7 @@ use Rattle.history.specs.Runs.{RunPromise}
 use Rattle.history.specs.History.{whenAwake, toldBy, nextBox, passagesOf}
 use Rattle.history.specs.Asked.{hostsPass, allHosts, asks}
 use Rattle.history.specs.Presses.{NoReport, nothing-going, a-reply, empties, noneEmpties, changeTo, changesIn, inPlaceOfLast, noting, statesOver, noNinth, neverNinth, shownIn, shownBy, boxAfter, lastBox}
-use Rattle.history.proofs.Carries.{Carries}
+use Rattle.history.specs.Carried.{Carries}
 use Rattle.history.proofs.Bridge.{step-sends, told-is}
 use Rattle.history.proofs.Asking.{refused-told}
 use Rattle.history.proofs.Showing.{Showing, same-showing, Keeps, send-keeps, latch-keeps, buttons-keep, Kept, kept-command, host-keeps}

@@ -36,7 +36,8 @@ use Rattle.ballbox.proofs.Cases.{latching-busy, latching-wanted, latching-idle,
 use Rattle.ballbox.proofs.Parts.{letter-known, parts as good-parts, good-shown}
 use Rattle.ballbox.proofs.Latches.{latched-bytes}
 use Rattle.history.specs.History.{latchedNow, begun, formatOf, pairedAt, paired, withPair, isFive}
-use Rattle.history.proofs.Carries.{onLine, Alike, Carries, at-most-five, still-rightly, at-five, Sends}
+use Rattle.history.specs.Carried.{onLine, Carries}
+use Rattle.history.proofs.Carries.{Alike, at-most-five, still-rightly, at-five, Sends}
 
 pub bytes-left : (b : BallBox) (n : ℕ) (m : Message) → Carries b (first n m) → bytesLeft b ≡ true
 bytes-left b n m h = rw (h .0) (lt-ltb n (length (messageBytes m)) (h .1 .left))

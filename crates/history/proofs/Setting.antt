@@ -18,8 +18,9 @@ use Rattle.ballbox.specs.declared.Command.the-variants.{SetFormat}
 use Rattle.ballbox.specs.declared.Event.the-variants.{Host}
 use Rattle.ballbox.proofs.Goodness.{stepped-good}
 use Rattle.ballbox.proofs.Refusals.{ruled}
+use Rattle.history.specs.Carried.{SetTo}
 use Rattle.history.proofs.Hosts.{none-left}
-use Rattle.history.proofs.Asking.{SetTo, dropped-alike}
+use Rattle.history.proofs.Asking.{dropped-alike}
 
 sets-format : (f : Format) → commandOf (letterOf f) ≡ SetFormat (letterOf f)
 unfolding commandOf known namedBy

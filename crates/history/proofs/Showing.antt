@@ -29,7 +29,7 @@ use Rattle.ballbox.proofs.Remembering.{memory-parts, remembered-length, remembe
 use Rattle.ballbox.proofs.Cases.{latching-busy, latching-wanted, latching-idle, sending-byte, sending-silence, dropped-busy, dropped-idle}
 use Rattle.history.specs.History.{latchedNow, begun, pairedAt, isFive, unsentReply, whenAwake}
 use Rattle.history.specs.Presses.{empties, changeTo, inPlaceOfLast, noting, shownIn, shownBy}
-use Rattle.history.proofs.Carries.{Carries}
+use Rattle.history.specs.Carried.{Carries}
 use Rattle.history.proofs.Sending.{bytes-left, pairs}
 
 -- the report that is going shows the first state that is remembered, or none

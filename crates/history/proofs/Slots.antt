@@ -2,7 +2,9 @@
 use mathlib.Core.Path.{_≡_, refl, sym, _∙_, ap, ap₂}
 use mathlib.Core.Bool.{Bool, true, false, cond}
 use mathlib.Core.List.{List, [], _∷_, _++_, append-assoc}
+use Rattle.numbers.proofs.Choices.{cases}
 use Rattle.frames.specs.Words.{silence}
+use Rattle.wire.specs.Numbers.{success}
 use Rattle.ballbox.specs.Box.{Step, goingFrom}
 use Rattle.ballbox.specs.Latching.{latched}
 use Rattle.ballbox.specs.Events.{gives, bytesLeft, wanted, latching, nextByte, sending, awake, asleep}
@@ -18,7 +20,7 @@ use Rattle.ballbox.proofs.Latches.{first-plain}
 use Rattle.ballbox.proofs.Refusals.{ruled}
 use Rattle.history.specs.Runs.{RunPromise, wordsGiven}
 use Rattle.history.specs.Presses.{lastBox}
-use Rattle.history.specs.Slots.{onSlot, slotOf, joined, Timed, slot, still, timedWords, timedBox, apartly}
+use Rattle.history.specs.Slots.{onSlot, slotOf, joined, Timed, slot, still, timedWords, timedBox, timedNumbers, numbersTold, apartly}
 use Rattle.history.proofs.Asking.{latching-alike}
 
 -- awake: latching, and then sending
@@ -65,23 +67,43 @@ slot-was b p q s t =
     let n : p .next ≡ stepOf b Latch .next = ap (λ (x : Step). x .next) s in
     ap₂ joined s (t ∙ ap (λ (x : BallBox). stepOf x Send) n) ∙ latch-send b
 
--- over every run: its words and its last box
+-- and each of the two tells what Slot told
+sending-fine : (b : BallBox) → sending b .refusal ≡ success
+unfolding sending nextByte
+sending-fine b = cases (λ (x : Step). x .refusal ≡ success) (bytesLeft b) (λ _. refl) (λ _. refl)
+
+latch-number : (b : BallBox) → stepOf b Latch .refusal ≡ slotOf b .refusal
+unfolding stepOf slotOf asleep awake
+latch-number b = go (good b) refl (b .dormant) refl
+  where
+    go : (t : Bool) → good b ≡ t → (d : Bool) → b .dormant ≡ d → stepOf b Latch .refusal ≡ slotOf b .refusal
+    go false g d e = rw g
+    go true g true e = ap (λ (x : Step). x .refusal) (ruled b Latch true g refl e) ∙ sym (ap (λ (x : Step). x .refusal) (slot-ruled b true g e))
+    go true g false e =
+        ap (λ (x : Step). x .refusal) (ruled b Latch false g refl e)
+        ∙ sym (sending-fine (latching b))
+        ∙ ap (λ (x : Step). x .refusal) (on-slot b g ∙ sym (slot-ruled b false g e))
+
+-- over every run: its words, its last box, and the numbers told
 pub slots-were : (b : BallBox) (events : List Timed) (answers : List Stepped) → RunPromise b (apartly events) answers
-    → (wordsGiven answers ≡ timedWords b events) × (lastBox b answers ≡ timedBox b events)
-unfolding RunPromise lastBox timedWords timedBox
-slots-were b [] [] h = (refl, refl)
+    → (wordsGiven answers ≡ timedWords b events) × (lastBox b answers ≡ timedBox b events) × (numbersTold answers ≡ timedNumbers b events)
+unfolding RunPromise lastBox timedWords timedBox timedNumbers
+slots-were b [] [] h = (refl, refl, refl)
 slots-were b [] (a ∷ answers) h = absurd h
 slots-were b (slot ∷ events) [] h = absurd h
 slots-were b (slot ∷ events) (p ∷ []) h = absurd (h .1)
 slots-were b (slot ∷ events) (p ∷ q ∷ answers) h =
     let e = slot-was b p q (h .0) (h .1 .0) in
     let n : q .next ≡ slotOf b .next = ap (λ (x : Step). x .next) e in
+    let first : p .refusal ≡ slotOf b .refusal = ap (λ (x : Step). x .refusal) (h .0) ∙ latch-number b in
+    let second : q .refusal ≡ slotOf b .refusal = ap (λ (x : Step). x .refusal) e in
     let rest = slots-were (q .next) events answers (h .1 .1) in (
       sym (append-assoc (sentWords (p .sent)) (sentWords (q .sent)) (wordsGiven answers)) ∙ ap₂ _++_ (ap (λ (x : Step). x .words) e) (rest .0 ∙ rw n),
       rest .1 ∙ rw n,
+      ap₂ _∷_ first (ap₂ _∷_ second (rest .2 ∙ rw n)),
     )
 slots-were b (still e ∷ events) [] h = absurd h
 slots-were b (still e ∷ events) (a ∷ answers) h =
     let n : a .next ≡ stepOf b e .next = ap (λ (x : Step). x .next) (h .0) in
     let rest = slots-were (a .next) events answers (h .1) in
-    (ap₂ _++_ (ap (λ (x : Step). x .words) (h .0)) (rest .0 ∙ rw n), rest .1 ∙ rw n)
+    (ap₂ _++_ (ap (λ (x : Step). x .words) (h .0)) (rest .0 ∙ rw n), rest .1 ∙ rw n, ap₂ _∷_ (ap (λ (x : Step). x .refusal) (h .0)) (rest .2 ∙ rw n))

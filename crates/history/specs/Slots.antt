@@ -1,7 +1,7 @@
 -- What Slot was, before it became Latch and Send: kept to say that it was the two, one behind the other, and for nothing else.
 use Prim.Native.Nat.{ℕ}
 use mathlib.Core.Bool.{not, cond}
-use mathlib.Core.List.{List, [], _∷_, _++_}
+use mathlib.Core.List.{List, [], _∷_, _++_, map}
 use Rattle.frames.specs.Words.{silence}
 use Rattle.wire.specs.Numbers.{badState}
 use Rattle.ballbox.specs.Box.{Step, refused}
@@ -12,6 +12,7 @@ use Rattle.ballbox.specs.Promises.{stepOf}
 use Rattle.ballbox.specs.declared.BallBox.{BallBox}
 use Rattle.ballbox.specs.declared.Event.{Event}
 use Rattle.ballbox.specs.declared.Event.the-variants.{Latch, Send}
+use Rattle.ballbox.specs.declared.Stepped.{Stepped}
 
 -- "If bytes are left, the next goes out; after the last, nothing is going. Otherwise, if a report is due, or mode is O and the box has moved, a
 -- report is latched, due is cleared and byte 1 goes out. Otherwise 257 goes out."; "While any state is remembered a report counts as due"
@@ -48,6 +49,16 @@ timedWords b (t ∷ events) = timedStep b t .words ++ timedWords (timedStep b t 
 unfoldable pub timedBox : BallBox → List Timed → BallBox
 timedBox b [] = b
 timedBox b (t ∷ events) = timedBox (timedStep b t .next) events
+
+-- the numbers that it tells, a Slot's twice: what Latch and Send tell in its place
+unfoldable pub timedNumbers : BallBox → List Timed → List ℕ
+timedNumbers b [] = []
+timedNumbers b (slot ∷ events) = slotOf b .refusal ∷ slotOf b .refusal ∷ timedNumbers (slotOf b .next) events
+timedNumbers b (still e ∷ events) = stepOf b e .refusal ∷ timedNumbers (stepOf b e .next) events
+
+-- those of any answers
+abbrev pub numbersTold : List Stepped → List ℕ
+numbersTold answers = map (λ (a : Stepped). a .refusal) answers
 
 -- "Slot goes": Latch and Send stand in its place
 abbrev pub apartly : List Timed → List Event

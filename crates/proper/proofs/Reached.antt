@@ -50,7 +50,8 @@ use Rattle.ballbox.proofs.Obeying.{dropped-settings, dropped-awake}
 use Rattle.ballbox.proofs.Cases.{latching-wanted, sending-byte, sending-silence, ready-plain, ready-second, dropped-idle}
 use Rattle.history.specs.History.{formatOf, withPair, isFive, whenAwake, toldBy, nextBox, passagesOf, goingAfter}
 use Rattle.history.specs.Asked.{allHosts, asks, onlyAsks}
-use Rattle.history.proofs.Carries.{Alike, Carries}
+use Rattle.history.specs.Carried.{Carries}
+use Rattle.history.proofs.Carries.{Alike}
 use Rattle.history.proofs.Sending.{bytes-left, five-is}
 use Rattle.history.proofs.Bridge.{step-sends, told-is, buttons-line}
 use Rattle.proper.specs.Sends.{handed, allHanded}

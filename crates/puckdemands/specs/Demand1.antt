@@ -1,9 +1,9 @@
 -- Demand 1 of the device and its reader: "Every public entry takes every event, line word, state and buffer and ends with an answer. A refusal has a number from the list, hands back the old
 -- state and writes nothing; a reader given many words does all before the bad one and stops there."
 use Prim.Native.Nat.{ℕ, _*_, _<_, _≤_}
-use mathlib.Core.Path.{_≡_}
+use mathlib.Core.Path.{_≡_, refl}
 use mathlib.Core.Bool.{Bool, true, false}
-use mathlib.Core.List.{List, _∷_, _++_}
+use mathlib.Core.List.{List, [], _∷_, _++_}
 use mathlib.Core.Logic.{_⊎_}
 use lib.ListN.{length, drop, getD}
 use lib.IntN.{ℤ}
@@ -33,6 +33,7 @@ use Rattle.puckreader.proofs.Refusals as refusals
 use Rattle.puckreader.proofs.Goodness as goodness
 use Rattle.puckreader.proofs.Joining as joined
 use Rattle.puckreader.proofs.Room as room
+use Rattle.demands.specs.Refusals.{Tests, rightly}
 
 -- `Puck::made`, `good`, `step`
 pub made-one : (buttons revision maker : ℕ) (p q : Puck) → puck.MadePromise buttons revision maker p → puck.MadePromise buttons revision maker q → p ≡ q
@@ -67,6 +68,16 @@ read-word-refusals = refusals.step-refusals
 
 pub read-line-refusals : (r : PuckReader) (words : List ℕ) (out : List ℤ) (a : PuckReading) (after : List ℤ) → reader.ReadPromise r words out a after → reader.ReadRefusal r words out a after
 read-line-refusals = refusals.read-refusals
+
+-- "Tested in that order": each function's tests stand in the order of the list
+pub puck-tests : (p : Puck) (e : Event) (r : PuckStepped) → puck.StepPromise p e r → Tests (badState ∷ badButtons ∷ []) (r .refusal)
+puck-tests p e r h = rightly refl (puck-refusals p e r h)
+
+pub read-word-tests : (r : PuckReader) (w : ℕ) (s : PuckRead) → reader.StepPromise r w s → Tests (badState ∷ badWord ∷ []) (s .refusal)
+read-word-tests r w s h = rightly refl (read-word-refusals r w s h)
+
+pub read-line-tests : (r : PuckReader) (words : List ℕ) (out : List ℤ) (a : PuckReading) (after : List ℤ) → reader.ReadPromise r words out a after → Tests (badState ∷ badWord ∷ []) (a .refusal)
+read-line-tests r words out a after h = rightly refl (read-line-refusals r words out a after h)
 
 -- which of them it is
 pub puck-bad-state : (p : Puck) (e : Event) (r : PuckStepped) → puck.StepPromise p e r → devices.good p ≡ false → outcome r ≡ refused badState p

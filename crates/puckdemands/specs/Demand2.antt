@@ -1,6 +1,6 @@
 -- Demand 2 of the device and its reader: "Box and reader agree with the manuals: each event moves the box as the rules say, each report has the manual's bytes, and reading them with a ready
 -- reader gives back the report [..]; what was read, encoded again, gives the same bytes, except a minus zero."
-use Prim.Native.Nat.{ℕ, _+_, _-_, _≤_}
+use Prim.Native.Nat.{ℕ, _+_, _-_, _≤_, _%_}
 use mathlib.Core.Path.{_≡_}
 use mathlib.Core.Bool.{true, false}
 use mathlib.Core.List.{List, [], _∷_, _++_}
@@ -30,10 +30,11 @@ use Rattle.puck.specs.Promises.{outcome}
 use Rattle.puck.specs.declared.Puck.{Puck}
 use Rattle.puck.specs.declared.PuckStepped.{PuckStepped}
 use Rattle.puck.proofs.Refusals as refusals
+use Rattle.puck.proofs.Goodness.{made-is-good}
 use Rattle.puck.proofs.Sentences as sentences
 use Rattle.puckreader.specs.State.{fresh, keptIn}
 use Rattle.puckreader.specs.Good as readers
-use Rattle.puckreader.specs.Line.{reportOf, bytesReported, droppedIn, byteIn}
+use Rattle.puckreader.specs.Line.{reportOf, bytesReported, droppedIn, byteIn, Found}
 use Rattle.puckreader.specs.Promises as reader
 use Rattle.puckreader.specs.Runs.{StepsPromise, answers, readerAfter}
 use Rattle.puckreader.specs.HandedOut.{handing, Took}
@@ -44,8 +45,9 @@ use Rattle.puckreader.specs.declared.PuckAnswer.the-variants.{Nothing, Movement
 use Rattle.puckreader.proofs.There as there-and-back
 use Rattle.puckreader.proofs.Counts as counts
 use Rattle.puckhistory.specs.Runs.{RunPromise, wordsGiven}
-use Rattle.puckhistory.specs.History.{passagesOf, goingAfter}
-use Rattle.puckhistory.proofs.Bridge.{Holds, run-passages}
+use Rattle.puckhistory.specs.History.{passagesOf, goingAfter, atPowerUp}
+use Rattle.puckhistory.specs.Carried.{Holds}
+use Rattle.puckhistory.proofs.Bridge.{run-passages, made-holds}
 
 -- "each event moves the box as the rules say": `rules` are those of crates/puck/specs/Rules.antt
 pub by-the-rules : (p : Puck) (e : Event) (r : PuckStepped)
@@ -81,13 +83,23 @@ pub other-bytes : (p : Puck) (byte : ℕ) (r : PuckStepped)
     → outcome r ≡ gives (brokenOff (p .ball)) (withBall (dropped (p .ball)) p)
 other-bytes = sentences.other-bytes
 
--- "each report has the manual's bytes": in a run those of what was latched, and of the self-tests the rows of figure C-5
+-- "each report has the manual's bytes": in a run those of what was latched, and of the self-tests the rows of figure
+-- C-5; behind the bytes that had gone of what is under way at its start
 pub in-a-run : (p : Puck) (going : UnderWay PuckMessage) (events : List Event) (run : List PuckStepped)
     → good p ≡ true
     → Holds p going
     → RunPromise p events run
     → partWords puckBytes going ++ wordsGiven run ≡ passageWords puckBytes (passagesOf p going events) ++ partWords puckBytes (goingAfter p going events)
 in-a-run = run-passages
+
+-- so from its making on, the self-test of power-up first
+pub in-a-run-from-its-making : (buttons revision maker : ℕ) (p : Puck) (events : List Event) (run : List PuckStepped)
+    → puck.MadePromise buttons revision maker p
+    → RunPromise p events run
+    → let powered = atPowerUp (buttons % 8) (revision % 16) (maker % 8) in
+    wordsGiven run ≡ passageWords puckBytes (passagesOf p powered events) ++ partWords puckBytes (goingAfter p powered events)
+in-a-run-from-its-making buttons revision maker p events run made permitted =
+    run-passages p (atPowerUp (buttons % 8) (revision % 16) (maker % 8)) events run (made-is-good buttons revision maker p made) (made-holds buttons revision maker p made) permitted
 
 -- "reading them with a ready reader gives back the report": a report that S holds, or a self-test that the figure has room for, of which r is handed out
 pub read-back : (m : PuckMessage)
@@ -137,5 +149,5 @@ word-counts = counts.step-counts
 pub line-counts : (r : PuckReader) (words : List ℕ) (before : List ℤ) (a : PuckReading) (after : List ℤ)
     → readers.good r ≡ true
     → reader.ReadPromise r words before a after
-    → counts.Found r words before a after
+    → Found r words before a after
 line-counts = counts.read-counts

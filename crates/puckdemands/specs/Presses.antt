@@ -1,32 +1,25 @@
 -- Presses that outlive a busy line, of a device: one that streams, with nothing going, over events of which no byte of the host's is D, P or T.
 use Prim.Native.Nat.{ℕ, suc, _*_, _≤_}
-use mathlib.Core.Path.{_≡_, refl, sym, _∙_, ap}
-use mathlib.Core.Bool.{Bool, true, false, not, cond, _||_}
-use mathlib.Core.List.{List, [], _∷_, _++_, map}
+use mathlib.Core.Path.{_≡_, sym, _∙_, ap}
+use mathlib.Core.Bool.{true, false, not}
+use mathlib.Core.List.{List, _++_, map}
 use lib.ListN.{length}
 use lib.Dec.{eqb}
-use borrow.Author.Tests.{eqb-true, ltb-false, not-true}
+use borrow.Author.Tests.{ltb-false}
 use native.Mathlib.Omega.{arith}
-use Rattle.numbers.proofs.Choices.{cases, both, neither}
-use Rattle.numbers.proofs.Tested.{left, right, holds}
-use Rattle.frames.specs.Passages.{Passage, silent, finished, broken, nothing, Sub, none, gone, stays, finishedBy}
-use Rattle.frames.specs.Retold.{passagesAs}
-use Rattle.wire.specs.Line.{letterOf, sizeBy, known, namedBy}
-use Rattle.wire.specs.Messages.{Message, report, reply}
+use Rattle.frames.specs.Passages.{Passage, nothing, Sub, finishedBy}
+use Rattle.wire.specs.Line.{sizeBy}
 use Rattle.wire.specs.declared.Format.the-variants.{Mm}
-use Rattle.ballbox.specs.Box.{modeD}
-use Rattle.ballbox.specs.Commands.{letterP}
 use Rattle.ballbox.specs.Presses.{remembered}
 use Rattle.ballbox.specs.Events.{bytesLeft}
 use Rattle.ballbox.specs.declared.Event.{Event}
-use Rattle.ballbox.specs.declared.Event.the-variants.{Motion, Buttons, Host, Latch, Send, Period}
 use Rattle.history.specs.History as box-history
-use Rattle.history.specs.Asked.{allHosts}
-use Rattle.history.specs.Presses.{nothing-going, empties, noneEmpties, noHost, changesIn, statesOver, neverNinth, shownIn, ShownAgain, slotsIn}
-use Rattle.history.proofs.Asking.{SetTo, hosts-by}
-use Rattle.vsxxx.specs.Reports.{PuckReport, movement, self-test, PuckMessage, of-box, of-test}
+use Rattle.history.specs.Carried.{SetTo}
+use Rattle.history.specs.Presses.{nothing-going, noHost, changesIn, statesOver, neverNinth, ShownAgain, slotsIn}
+use Rattle.history.proofs.Asking.{hosts-by}
+use Rattle.vsxxx.specs.Reports.{PuckMessage, of-box}
 use Rattle.puck.specs.Device.{testing}
-use Rattle.puck.specs.Rules.{modeR, letterT, isBoxes, noCommand, asBox}
+use Rattle.puck.specs.Rules.{modeR, letterT, asBox}
 use Rattle.puck.specs.Good.{good}
 use Rattle.puck.specs.declared.Puck.{Puck}
 use Rattle.puck.specs.declared.PuckStepped.{PuckStepped}
@@ -35,17 +28,13 @@ use Rattle.puckreader.specs.HandedOut.{HandsOut, finishedReports}
 use Rattle.puckreader.proofs.Handed.{followed}
 use Rattle.puckhistory.specs.Runs.{RunPromise, wordsGiven, lastPuck, asBoxAnswer, withoutT}
 use Rattle.puckhistory.specs.History.{inBox, passagesOf, goingAfter}
-use Rattle.puckhistory.proofs.Bridge.{Holds, in-box, by-box, run-passages, run-sound}
+use Rattle.puckhistory.specs.Carried.{Holds, by-box}
+use Rattle.puckhistory.specs.Presses.{leaves, allLeave, shownInPuck, ofBox, buttonsIn}
+use Rattle.puckhistory.proofs.Bridge.{in-box, run-passages, run-sound}
 use Rattle.puckhistory.proofs.AsBox.{box-run, last-ball, box-passages, finished-as}
+use Rattle.puckhistory.proofs.Presses.{box-again, shown-among, leaves-T, handed-keeps, same-events, three-bytes}
 use Rattle.demands.specs.Presses as presses
 use Rattle.demands.specs.Presses.{AllShown}
-
--- any byte of the host's but D, P and T
-abbrev pub leaves : ℕ → Bool
-leaves byte = not (eqb byte modeD || eqb byte letterP || eqb byte letterT)
-
-abbrev pub allLeave : List Event → Bool
-allLeave events = allHosts leaves events
 
 -- such a device, and a run of it: any answers that the promise of the public step permits
 pub record Streaming (p : Puck) (events : List Event) (answers : List PuckStepped) : Type 0 where
@@ -55,82 +44,6 @@ pub record Streaming (p : Puck) (events : List Event) (answers : List PuckSteppe
   pub idle : bytesLeft (p .ball) ≡ false
   pub keeps : allLeave events ≡ true
   pub permitted : RunPromise p events answers
-
--- the states that finished reports of a device showed
-abbrev pub shownInPuck : PuckMessage → List ℕ
-shownInPuck (of-box m) = shownIn m
-shownInPuck (of-test t) = []
-
--- the passages of its box: those that are no self-test
-abbrev pub ofBox : List (Passage PuckMessage) → List (Passage Message)
-ofBox [] = []
-ofBox (silent ∷ passages) = silent ∷ ofBox passages
-ofBox (finished (of-box m) ∷ passages) = finished m ∷ ofBox passages
-ofBox (finished (of-test t) ∷ passages) = ofBox passages
-ofBox (broken n (of-box m) ∷ passages) = broken n m ∷ ofBox passages
-ofBox (broken n (of-test t) ∷ passages) = ofBox passages
-
--- the buttons of a report that is handed out
-abbrev pub buttonsIn : PuckReport → ℕ
-buttonsIn (movement r) = r .buttons
-buttonsIn (self-test t) = t .buttons
-
-box-again : (l : List (Passage Message)) → ofBox (passagesAs of-box l) ≡ l
-box-again [] = refl
-box-again (silent ∷ l) = rw (box-again l)
-box-again (finished m ∷ l) = rw (box-again l)
-box-again (broken n m ∷ l) = rw (box-again l)
-
--- each state that was shown is among the buttons handed out
-shown-among : (l : List (Passage PuckMessage)) → Sub (finishedBy shownInPuck l) (map buttonsIn (finishedReports l))
-shown-among [] = none
-shown-among (silent ∷ l) = shown-among l
-shown-among (finished (of-box (report r)) ∷ l) =
-    cases (λ (states : List ℕ). Sub (states ++ finishedBy shownInPuck l) (r .report .buttons ∷ map buttonsIn (finishedReports l))) (r .shows) (λ _. stays (shown-among l)) (λ _. gone (shown-among l))
-shown-among (finished (of-box (reply bytes)) ∷ l) = shown-among l
-shown-among (finished (of-test t) ∷ l) = gone (shown-among l)
-shown-among (broken n m ∷ l) = shown-among l
-
--- its bytes are no T, and what the box is handed of them empties no memory
-leaves-T : (byte : ℕ) → leaves byte ≡ true → not (eqb byte letterT) ≡ true
-leaves-T byte h = let n = neither (eqb byte modeD || eqb byte letterP) (eqb byte letterT) (not-true _ h) in rw (n .1)
-
-handed-leaves : (byte : ℕ) → leaves byte ≡ true → not (empties (cond (isBoxes byte) byte noCommand)) ≡ true
-unfolding known namedBy
-handed-leaves byte h =
-    let n = neither (eqb byte modeD || eqb byte letterP) (eqb byte letterT) (not-true _ h) in
-    let m = neither (eqb byte modeD) (eqb byte letterP) (n .0) in
-    go (eqb byte modeR) refl (m .0) (m .1)
-  where
-    go : (t : Bool) → eqb byte modeR ≡ t → eqb byte modeD ≡ false → eqb byte letterP ≡ false → not (empties (cond (isBoxes byte) byte noCommand)) ≡ true
-    go true e d q = rw (eqb-true byte modeR e)
-    go false e d q = rw (e, d, q)
-
-handed-keeps : (events : List Event) → allLeave events ≡ true → noneEmpties (map asBox events) ≡ true
-unfolding allHosts
-handed-keeps [] h = refl
-handed-keeps (Motion dx dy ∷ events) h = handed-keeps events h
-handed-keeps (Buttons n ∷ events) h = handed-keeps events h
-handed-keeps (Host byte ∷ events) h =
-    both (not (empties (cond (isBoxes byte) byte noCommand))) _ (handed-leaves byte (left (leaves byte) (allLeave events) h)) (handed-keeps events (right (leaves byte) (allLeave events) h))
-handed-keeps (Latch ∷ events) h = handed-keeps events h
-handed-keeps (Send ∷ events) h = handed-keeps events h
-handed-keeps (Period ∷ events) h = handed-keeps events h
-
--- where the host sends no byte the box is handed the same events
-same-events : (events : List Event) → noHost events ≡ true → map asBox events ≡ events
-unfolding allHosts
-same-events [] h = refl
-same-events (Motion dx dy ∷ events) h = ap (λ (l : List Event). Motion dx dy ∷ l) (same-events events h)
-same-events (Buttons n ∷ events) h = ap (λ (l : List Event). Buttons n ∷ l) (same-events events h)
-same-events (Host byte ∷ events) h = absurd (holds (left false (noHost events) h))
-same-events (Latch ∷ events) h = ap (λ (l : List Event). Latch ∷ l) (same-events events h)
-same-events (Send ∷ events) h = ap (λ (l : List Event). Send ∷ l) (same-events events h)
-same-events (Period ∷ events) h = ap (λ (l : List Event). Period ∷ l) (same-events events h)
-
-three-bytes : (f : ℕ) → f ≡ letterOf Mm → sizeBy f ≡ 3
-unfolding sizeBy namedBy
-three-bytes f e = rw e
 
 module _ {p : Puck} {events : List Event} {answers : List PuckStepped} (run : Streaming p events answers) where
   -- what it sent, the states that its finished reports showed, and the device after it

@@ -33,7 +33,7 @@ use Rattle.history.specs.History.{nextBox}
 use Rattle.history.specs.Sums.{Kind, over-limit, over-counter, Axis, x-axis, y-axis, excessOf, heldOver}
 use Rattle.history.specs.Account as box
 use Rattle.history.specs.Account.{along, whileAwake, selectsA}
-use Rattle.history.proofs.Asking.{SetTo}
+use Rattle.history.specs.Carried.{SetTo}
 use Rattle.history.proofs.Sums.{added-each}
 use Rattle.history.proofs.Account as accounts
 use Rattle.history.proofs.Account.{Parts, all, Moved, Balances, Balanced, balance, Standing, Unpaired, quiet-accounts, broken-accounts, step-accounts, standing-step, step-throws, none-along}
@@ -49,7 +49,8 @@ use Rattle.puck.proofs.Goodness.{of-four, Quiet, stepped-puck, made-is-good}
 use Rattle.puckhistory.specs.Runs.{RunPromise, lastPuck, nextPuck, puckAfter}
 use Rattle.puckhistory.specs.History.{inBox, boxTells, testTells, tellsOut, tellsIn, toldBy, passagesOf, goingAfter, atPowerUp}
 use Rattle.puckhistory.specs.Account.{over, fedBy, valueIn, inFinished, inGoing, inCounter, excessBy, inBroken, isT, clearedBy, thrownThen, thrownSince}
-use Rattle.puckhistory.proofs.Bridge.{Holds, by-box, by-test, in-box, quiet-told, step-sent, made-holds}
+use Rattle.puckhistory.specs.Carried.{Holds, by-box, by-test}
+use Rattle.puckhistory.proofs.Bridge.{in-box, quiet-told, step-sent, made-holds}
 
 -- a byte that the box is handed selects no format
 none-known : (byte : ℕ) → known (cond (isBoxes byte) byte noCommand) ≡ false

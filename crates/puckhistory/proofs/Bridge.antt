@@ -23,9 +23,10 @@ use Rattle.ballbox.specs.declared.BallBox.{BallBox}
 use Rattle.ballbox.specs.declared.Event.{Event}
 use Rattle.ballbox.specs.declared.Event.the-variants.{Motion, Buttons, Host, Latch, Send, Period}
 use Rattle.history.specs.History as told-by
+use Rattle.history.specs.Carried.{SetTo}
 use Rattle.history.proofs.Sending.{bytes-left}
 use Rattle.history.proofs.Bridge.{step-sends}
-use Rattle.history.proofs.Asking.{SetTo, Asks, Asking, set-sound, asked-step}
+use Rattle.history.proofs.Asking.{Asks, Asking, set-sound, asked-step}
 use Rattle.vsxxx.specs.SelfTests.{testBytes, holdsTest}
 use Rattle.vsxxx.specs.Reports.{PuckMessage, of-box, of-test, puckBytes, HeldByPuck}
 use Rattle.vsxxx.proofs.Bytes.{bytes-are, room-holds}
@@ -39,6 +40,7 @@ use Rattle.puck.proofs.Parts as parts-of
 use Rattle.puck.proofs.Parts.{Rests, Going, Good, parts, is-going}
 use Rattle.puck.proofs.Goodness.{Quiet, of-four, stepped-puck, made-is-good}
 use Rattle.puckhistory.specs.Runs.{RunPromise, wordsGiven, nextPuck}
+use Rattle.puckhistory.specs.Carried.{Holds, by-box, by-test}
 use Rattle.puckhistory.specs.History.{inBox, boxTells, testTells, tellsIn, tellsOut, toldBy, passagesOf, goingAfter, atPowerUp}
 
 -- the box is handed only bytes that ask for reports, and one that it ignores
@@ -50,11 +52,6 @@ hands (Host byte) = of-four (λ (x : ℕ). Asking (commandOf x)) tt tt tt tt byt
 hands Latch = tt
 hands Send = tt
 hands Period = tt
-
--- what is under way of the device: what its box has going, or a self-test of which n bytes have gone
-pub data Holds (p : Puck) : UnderWay PuckMessage → Type 0 where
-  by-box : (g : UnderWay Message) → p .test .left ≡ 0 → SetTo Mm (p .ball) g → Holds p (underWayAs of-box g)
-  by-test : (n : ℕ) → n + p .test .left ≡ 4 → 0 < p .test .left → SetTo Mm (p .ball) nothing → Holds p (first n (of-test (testNow p)))
 
 -- a step does to the line what is told of it
 pub record Sends (a : Step) (g : UnderWay PuckMessage) (t : Told PuckMessage) : Type 0 where

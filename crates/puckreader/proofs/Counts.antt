@@ -1,17 +1,16 @@
 -- What a step and a long read count, of any answers that the promises permit.
-use Prim.Native.Nat.{ℕ, _+_, _*_}
+use Prim.Native.Nat.{ℕ, _+_}
 use mathlib.Core.Path.{_≡_, _∙_, ap}
 use mathlib.Core.Bool.{true}
-use mathlib.Core.List.{List, _++_}
-use lib.ListN.{length, take, drop}
+use mathlib.Core.List.{List}
+use lib.ListN.{length}
 use lib.IntN.{ℤ}
 use Rattle.fold.specs.Fold.{run, written}
 use Rattle.fold.specs.Counting.{Long, longRead}
 use Rattle.fold.proofs.Counting.{places-total}
 use Rattle.wire.specs.Numbers.{success}
-use Rattle.vsxxx.specs.Reports.{PuckReport}
 use Rattle.puckreader.specs.Good.{good}
-use Rattle.puckreader.specs.Line.{reportOf, handedOut, numbers, bytesReported, droppedIn, byteIn, bytesIn, reads, counts}
+use Rattle.puckreader.specs.Line.{reportOf, handedOut, bytesReported, droppedIn, byteIn, reads, counts, Found}
 use Rattle.puckreader.specs.Promises.{StepPromise, ReadPromise}
 use Rattle.puckreader.specs.declared.PuckReader.{PuckReader}
 use Rattle.puckreader.specs.declared.PuckRead.{PuckRead}
@@ -27,12 +26,6 @@ pub step-counts : (r : PuckReader) (w : ℕ) (s : PuckRead) → good r ≡ true 
 step-counts r w s g p z = let e = step-is r w s p ∙ step-word r w g in rw e (word-counts r w (held r g) (rw e at z))
 
 -- the reports found by a long read, their numbers and their bytes
-pub record Found (r : PuckReader) (words : List ℕ) (before : List ℤ) (a : PuckReading) (after : List ℤ) : Type 0 where
-  pub reports : List PuckReport
-  pub many : a .reports ≡ length reports
-  pub written : after ≡ numbers reports ++ drop (6 * length reports) before
-  pub balance : bytesIn (take (a .taken) words) + r .count ≡ bytesReported reports + a .dropped + a .next .count
-
 pub read-counts : (r : PuckReader) (words : List ℕ) (before : List ℤ) (a : PuckReading) (after : List ℤ) → good r ≡ true → ReadPromise r words before a after → Found r words before a after
 unfolding longRead
 read-counts r words before a after g p =

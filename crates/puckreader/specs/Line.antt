@@ -3,7 +3,7 @@ use Prim.Native.Nat.{ℕ, _+_, _*_, _≤_}
 use mathlib.Core.Path.{_≡_}
 use mathlib.Core.Bool.{true, cond}
 use mathlib.Core.List.{List, [], _∷_, _++_}
-use lib.ListN.{length}
+use lib.ListN.{length, take, drop}
 use lib.IntN.{ℤ}
 use Rattle.frames.specs.Words.{isByte}
 use Rattle.fold.specs.Fold.{Machine, ran, run}
@@ -86,6 +86,13 @@ pub record Bounds (r : PuckReader) (words : List ℕ) (out : List ℤ) (a : Puck
   pub some : a .taken ≤ length words
   pub room : 6 * a .reports ≤ length out
   pub few : a .dropped + a .next .count ≤ a .taken + r .count
+
+-- the reports found by a long read, their numbers in the slice and their bytes in the account
+pub record Found (r : PuckReader) (words : List ℕ) (before : List ℤ) (a : PuckReading) (after : List ℤ) : Type 0 where
+  pub reports : List PuckReport
+  pub many : a .reports ≡ length reports
+  pub written : after ≡ numbers reports ++ drop (6 * length reports) before
+  pub balance : bytesIn (take (a .taken) words) + r .count ≡ bytesReported reports + a .dropped + a .next .count
 
 -- what is given back for words at the front of a line, by a reader that stays good; where no word is taken the line ends there
 pub record Begins (r : PuckReader) (words : List ℕ) (before : List ℤ) (t : PuckReading) (after : List ℤ) : Type 0 where

@@ -9,16 +9,17 @@ use lib.Dec.{leb, eqb}
 use borrow.Author.Tests.{ltb-true, leb-true, eqb-true, eqb-false, le-leb, eq-eqb, ne-eqb, not-true}
 use Rattle.numbers.proofs.Choices.{cases, both}
 use Rattle.numbers.proofs.Tested.{left, right}
-use Rattle.listing.specs.Scanning.{width, mostLines}
+use Rattle.listing.specs.Scanning.{mostAt, width, mostLines}
 use Rattle.listing.specs.declared.Item.{Item}
 use Rattle.listing.specs.declared.Item.the-variants as item
 use Rattle.listing.specs.declared.Given.{Given}
 use Rattle.listing.specs.declared.Given.the-variants.{Nothing, One}
-use Rattle.readback.specs.Items.{Small, itemIn, widthIn, salvageIn}
+use Rattle.readback.specs.Items.{Proper, itemIn, widthIn, salvageIn}
 use Rattle.readback.specs.Steps.{oldWidth, widthKnown, openedAt, passedBy, above, faulty, opens, said, stepOf, besides, fresh, good}
 use Rattle.readback.specs.declared.Readback.{Readback}
 use Rattle.readback.specs.declared.Step.{Step}
 use Rattle.readback.proofs.Values.{SmallGiven, small-item}
+use Rattle.readback.proofs.Grammar.{Reads, item-read}
 
 -- the widths that are known: four, or six
 pub known-is : (w : ℕ) → widthKnown w ≡ true → (w ≡ oldWidth) ⊎ (w ≡ width)
@@ -34,37 +35,50 @@ known-few w k = ⊎-elim (λ e. omega (arith, e)) (λ e. omega (arith, e)) (know
 pub known-some : (w : ℕ) → widthKnown w ≡ true → oldWidth ≤ w
 known-some w k = ⊎-elim (λ e. omega (arith, e)) (λ e. omega (arith, e)) (known-is w k)
 
+-- and the numbers that they have
+pub most-known : (w : ℕ) → widthKnown w ≡ true → mostAt w ≤ mostLines
+most-known w k = ⊎-elim (λ e. subst (λ (v : ℕ). mostAt v ≤ mostLines) (sym e) (omega arith)) (λ e. subst (λ (v : ℕ). mostAt v ≤ mostLines) (sym e) (omega arith)) (known-is w k)
+
 -- a good reader behind its first line
 pub record Begun (r : Readback) : Type 0 where
-  pub last : r .last ≤ mostLines
+  pub last : r .last ≤ mostAt (r .width)
   pub width : widthKnown (r .width) ≡ true
   pub some : besides (r .ended) ≤ r .lines
   pub few : r .lines ≤ r .last + besides (r .ended)
 
 module _ (r : Readback) where
-  abbrev tests : Bool
-  tests = widthKnown (r .width) && leb (besides (r .ended)) (r .lines) && leb (r .lines) (r .last + besides (r .ended))
+  abbrev known : Bool
+  known = widthKnown (r .width)
+
+  abbrev numbered : Bool
+  numbered = leb (r .last) (mostAt (r .width))
+
+  abbrev some-lines : Bool
+  some-lines = leb (besides (r .ended)) (r .lines)
+
+  abbrev few-enough : Bool
+  few-enough = leb (r .lines) (r .last + besides (r .ended))
 
   pub begun : good r ≡ true → (r .lines ≡ 0 → ⊥) → Begun r
   unfolding good
   begun g n =
       let all = rw (ne-eqb (r .lines) 0 n) at g in
-      let later = right (leb (r .last) mostLines) tests all in
-      let two = left (widthKnown (r .width) && leb (besides (r .ended)) (r .lines)) (leb (r .lines) (r .last + besides (r .ended))) later in
+      let later = right known (numbered && (some-lines && few-enough)) all in
+      let two = right numbered (some-lines && few-enough) later in
       record {
-        last = leb-true _ _ (left (leb (r .last) mostLines) tests all);
-        width = left (widthKnown (r .width)) (leb (besides (r .ended)) (r .lines)) two;
-        some = leb-true _ _ (right (widthKnown (r .width)) (leb (besides (r .ended)) (r .lines)) two);
-        few = leb-true _ _ (right (widthKnown (r .width) && leb (besides (r .ended)) (r .lines)) (leb (r .lines) (r .last + besides (r .ended))) later);
+        last = leb-true _ _ (left numbered (some-lines && few-enough) later);
+        width = left known (numbered && (some-lines && few-enough)) all;
+        some = leb-true _ _ (left some-lines few-enough two);
+        few = leb-true _ _ (right some-lines few-enough two);
       }
 
   pub good-begun : (r .lines ≡ 0 → ⊥) → Begun r → good r ≡ true
   unfolding good
   good-begun n b =
       rw (ne-eqb (r .lines) 0 n)
-      (both (leb (r .last) mostLines) tests (le-leb _ _ (b .last))
-      (both (widthKnown (r .width) && leb (besides (r .ended)) (r .lines)) (leb (r .lines) (r .last + besides (r .ended)))
-      (both (widthKnown (r .width)) (leb (besides (r .ended)) (r .lines)) (b .width) (le-leb _ _ (b .some))) (le-leb _ _ (b .few))))
+      (both known (numbered && (some-lines && few-enough)) (b .width)
+      (both numbered (some-lines && few-enough) (le-leb _ _ (b .last))
+      (both some-lines few-enough (le-leb _ _ (b .some)) (le-leb _ _ (b .few)))))
 
 -- and one before it
 pub unread : (r : Readback) → good r ≡ true → r .lines ≡ 0 → (r .last ≡ 0) × (r .salvage ≡ false)
@@ -84,7 +98,7 @@ few-lines r g = go (eqb (r .lines) 0) refl
   where
     go : (t : Bool) → eqb (r .lines) 0 ≡ t → r .lines ≤ mostLines + 2
     go true e = omega (arith, eqb-true (r .lines) 0 e)
-    go false e = let b = begun r g (eqb-false (r .lines) 0 e) in omega (arith, b .last, b .few, besides-most (r .ended))
+    go false e = let b = begun r g (eqb-false (r .lines) 0 e) in omega (arith, b .last, most-known (r .width) (b .width), b .few, besides-most (r .ended))
 
 -- what a line does, by where it stands
 module _ (r : Readback) (line : List ℕ) where
@@ -112,26 +126,26 @@ fresh-is-good = refl
 opened-good : (s : Bool) (w : ℕ) → widthKnown w ≡ true → good (openedAt s w) ≡ true
 opened-good s w h = good-begun (openedAt s w) (λ z. omega arith) (record { last = omega arith; width = h; some = omega arith; few = omega arith })
 
-passed-good : (r : Readback) (i : Item) → good r ≡ true → (r .lines ≡ 0 → ⊥) → r .ended ≡ false → Small i → above (r .last) i ≡ true → good (passedBy r i) ≡ true
-passed-good r i g n e s a =
+passed-good : (r : Readback) (i : Item) → good r ≡ true → (r .lines ≡ 0 → ⊥) → r .ended ≡ false → Proper (r .width) i → above (r .last) i ≡ true → good (passedBy r i) ≡ true
+passed-good r i g n e p a =
     let b = begun r g n in
     let few = ap besides e in
-    good-begun (passedBy r i) (λ z. omega arith) (go i s a b few)
+    good-begun (passedBy r i) (λ z. omega arith) (go i p a b few)
   where
-    go : (i : Item) → Small i → above (r .last) i ≡ true → Begun r → besides (r .ended) ≡ 1 → Begun (passedBy r i)
-    go (item.R m p x y) s a b few = record { last = s .0; width = b .width; some = omega arith; few = omega (arith, b .few, few, ltb-true (r .last) m a) }
-    go (item.D m k) s a b few = record { last = s .0; width = b .width; some = omega arith; few = omega (arith, b .few, few, ltb-true (r .last) m a) }
-    go (item.H k) s a b few = record { last = b .last; width = b .width; some = omega (arith, b .some, few); few = omega (arith, b .few, few) }
-    go (item.E m) s a b few = record { last = s; width = b .width; some = omega (arith, b .some, few); few = omega (arith, b .few, few, ltb-true (r .last) m a) }
-    go item.Over s a b few = record { last = b .last; width = b .width; some = omega (arith, b .some, few); few = omega (arith, b .few, few) }
+    go : (i : Item) → Proper (r .width) i → above (r .last) i ≡ true → Begun r → besides (r .ended) ≡ 1 → Begun (passedBy r i)
+    go (item.R m p x y) h a b few = record { last = omega (arith, h .0 .0); width = b .width; some = omega arith; few = omega (arith, b .few, few, ltb-true (r .last) m a) }
+    go (item.D m k) h a b few = record { last = omega (arith, h .0 .0); width = b .width; some = omega arith; few = omega (arith, b .few, few, ltb-true (r .last) m a) }
+    go (item.H k) h a b few = record { last = b .last; width = b .width; some = omega (arith, b .some, few); few = omega (arith, b .few, few) }
+    go (item.E m) h a b few = record { last = omega (arith, h .0); width = b .width; some = omega (arith, b .some, few); few = omega (arith, b .few, few, ltb-true (r .last) m a) }
+    go item.Over h a b few = record { last = b .last; width = b .width; some = omega (arith, b .some, few); few = omega (arith, b .few, few) }
 
 -- what a line leaves: a good reader, and an item that is small
 abbrev Leaves : Step → Type 0
 Leaves s = (good (s .next) ≡ true) × SmallGiven (s .given)
 
-said-good : (r : Readback) (g : Given) → good r ≡ true → (r .lines ≡ 0 → ⊥) → r .ended ≡ false → SmallGiven g → Leaves (said r g)
-said-good r Nothing h n e s = (h, tt)
-said-good r (One i) h n e s = cases Leaves (above (r .last) i) (λ a. (passed-good r i h n e s a, s)) (λ _. (h, tt))
+said-good : (r : Readback) (line : List ℕ) (g : Given) → good r ≡ true → (r .lines ≡ 0 → ⊥) → r .ended ≡ false → SmallGiven g → Reads (r .width) line g → Leaves (said r g)
+said-good r line Nothing h n e s p = (h, tt)
+said-good r line (One i) h n e s p = cases Leaves (above (r .last) i) (λ a. (passed-good r i h n e (p .1) a, s)) (λ _. (h, tt))
 
 pub step-leaves : (r : Readback) (line : List ℕ) → good r ≡ true → Leaves (stepOf r line)
 step-leaves r line h = go (r .ended) refl (eqb (r .lines) 0) refl
@@ -141,4 +155,4 @@ step-leaves r line h = go (r .ended) refl (eqb (r .lines) 0) refl
     go false e true z =
         subst Leaves (sym (step-first r line e (eqb-true _ _ z))) (cases Leaves (widthKnown (widthIn line)) (λ k. (opened-good (salvageIn line) (widthIn line) k, tt)) (λ _. (h, tt)))
     go false e false z =
-        subst Leaves (sym (step-item r line e (eqb-false _ _ z))) (said-good r (itemIn (r .width) line) h (eqb-false _ _ z) e (small-item (r .width) line))
+        subst Leaves (sym (step-item r line e (eqb-false _ _ z))) (said-good r line (itemIn (r .width) line) h (eqb-false _ _ z) e (small-item (r .width) line) (item-read (r .width) line))

@@ -1,10 +1,10 @@
 -- What a reader of listings refuses: 6 for one that breaks its rules, which is handed back with an unchanged slice, and 7 for a faulty line, which leaves all as it
 -- stands before that line; a good one is refused for nothing else, and no other is ever made.
-use Prim.Native.Nat.{ℕ}
-use mathlib.Core.Path.{_≡_, refl, sym, _∙_, ap}
+use Prim.Native.Nat.{ℕ, _+_}
+use mathlib.Core.Path.{_≡_, refl, sym, _∙_, ap, subst}
 use mathlib.Core.Bool.{true, false, _&&_}
 use mathlib.Core.Logic.{_⊎_, inl, inr, ⊎-elim}
-use mathlib.Core.List.{List, [], append-nil}
+use mathlib.Core.List.{List, [], _∷_, append-nil, List·Memᴰ·head, List·Memᴰ·tail}
 use native.Mathlib.Omega.{arith}
 use lib.Dec.{eqb}
 use lib.IntN.{ℤ}
@@ -13,10 +13,10 @@ use lib.Seq.{take-all}
 use Rattle.numbers.proofs.Choices.{cases}
 use Rattle.fold.specs.Fold.{Ran, run}
 use Rattle.fold.proofs.Laws.{up-to}
-use Rattle.wire.specs.Numbers.{success}
+use Rattle.wire.specs.Numbers.{success, RefusesRightly, accepted, refusal}
 use Rattle.listing.specs.declared.Given.{Given}
 use Rattle.readback.specs.Steps.{good}
-use Rattle.readback.specs.Pieces.{cutIn, bytesIn, faultyLine, reads, linesOf, back, Whole, whole, counted}
+use Rattle.readback.specs.Pieces.{cutIn, bytesIn, faultyLine, reads, linesOf, back, whole, faultless, counted}
 use Rattle.readback.specs.Promises.{refused, readOf, finishOf, FreshPromise, ReadPromise, FinishPromise}
 use Rattle.readback.specs.declared.Readback.{Readback}
 use Rattle.readback.specs.declared.Back.{Back}
@@ -51,11 +51,16 @@ unfolding finishOf
 finish-stays-good r left a g p =
     rw (rw g at p) (cases (λ (b : Back). good (b .next) ≡ true) (r .ended && eqb left 0) (λ _. g) (λ _. g))
 
--- AS IT STANDS: with a fault, a call gives what a call of the bytes taken gives, but for the number and the line
-abbrev pub faultless : Whole → Whole
-faultless w = whole (back success (w .back .next) (w .back .taken) (w .back .items) 0) (w .out)
+-- an end that is missing leaves the reader as it was, with counts of 0
+pub finish-refusals : (r : Readback) (left : ℕ) (a : Back) → FinishPromise r left a → RefusesRightly (λ (b : Back). b .refusal) (refused r ∷ back faultyLine r 0 0 (r .lines + 1) ∷ []) a
+unfolding finishOf
+finish-refusals r left a p =
+    let P : Back → Type 0 = RefusesRightly (λ (b : Back). b .refusal) (refused r ∷ back faultyLine r 0 0 (r .lines + 1) ∷ []) in
+    subst P (sym p)
+    (cases P (good r) (λ _. cases P (r .ended && eqb left 0) (λ _. accepted refl) (λ _. refusal (List·Memᴰ·tail (List·Memᴰ·head refl)))) (λ _. refusal (List·Memᴰ·head refl)))
 
-no-lines : linesOf [] ≡ []
+-- AS IT STANDS: with a fault, a call gives what a call of the bytes taken gives, but for the number and the line
+pub no-lines : linesOf [] ≡ []
 unfolding linesOf cutIn
 no-lines = refl
 

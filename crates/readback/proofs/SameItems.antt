@@ -3,23 +3,25 @@ use Prim.Native.Nat.{ℕ}
 use mathlib.Core.Path.{_≡_, refl, sym, _∙_, ap, subst}
 use mathlib.Core.Bool.{Bool, true, false, cond}
 use mathlib.Core.Logic.{_⊎_, inl, inr}
-use mathlib.Core.List.{List, [], _∷_, _++_}
+use mathlib.Core.List.{List, [], _∷_, _++_, append-nil}
+use native.Mathlib.Omega.{arith}
 use lib.Dec.{eqb}
 use lib.ListN.{length, take, drop}
-use lib.Seq.{take-at}
+use lib.Seq.{take-at, take-all, length-take-le}
 use Rattle.fold.specs.Fold.{Ran, written, run}
-use Rattle.fold.proofs.Laws.{by-words, stays}
+use Rattle.fold.proofs.Laws.{by-words, stays, up-to, within}
 use Rattle.wire.specs.Numbers.{success, badState}
 use Rattle.readback.specs.Steps.{fresh, good}
 use Rattle.readback.specs.Pieces.{reads, faultyLine, cutIn, bytesIn, bodyOf, linesOf}
-use Rattle.readback.specs.Rewriting.{givenFits, widthBehind, tooWide, Rewriting, rewriting, rewritten, rewrites, counted, rewrittenOf}
+use Rattle.readback.specs.Rewriting.{givenFits, widthBehind, tooWide, Rewriting, rewriting, rewritten, faultless, rewrites, counted, rewrittenOf}
 use Rattle.readback.specs.Promises.{rewriteOf, RewritePromise}
 use Rattle.readback.specs.Rewrites.{Rewrite, PermittedRewrites, tookBy, wroteBy}
 use Rattle.readback.specs.Whole.{readingFrom, readingOf}
 use Rattle.readback.specs.declared.Readback.{Readback}
 use Rattle.readback.specs.declared.Rewritten.{Rewritten}
 use Rattle.readback.proofs.Goodness.{fresh-is-good, step-leaves}
-use Rattle.readback.proofs.Wholes.{cut-wholes, lines-front, lines-whole}
+use Rattle.readback.proofs.Refusals.{no-lines}
+use Rattle.readback.proofs.Wholes.{cut-wholes, lines-wholes, lines-front, lines-whole}
 use Rattle.readback.proofs.Across.{across, whole-line, lines-same, texts-cut}
 
 -- a call of a good reader
@@ -88,3 +90,17 @@ good-rewrite r piece before after a g p =
     let P : ℕ → Type 0 = λ n. (n ≡ success) ⊎ (n ≡ faultyLine) ⊎ (n ≡ tooWide) in
     subst P (sym (ap (λ (w : Rewriting). w .told .refusal) (is r piece before after a g p)))
     (by-words rewrites (λ r lines room f. P (f .refusal)) (λ r room. inl refl) (λ r l lines room e. told (eqb (reads .refusal r l) success) (givenFits (widthBehind r l) (reads .answer r l))) (λ r l lines room f e ih. ih) (linesOf piece) r (length before))
+
+-- AS IT STANDS: with a faulty line, or a number that does not fit, a call gives what a call of the bytes taken gives,
+-- but for the number and the line
+pub rewrite-as-before : (r : Readback) (piece before after rest : List ℕ) (a b : Rewritten) → good r ≡ true → RewritePromise r piece before a after → RewritePromise r (take (a .taken) piece) before b rest
+    → rewriting b rest ≡ faultless (rewriting a after)
+rewrite-as-before r piece before after rest a b g p q =
+    let f = run rewrites r (linesOf piece) (length before) in
+    let ws = take (length (f .answers)) (linesOf piece) in
+    let lines : linesOf (take (a .taken) piece) ≡ ws =
+    ap linesOf (took r piece before after a g p ∙ sym (append-nil (bytesIn ws))) ∙ lines-wholes ws [] (lines-whole rewrites whole-line r piece (length before)) ∙ rw no-lines (append-nil ws) in
+    let long : length (f .answers) ≡ length ws = sym (length-take-le (length (f .answers)) (linesOf piece) (within rewrites (linesOf piece) r (length before) .0)) in
+    is r (take (a .taken) piece) before rest b g q ∙ ap (λ (ls : List (List ℕ)). counted (run rewrites r ls (length before)) ls before) lines
+    ∙ ap (λ (k : Ran Readback (List ℕ)). counted k ws before) (up-to rewrites (linesOf piece) r (length before))
+    ∙ rw (take-all (length (f .answers)) ws (omega (arith, long))) refl ∙ ap faultless (sym (is r piece before after a g p))

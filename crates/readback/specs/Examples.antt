@@ -12,7 +12,7 @@ use Rattle.listing.specs.declared.Middle.the-variants.{Up, Down, Unknown}
 use Rattle.listing.specs.declared.Item.the-variants as item
 use Rattle.readback.specs.Fields.{valueIn, fieldIn, fieldsIn}
 use Rattle.readback.specs.Items.{droppedIn, reportIn, keptIn, badIn, itemIn, widthIn, salvageIn}
-use Rattle.readback.specs.Steps.{fresh, stepOf, good}
+use Rattle.readback.specs.Steps.{readback, fresh, stepOf, good}
 use Rattle.readback.specs.Pieces.{cutIn, linesOf}
 use Rattle.readback.specs.Rewriting.{rewrittenOf}
 use Rattle.readback.specs.Promises.{rewriteOf}
@@ -129,3 +129,8 @@ too-wide = refl
 seven-first : let w = rewriteOf fresh (76 ∷ 9 ∷ 54 ∷ 10 ∷ 68 ∷ 9 ∷ 48 ∷ 49 ∷ 48 ∷ 48 ∷ 48 ∷ 48 ∷ 9 ∷ 48 ∷ 10 ∷ []) (replicate 60 0) .told in (w .refusal ∷ w .line ∷ w .written ∷ [] ≡ 7 ∷ 2 ∷ 4 ∷ [])
 unfolding rewriting-computes
 seven-first = refl
+
+-- a reader behind a line of number 9,999 is good at width 4; behind one of 10,000 it is at width 6 alone
+last-at-four : (good (readback false 4 9999 2 false) ≡ true) × (good (readback false 4 10000 2 false) ≡ false) × (good (readback false 6 10000 2 false) ≡ true)
+unfolding good
+last-at-four = (refl, refl, refl)

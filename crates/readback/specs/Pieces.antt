@@ -83,6 +83,10 @@ pub record Whole : Type 0 where
 abbrev pub whole : Back → List ℤ → Whole
 whole back out = record { back = back; out = out }
 
+-- the same without its fault: no number, and no line
+abbrev pub faultless : Whole → Whole
+faultless w = whole (back success (w .back .next) (w .back .taken) (w .back .items) 0) (w .out)
+
 -- the lines taken: their bytes, their items at the front of the slice, and a fault behind them
 abbrev pub counted : Ran Readback Given → List (List ℕ) → List ℤ → Whole
 counted f lines out =

@@ -63,6 +63,10 @@ rewriting told out = record { told = told; out = out }
 abbrev pub rewritten : ℕ → Readback → ℕ → ℕ → ℕ → Rewritten
 rewritten refusal next taken count line = record { refusal = refusal; next = next; taken = taken; written = count; line = line }
 
+-- the same without its fault: no number, and no line
+abbrev pub faultless : Rewriting → Rewriting
+faultless w = rewriting (rewritten success (w .told .next) (w .told .taken) (w .told .written) 0) (w .out)
+
 -- the lines taken: their bytes, those written at the front of the slice, and a fault behind them
 abbrev pub counted : Ran Readback (List ℕ) → List (List ℕ) → List ℕ → Rewriting
 counted f lines out =

@@ -3,7 +3,7 @@ use Prim.Native.Nat.{ℕ, _+_}
 use mathlib.Core.Bool.{Bool, true, false, not, cond, _&&_, _||_}
 use mathlib.Core.List.{List}
 use lib.Dec.{ltb, leb, eqb}
-use Rattle.listing.specs.Scanning.{width, mostLines}
+use Rattle.listing.specs.Scanning.{mostAt, width}
 use Rattle.listing.specs.declared.Item.{Item}
 use Rattle.listing.specs.declared.Item.the-variants as item
 use Rattle.listing.specs.declared.Given.{Given}
@@ -73,12 +73,12 @@ said r (One i) = passes r i
 unfoldable pub stepOf : Readback → List ℕ → Step
 stepOf r line = cond (r .ended) (faulty r) (cond (eqb (r .lines) 0) (opens r (salvageIn line) (widthIn line)) (said r (itemIn (r .width) line)))
 
--- a good reader: before the first line nothing is known; behind it a known width, a line number that there can be, and as many lines as the numbers allow:
--- one, and another for the last, besides those that have numbers
+-- a good reader: before the first line nothing is known; behind it a known width, a line number that the width has, and
+-- as many lines as the numbers allow: one, and another for the last, besides those that have numbers
 abbrev pub besides : Bool → ℕ
 besides ended = cond ended 2 1
 
 unfoldable pub good : Readback → Bool
 good r =
     cond (eqb (r .lines) 0) (eqb (r .width) 0 && eqb (r .last) 0 && not (r .ended) && not (r .salvage))
-    (leb (r .last) mostLines && (widthKnown (r .width) && leb (besides (r .ended)) (r .lines) && leb (r .lines) (r .last + besides (r .ended))))
+    (widthKnown (r .width) && (leb (r .last) (mostAt (r .width)) && (leb (besides (r .ended)) (r .lines) && leb (r .lines) (r .last + besides (r .ended)))))

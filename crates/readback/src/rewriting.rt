@@ -23,7 +23,7 @@ fn other_width(width: u8) -> u8
 }
 
 // The highest line number at one of them.
-fn most(width: u8) -> u32
+pub(crate) fn most(width: u8) -> u32
     requires { ⌜ widthKnown width ≡ true ⌝ }
     ensures { λ r. ⌜ r ≡ mostAt width ⌝ }
 {

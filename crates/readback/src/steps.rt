@@ -5,6 +5,7 @@ ghost use Rattle.readback.specs.Steps.{widthKnown, lastBehind, above, cl
 use crate::Readback;
 use crate::Step;
 use crate::items;
+use crate::rewriting::most;
 use listing::Given;
 use listing::Item;
 
@@ -69,11 +70,14 @@ impl Readback {
         if self.lines == 0 {
             return (self.width == 0) & (self.last == 0) & !self.ended & !self.salvage;
         }
-        if self.last > 999_999 {
+        if !width_known(self.width as u16) {
+            return false;
+        }
+        if self.last > most(self.width) {
             return false;
         }
         let more = besides(self.ended);
-        width_known(self.width as u16) & (more <= self.lines) & (self.lines <= self.last + more)
+        (more <= self.lines) & (self.lines <= self.last + more)
     }
 
     // A faulty line.

@@ -1,5 +1,5 @@
 -- "Over many words": a line of words, word by word, and a lent slice.
-use Prim.Native.Nat.{ℕ, _+_, _*_}
+use Prim.Native.Nat.{ℕ, _+_, _*_, _≤_}
 use mathlib.Core.List.{List, [], _∷_, _++_, map}
 use lib.ListN.{length, take, drop}
 use lib.IntN.{ℤ}
@@ -122,3 +122,10 @@ unused line out = drop (5 * line .reports) out
 
 abbrev pub asOne : HeardLine → List ℤ → Long → Long
 asOne line out later = joined (line .taken) (line .reports) (line .dropped) (line .reply) (used line out) later
+
+-- how far a long read goes: no more words than there are, no more reports than have room, no more bytes dropped and
+-- kept than it took and had kept
+pub record Bounds (s : ToldReader) (words : List ℕ) (out : List ℤ) (a : HeardLine) : Type 0 where
+  pub some : a .taken ≤ length words
+  pub room : 5 * a .reports ≤ length out
+  pub few : a .dropped + (a .next .reader .count + a .next .awaited .came .count) ≤ a .taken + (s .reader .count + s .awaited .came .count)

@@ -24,15 +24,16 @@ use Rattle.ballbox.specs.declared.BallBox.{BallBox}
 use Rattle.ballbox.proofs.Letters.{Lettered, lettered, named, unnamed}
 use Rattle.ballbox.proofs.Parts.{letter-known, mode-known, few, parts}
 use Rattle.history.specs.History.{unsentReply}
+use Rattle.history.specs.Carried.{HeldWith}
 use Rattle.history.proofs.Carries.{Alike}
-use Rattle.history.proofs.Asking.{HeldWith, Hosts, asking-command, asking-alike, asking-reply}
+use Rattle.history.proofs.Asking.{Hosts, asking-command, asking-alike, asking-reply}
 use Rattle.replies.specs.Replying.{codeByteOf, letterOfCode, isMode, letterFits, fits, more}
 use Rattle.replies.specs.Rules.{replyTo}
-use Rattle.tellings.specs.Lines.{replyTold}
+use Rattle.tellings.specs.Lines.{askedFor, replyTold}
 use Rattle.tellings.specs.Runs.{hasReply, asksOrTells, answerOf}
 use Rattle.replies.specs.declared.Asked.the-variants.{Command}
 use Rattle.replies.specs.declared.Reply.the-variants as reply
-use Rattle.tellings.proofs.Passed.{IsReply, askedFor}
+use Rattle.tellings.proofs.Passed.{IsReply}
 
 -- each reply, by its bytes
 is-ack : IsReply (0x06 ∷ [])

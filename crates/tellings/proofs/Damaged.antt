@@ -41,14 +41,14 @@ use Rattle.replies.specs.Rules.{toldReader, continues}
 use Rattle.replies.specs.Promises.{FreshPromise}
 use Rattle.tellings.specs.Items.{Item, word, telling, asItems, wordsIn, isLegal, legalItems, Done, ItemsPromise, ownAnswersOf, repliesOf, Call, itemsOf, Called, CallsPromise, TookAll}
 use Rattle.tellings.specs.Clear.{awaitedBehind, Clear}
-use Rattle.tellings.specs.Lines.{repliesSent, HandsOutAt, HandsOut, TellsReplies, InReport, in-finished, in-broken, in-going}
+use Rattle.tellings.specs.Lines.{askedFor, passageItems, lineItems, partItems, repliesSent, HandsOutAt, HandsOut, TellsReplies, InReport, in-finished, in-broken, in-going}
 use Rattle.replies.specs.declared.Awaited.{Awaited}
 use Rattle.replies.specs.declared.Reply.{Reply}
 use Rattle.replies.specs.declared.NewToldReader.{NewToldReader}
 use Rattle.replies.proofs.Goodness.{fresh-is-good}
 use Rattle.tellings.proofs.Apart.{doneOf, done-are, given, repliesOver, ownOver, decomposed, handed-given, behind-append, given-append, replies-append, words-behind, words-given, words-replies, same-place}
 use Rattle.tellings.proofs.Calls.{took-all, legal-left}
-use Rattle.tellings.proofs.Passed.{WholeFrom, IsReply, awaitedFor, askedFor, passageItems, lineItems, partItems, HeldOrReply, withoutReplies, withoutReply, over-line, end-given, sound-without, end-without, without-append, unbroken-without, finished-without, items-append, words-same, words-append, line-words}
+use Rattle.tellings.proofs.Passed.{WholeFrom, IsReply, awaitedFor, HeldOrReply, withoutReplies, withoutReply, over-line, end-given, sound-without, end-without, without-append, unbroken-without, finished-without, items-append, words-same, words-append, line-words}
 use Rattle.tellings.proofs.Meeting.{meet, meet-bytes, only-words}
 
 -- from what the halves do to what the public reader does

@@ -1,11 +1,10 @@
 -- Where the reader is told of each reply, the report reader is given the line without them, a broken one leaving a lone 256.
 use Prim.Native.Nat.{ℕ, zero, suc, _<_, _≤_}
 use mathlib.Core.Path.{_≡_, refl, _∙_, ap}
-use mathlib.Core.Bool.{true, false, cond}
+use mathlib.Core.Bool.{true, false}
 use mathlib.Core.List.{List, [], _∷_, _++_, append-assoc, append-nil, map-append}
 use native.Mathlib.Omega.{arith}
 use lib.ListN.{length, take}
-use lib.Dec.{eqb}
 use lib.IntN.{pos}
 use Rattle.frames.specs.Words.{break, silence}
 use Rattle.frames.specs.Passages.{Passage, silent, finished, broken, UnderWay, nothing, first, Unbroken, wordsOf, passageWords, partWords, Unfinished, Sound, SoundOf, SoundPart}
@@ -18,18 +17,15 @@ use Rattle.wire.specs.declared.Format.{Format}
 use Rattle.wire.specs.declared.Format.the-variants.{Mm, Microsoft, Absolute, Relative, FiveByte, ThreeByte, Hexadecimal}
 use Rattle.wire.proofs.Front.{size-between}
 use Rattle.wire.proofs.Codec.{bytes-length}
-use Rattle.ballbox.specs.Commands.{space, letterf, lettert, byte05}
-use Rattle.history.proofs.Asking.{HeldWith}
+use Rattle.history.specs.Carried.{HeldWith}
 use Rattle.replies.specs.Replying as replying
 use Rattle.replies.specs.Replying.{none, awaiting, isNone, finishes, more, told}
 use Rattle.replies.specs.Rules.{kindOf, continues}
 use Rattle.replies.specs.Line.{toldIn}
 use Rattle.tellings.specs.Items.{Item, word, telling, asItems, wordsIn}
 use Rattle.tellings.specs.Clear.{awaitedBehind}
-use Rattle.tellings.specs.Lines.{replyTold, cameOf, repliesIn, repliesSent}
+use Rattle.tellings.specs.Lines.{askedFor, passageItems, lineItems, partItems, replyTold, cameOf, repliesIn, repliesSent}
 use Rattle.replies.specs.declared.Kind.{Kind}
-use Rattle.replies.specs.declared.Asked.{Asked}
-use Rattle.replies.specs.declared.Asked.the-variants.{Command}
 use Rattle.replies.specs.declared.Awaited.{Awaited}
 use Rattle.replies.specs.declared.Reply.{Reply}
 use Rattle.replies.specs.declared.Reply.the-variants as replies
@@ -96,13 +92,7 @@ over-break : (a : Awaited) → Over a (word break ∷ []) (break ∷ []) replyin
 unfolding given repliesOver
 over-break a = record { gives = refl; awaits = refl; tells = refl }
 
--- whose reply it is: by how many bytes it has, and of one byte by whether it is ACK
-abbrev pub askedFor : List ℕ → Asked
-askedFor [] = Command space
-askedFor (b ∷ []) = cond (eqb b 0x06) (Command space) (Command letterf)
-askedFor (f ∷ m ∷ []) = Command lettert
-askedFor (n ∷ p ∷ q ∷ bytes) = Command byte05
-
+-- what is awaited of it
 abbrev pub awaitedFor : List ℕ → Awaited
 awaitedFor bytes = awaiting (kindOf (askedFor bytes)) none
 
@@ -126,23 +116,6 @@ came-from (suc (suc (suc n))) bytes k h l = absurd (omega arith)
 broken-from : (n : ℕ) (bytes : List ℕ) → IsReply bytes → n < length bytes → toldIn (replying.broken (stateFrom n (awaitedFor bytes) bytes)) ≡ replies.Broken (cameOf (take n bytes)) ∷ []
 unfolding replying.broken
 broken-from n bytes r h = rw (came-from n bytes (kindOf (askedFor bytes)) h (r .short), r .some)
-
--- what stands on the line between the tellings, and the tellings
-abbrev pub passageItems : Passage Message → List Item
-passageItems silent = asItems (silence ∷ [])
-passageItems (finished (report l)) = asItems (messageBytes (report l))
-passageItems (finished (reply bytes)) = telling (askedFor bytes) ∷ asItems bytes
-passageItems (broken n (report l)) = asItems (take n (messageBytes (report l)) ++ (break ∷ []))
-passageItems (broken n (reply bytes)) = telling (askedFor bytes) ∷ asItems (take n bytes ++ (break ∷ []))
-
-abbrev pub lineItems : List (Passage Message) → List Item
-lineItems [] = []
-lineItems (p ∷ passages) = passageItems p ++ lineItems passages
-
-abbrev pub partItems : UnderWay Message → List Item
-partItems nothing = []
-partItems (first n (report l)) = asItems (take n (messageBytes (report l)))
-partItems (first n (reply bytes)) = telling (askedFor bytes) ∷ asItems (take n bytes)
 
 over-telling : {b : Awaited} {is : List Item} {ws : List ℕ} {rs : List Reply} (bytes : List ℕ) → Over (awaitedFor bytes) is ws b rs → Over replying.nothing (telling (askedFor bytes) ∷ is) ws b rs
 unfolding given repliesOver

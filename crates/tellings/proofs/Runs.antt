@@ -27,15 +27,16 @@ use Rattle.ballbox.proofs.Refusals.{ruled}
 use Rattle.history.specs.Runs.{RunPromise}
 use Rattle.history.specs.Asked.{hostsPass, allHosts}
 use Rattle.history.specs.History.{begun, paired, withPair, isFive, unsentReply, whenAwake, toldBy, nextBox, passagesOf, goingAfter}
-use Rattle.history.proofs.Carries.{Carries}
+use Rattle.history.specs.Carried.{Carries, SetWith}
 use Rattle.history.proofs.Sending.{bytes-left}
 use Rattle.history.proofs.Bridge.{step-sends, told-is}
-use Rattle.history.proofs.Asking.{SetWith, refused-told, hosted-step, asking-command, asking-reply}
+use Rattle.history.proofs.Asking.{refused-told, hosted-step, asking-command, asking-reply}
 use Rattle.replies.specs.Replying.{isNone}
 use Rattle.replies.specs.Rules.{replyTo}
 use Rattle.tellings.specs.Items.{Item, word, telling, asItems}
 use Rattle.tellings.specs.Runs.{hasReply, asksOrTells, tellingOf, itemsGiven}
-use Rattle.tellings.proofs.Passed.{IsReply, askedFor, lineItems, partItems, items-append}
+use Rattle.tellings.specs.Lines.{askedFor, lineItems, partItems}
+use Rattle.tellings.proofs.Passed.{IsReply, items-append}
 use Rattle.tellings.proofs.Answering.{asks-by, asks-reply, asks-for, with-replies}
 
 -- a command's telling stands in front of its reply

@@ -34,8 +34,8 @@ use Rattle.history.specs.Runs.{RunPromise, wordsGiven}
 use Rattle.history.specs.Asked.{allHosts}
 use Rattle.history.specs.History.{unsentReply, whenAwake, toldBy, nextBox}
 use Rattle.history.specs.Presses.{noHost}
+use Rattle.history.specs.Carried.{Carries}
 use Rattle.history.proofs.Bridge.{step-sends, told-is}
-use Rattle.history.proofs.Carries.{Carries}
 use Rattle.history.proofs.Carries as history
 use Rattle.history.proofs.Asking.{refused-told}
 use Rattle.history.proofs.Hosts.{none-left, host-idle}

@@ -6,7 +6,8 @@ use mathlib.Core.List.{List, [], _∷_, _++_}
 use lib.ListN.{length, take, drop, getD, replicate}
 use lib.Dec.{eqb}
 use lib.IntN.{ℤ}
-use Rattle.frames.specs.Passages.{Passage, silent, finished, broken, UnderWay, first, passageWords}
+use Rattle.frames.specs.Words.{break, silence}
+use Rattle.frames.specs.Passages.{Passage, silent, finished, broken, UnderWay, nothing as nothing-going, first, passageWords}
 use Rattle.wire.specs.Line.{letterOf}
 use Rattle.wire.specs.Messages.{Latched, Message, report, reply, messageBytes}
 use Rattle.wire.specs.declared.Report.{Report}
@@ -17,12 +18,40 @@ use Rattle.reader.specs.declared.Answer.the-variants as answer
 use Rattle.replies.specs.Replying.{came, none, nothing, letterOfCode}
 use Rattle.replies.specs.Rules.{toldReader}
 use Rattle.replies.specs.Promises.{FreshPromise}
-use Rattle.tellings.specs.Items.{Item, Done, afterDone, ItemsPromise, ownAnswersOf, repliesOf, Call, itemsOf, Called, CallsPromise, sliceAfter, TookAll}
+use Rattle.tellings.specs.Items.{Item, telling, asItems, Done, afterDone, ItemsPromise, ownAnswersOf, repliesOf, Call, itemsOf, Called, CallsPromise, sliceAfter, TookAll}
+use Rattle.ballbox.specs.Commands.{space, letterf, lettert, byte05}
+use Rattle.replies.specs.declared.Asked.{Asked}
+use Rattle.replies.specs.declared.Asked.the-variants.{Command}
 use Rattle.replies.specs.declared.Came.{Came}
 use Rattle.replies.specs.declared.Reply.{Reply}
 use Rattle.replies.specs.declared.Reply.the-variants as replies
 use Rattle.replies.specs.declared.ToldReader.{ToldReader}
 use Rattle.replies.specs.declared.NewToldReader.{NewToldReader}
+
+-- The items of a line: "the reader is told of each" reply behind the 256 that its command caused, so in front of its
+-- bytes. Whose reply it is: by how many bytes it has, and of one byte by whether it is ACK.
+abbrev pub askedFor : List ℕ → Asked
+askedFor [] = Command space
+askedFor (b ∷ []) = cond (eqb b 0x06) (Command space) (Command letterf)
+askedFor (f ∷ m ∷ []) = Command lettert
+askedFor (n ∷ p ∷ q ∷ bytes) = Command byte05
+
+-- a passage, passages one after the other, and what is under way
+abbrev pub passageItems : Passage Message → List Item
+passageItems silent = asItems (silence ∷ [])
+passageItems (finished (report l)) = asItems (messageBytes (report l))
+passageItems (finished (reply bytes)) = telling (askedFor bytes) ∷ asItems bytes
+passageItems (broken n (report l)) = asItems (take n (messageBytes (report l)) ++ (break ∷ []))
+passageItems (broken n (reply bytes)) = telling (askedFor bytes) ∷ asItems (take n bytes ++ (break ∷ []))
+
+abbrev pub lineItems : List (Passage Message) → List Item
+lineItems [] = []
+lineItems (p ∷ passages) = passageItems p ++ lineItems passages
+
+abbrev pub partItems : UnderWay Message → List Item
+partItems nothing-going = []
+partItems (first n (report l)) = asItems (take n (messageBytes (report l)))
+partItems (first n (reply bytes)) = telling (askedFor bytes) ∷ asItems (take n bytes)
 
 -- a reply by its bytes: ACK, the byte of a format, the letters of format and mode, or "buttons, 0, 0"
 abbrev pub replyTold : List ℕ → Reply
