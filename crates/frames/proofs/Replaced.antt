@@ -1,15 +1,16 @@
 -- What a fresh reader hands out where a stretch of a line's words was replaced.
 use mathlib.Core.Path.{_≡_, refl, sym, ap, _∙_}
 use mathlib.Core.List.{List, [], _∷_, _++_, append-assoc, append-nil, tail-eq-of-cons-eq, head-eq-of-cons-eq}
-use Prim.Native.Nat.{ℕ, zero, suc, _+_, _≤_, _<_}
+use Prim.Native.Nat.{ℕ, suc, _+_, _≤_, _<_}
 use native.Mathlib.Omega.{arith}
 use lib.ListN.{length, take, length-append, length-take, replicate, length-replicate, getD}
 use lib.Seq.{getD-at}
 use Rattle.frames.specs.Words as words
 use Rattle.frames.specs.Words.{break}
-use Rattle.frames.specs.Passages.{Passage, silent, finished, broken, UnderWay, nothing, Unbroken, Sub, none, gone, stays, finishedBy, passageWords, partWords, Lost, of-finished, of-broken, of-going, InOne, in-finished, in-broken, in-going, Sound, SoundPart}
+use Rattle.frames.specs.Passages.{Passage, silent, finished, broken, UnderWay, nothing, Unbroken, Sub, finishedBy, passageWords, partWords, Lost, of-finished, of-broken, of-going, InOne, in-finished, in-broken, in-going, Sound, SoundPart}
 use Rattle.frames.specs.Frame.{Frame, State, has, kept, report, drops, fresh, answers, after, read, Whole, Framed, decoded, Laws, Marked}
 use Rattle.frames.specs.Frame as frame
+use Rattle.frames.proofs.Sub.{sub-length, sub-all, sub-append, sub-then, sub-take}
 use Rattle.frames.proofs.Passages.{passages-append, sound-left, sound-right, finished-append}
 use Rattle.frames.proofs.Reading.{answers-append, after-append, length-answers, read-append, ready-reads, after-silence}
 use Rattle.frames.proofs.Marks.{any-reads, lost-read, synced, resync}
@@ -21,22 +22,6 @@ meet [] b (x ∷ c) d e l = absurd (omega arith)
 meet (y ∷ a) b (x ∷ c) d e l =
     let r : (m : List ℕ) × (a ≡ c ++ m) × (d ≡ m ++ b) = meet a b c d (tail-eq-of-cons-eq e) (omega arith) in
     (r .0, cc (head-eq-of-cons-eq e, r .1), r .2)
-
-left-length : {left bytes : List ℕ} → Sub left bytes → length left ≤ length bytes
-left-length none = omega arith
-left-length (gone d) = omega (arith, left-length d)
-left-length (stays d) = omega (arith, left-length d)
-
--- what is left of the first bytes is left of all
-sub-none : (bytes : List ℕ) → Sub [] bytes
-sub-none [] = none
-sub-none (b ∷ bytes) = gone (sub-none bytes)
-
-sub-take : (n : ℕ) (bytes left : List ℕ) → Sub left (take n bytes) → Sub left bytes
-sub-take zero bytes left none = sub-none bytes
-sub-take (suc n) [] left none = none
-sub-take (suc n) (b ∷ bytes) left (gone d) = gone (sub-take n bytes left d)
-sub-take (suc n) (b ∷ bytes) (c ∷ left) (stays d) = stays (sub-take n bytes left d)
 
 -- the report r is the answer to word i, of words read from the first by a fresh reader
 abbrev pub Handed : {R : Type 0} → Frame R → List ℕ → ℕ → R → Type 0
@@ -114,7 +99,7 @@ module _ {R K : Type 0} (F : Frame R) (M : Marked F) (bytes : K → List ℕ) wh
       (ap (λ (r : List R). finishedBy (decoded F bytes) before ++ r) (resync F M bytes (after F (has []) left) later going t g))
 
   part-left : (n : ℕ) (k : K) (left : List ℕ) → Framed F bytes k → n < length (bytes k) → Sub left (take n (bytes k)) → read F (has []) left ≡ []
-  part-left n k left w l d = lost-read F M bytes k left w (sub-take n (bytes k) left d) (omega (arith, left-length d, length-take n (bytes k)))
+  part-left n k left w l d = lost-read F M bytes k left w (sub-then d (sub-take n (bytes k))) (omega (arith, sub-length d, length-take n (bytes k)))
 
   -- exactly the finished reports of the other passages are handed out, in the order sent
   pub exactly : {passages others : List (Passage K)} {going : UnderWay K} {ws : List ℕ}
@@ -133,17 +118,6 @@ module _ {R K : Type 0} (F : Frame R) (M : Marked F) (bytes : K → List ℕ) wh
       (lost before left (broken 0 k ∷ later) going b (part-left n k left (t .0 .0) (t .0 .1) d) ((t .0 .0, omega (arith, t .0 .1)), t .1) g)
   exactly s g (of-going passages n k left d) =
       simp append-nil at (lost passages left [] nothing s (part-left n k left (g .0) (g .1) d) tt tt)
-
--- what is left, with the same bytes in front of it and behind it
-sub-front : (a : List ℕ) {left bytes : List ℕ} → Sub left bytes → Sub (a ++ left) (a ++ bytes)
-sub-front [] d = d
-sub-front (b ∷ a) d = stays (sub-front a d)
-
-sub-behind : {left bytes : List ℕ} (z : List ℕ) → Sub left bytes → Sub (left ++ z) (bytes ++ z)
-sub-behind [] none = none
-sub-behind (b ∷ z) none = stays (sub-behind z none)
-sub-behind z (gone d) = gone (sub-behind z d)
-sub-behind z (stays d) = stays (sub-behind z d)
 
 -- of the words `a`, `bs` and `z`, in this order, the stretch `old`, which lies within `bs`, is replaced by what is left of it
 pub record Cut (a bs z line old new : List ℕ) : Type 0 where
@@ -166,7 +140,7 @@ cut a bs z pre old post new e h l d = go (meet pre (old ++ post) a (bs ++ z) (sy
             record {
               left = m ++ (new ++ t);
               is = rw (p, y) (simp append-assoc);
-              sub = rw (x, append-assoc m old t) (sub-front m (sub-behind t d));
+              sub = rw (x, append-assoc m old t) (sub-append (sub-all m) (sub-append d (sub-all t)));
               less = rw x (simp length-append (omega arith));
             }
 

@@ -36,8 +36,8 @@ module _ (P : ℕ → Bool) where
   passing-sub : {u v : List ℕ} → Sub u v → passing P v ≡ true → passing P u ≡ true
   unfolding passing
   passing-sub none h = h
-  passing-sub (gone {b} {bytes} d) h = passing-sub d (right (P b) (passing P bytes) h)
-  passing-sub (stays {b} {left = rest} {bytes} d) h = both (P b) (passing P rest) (left (P b) (passing P bytes) h) (passing-sub d (right (P b) (passing P bytes) h))
+  passing-sub (gone {a = b} {all = bytes} d) h = passing-sub d (right (P b) (passing P bytes) h)
+  passing-sub (stays {a = b} {left = rest} {all = bytes} d) h = both (P b) (passing P rest) (left (P b) (passing P bytes) h) (passing-sub d (right (P b) (passing P bytes) h))
 
   -- the words of a line of framed reports, where a break, a silence and whatever fits its place pass the test
   module _ {R K : Type 0} (F : Frame R) (bytes : K → List ℕ) (breaks : P break ≡ true) (pauses : P silence ≡ true)

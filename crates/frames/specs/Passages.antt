@@ -39,11 +39,25 @@ abbrev pub finishedBy : {K R : Type 0} → (K → List R) → List (Passage K) �
 finishedBy shows [] = []
 finishedBy shows (p ∷ passages) = finishedIn shows p ++ finishedBy shows passages
 
--- `Sub left bytes`: what is left of bytes of which some, neighbours or not, or none, were taken out
-pub data Sub : List ℕ → List ℕ → Type 0 where
+-- what the reports tell of which a byte may have gone, finished or broken off; and what the one tells that is under way
+abbrev pub begunIn : {K X : Type 0} → (K → List X) → Passage K → List X
+begunIn tells silent = []
+begunIn tells (finished k) = tells k
+begunIn tells (broken n k) = tells k
+
+abbrev pub begunBy : {K X : Type 0} → (K → List X) → List (Passage K) → List X
+begunBy tells [] = []
+begunBy tells (p ∷ passages) = begunIn tells p ++ begunBy tells passages
+
+abbrev pub goingBy : {K X : Type 0} → (K → List X) → UnderWay K → List X
+goingBy tells nothing = []
+goingBy tells (first n k) = tells k
+
+-- `Sub left all`: what is left, in its order, of bytes, reports or states of which some, neighbours or not, or none, were taken out
+pub data Sub {A : Type 0} : List A → List A → Type 0 where
   none : Sub [] []
-  gone : {b : ℕ} {left bytes : List ℕ} → Sub left bytes → Sub left (b ∷ bytes)
-  stays : {b : ℕ} {left bytes : List ℕ} → Sub left bytes → Sub (b ∷ left) (b ∷ bytes)
+  gone : {a : A} {left all : List A} → Sub left all → Sub left (a ∷ all)
+  stays : {a : A} {left all : List A} → Sub left all → Sub (a ∷ left) (a ∷ all)
 
 -- the bytes of each kind of report
 module _ {K : Type 0} (bytes : K → List ℕ) where

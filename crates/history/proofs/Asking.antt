@@ -34,7 +34,7 @@ use Rattle.ballbox.proofs.Refusals.{ruled, refused-next}
 use Rattle.ballbox.proofs.Obeying.{dropped-settings, dropped-awake}
 use Rattle.history.specs.History.{formatOf, latchedNow, begun, pairedAt, paired, isFive, unsentReply, whenAwake, toldBy, nextBox, passagesOf, goingAfter}
 use Rattle.history.specs.Asked.{hostsPass, allHosts, asks, onlyAsks}
-use Rattle.history.specs.Carried.{SetOf, HeldWith, SetWith, SetTo}
+use Rattle.history.specs.Carried.{Carrying, SetOf, HeldWith, SetWith, SetTo}
 use Rattle.history.proofs.Carries.{Alike}
 use Rattle.history.proofs.Sending.{latched-carries, five-is, pair-accepted, pairs}
 use Rattle.history.proofs.Bridge.{step-sends, told-is, buttons-line}
@@ -295,6 +295,15 @@ only-held f l g s =
 -- what is going is a report that f holds
 pub set-sound : (f : Format) (b : BallBox) (g : UnderWay Message) → SetTo f b g → SoundEnd f g
 set-sound f b g h = part-by messageBytes (HeldWith (λ _. ⊥) f) (HeldBy f) (held-only f) g (h .sound)
+
+-- and such a box is set so
+held-with : (f : Format) (m : Message) → HeldBy f m → HeldWith (λ _. ⊥) f m
+held-with f (report l) h = h
+held-with f (reply bytes) h = h
+
+pub set-of : (f : Format) (b : BallBox) (g : UnderWay Message) → Carrying b g → b .dormant ≡ false → b .settings .format ≡ letterOf f → SoundEnd f g → SetTo f b g
+set-of f b g h d e s =
+    record { good = h .good; awake = d; format = e; carries = h .carries; sound = part-by messageBytes (HeldBy f) (HeldWith (λ _. ⊥) f) (held-with f) g s }
 
 -- one step of a box that is handed such bytes only
 pub asked-step : (f : Format) (b : BallBox) (e : Event) (g : UnderWay Message) → Asks e → SetTo f b g → SoundIn f (toldBy b e g .passages) × SetTo f (nextBox b e) (toldBy b e g .going)

@@ -2,7 +2,7 @@
 use Prim.Native.Nat.{ℕ, zero, suc, _+_, _-_, _≤_, _<_}
 use mathlib.Core.Path.{_≡_, refl, sym, _∙_, ap}
 use mathlib.Core.Bool.{Bool, true, false, not, _&&_}
-use mathlib.Core.List.{List, [], _∷_, _++_, map, append-assoc, append-nil}
+use mathlib.Core.List.{List, [], _∷_, _++_, append-assoc, append-nil}
 use native.Mathlib.Omega.{arith}
 use lib.ListN.{length, take, length-append}
 use lib.IntN.{ℤ}
@@ -11,14 +11,10 @@ use lib.Dec.{eqb, leb}
 use borrow.Author.Tests.{leb-true, ltb-true, ltb-false, lt-leb, not-true}
 use Rattle.numbers.proofs.Choices.{cases}
 use Rattle.numbers.proofs.Tested.{left, right}
-use Rattle.frames.specs.Passages.{Passage, silent, finished, broken, UnderWay, Sub, none, gone, stays}
+use Rattle.frames.specs.Passages.{UnderWay, nothing}
 use Rattle.frames.specs.Sender.{told, passagesOver}
 use Rattle.frames.proofs.Passages.{finished-append}
-use Rattle.wire.specs.Holds.{carried}
-use Rattle.wire.specs.Messages.{Message, report, reply, finishedReports}
-use Rattle.wire.specs.declared.Report.{Report}
-use Rattle.wire.specs.declared.Format.{Format}
-use Rattle.wire.specs.declared.Format.the-variants.{Mm, Microsoft, Absolute, Relative, FiveByte, ThreeByte, Hexadecimal}
+use Rattle.wire.specs.Messages.{Message}
 use Rattle.ballbox.specs.Box as box
 use Rattle.ballbox.specs.Presses.{remembered, full}
 use Rattle.ballbox.specs.Latching.{latched, secondLatched}
@@ -42,11 +38,11 @@ use Rattle.ballbox.proofs.Obeying.{dropped-settings, dropped-awake}
 use Rattle.history.specs.Runs.{RunPromise}
 use Rattle.history.specs.History.{whenAwake, toldBy, nextBox, passagesOf}
 use Rattle.history.specs.Asked.{hostsPass, allHosts, asks}
-use Rattle.history.specs.Presses.{NoReport, nothing-going, a-reply, empties, noneEmpties, changeTo, changesIn, inPlaceOfLast, noting, statesOver, noNinth, neverNinth, shownIn, shownBy, boxAfter, lastBox}
-use Rattle.history.specs.Carried.{Carries}
+use Rattle.history.specs.Presses.{empties, noneEmpties, changeTo, changesIn, inPlaceOfLast, noting, statesOver, noNinth, neverNinth, shownIn, shownBy, boxAfter, lastBox}
+use Rattle.history.specs.Carried.{Carries, Showing, Carrying}
 use Rattle.history.proofs.Bridge.{step-sends, told-is}
 use Rattle.history.proofs.Asking.{refused-told}
-use Rattle.history.proofs.Showing.{Showing, same-showing, Keeps, send-keeps, latch-keeps, buttons-keep, Kept, kept-command, host-keeps}
+use Rattle.history.proofs.Showing.{same-showing, Keeps, send-keeps, latch-keeps, buttons-keep, Kept, kept-command, host-keeps}
 
 -- a good box, awake in a stream mode, and what is going in it
 pub record Streams (b : BallBox) (g : UnderWay Message) : Type 0 where
@@ -56,10 +52,12 @@ pub record Streams (b : BallBox) (g : UnderWay Message) : Type 0 where
   pub carries : Carries b g
   pub showing : Showing b g
 
-pub streams-from : (b : BallBox) (g : UnderWay Message) → good b ≡ true → b .dormant ≡ false → isStream (b .settings .mode) ≡ true → NoReport b g → Streams b g
-streams-from b g k d m (nothing-going e) = record { good = k; awake = d; stream = m; carries = e; showing = idle-shows-none b k e }
-streams-from b g k d m (a-reply n bytes e l short h) =
-    record { good = k; awake = d; stream = m; carries = (e, record { left = l; sendable = short; awake = d }); showing = h }
+pub streams-from : (b : BallBox) (g : UnderWay Message) → Carrying b g → b .dormant ≡ false → isStream (b .settings .mode) ≡ true → Streams b g
+streams-from b g h d m = record { good = h .good; awake = d; stream = m; carries = h .carries; showing = h .showing }
+
+-- a good box with no bytes left carries nothing
+pub at-rest : (b : BallBox) → good b ≡ true → bytesLeft b ≡ false → Carrying b nothing
+at-rest b k e = record { good = k; carries = e; showing = idle-shows-none b k e }
 
 -- it stays awake in a stream mode
 pub record Listens (b : BallBox) : Type 0 where
@@ -312,25 +310,3 @@ unchanged-never b (e ∷ events) h = go (changeTo b e) refl h (unchanged-never (
         → noNinth b (changeTo b e) && neverNinth (nextBox b e) events ≡ true
     go [] q h rest = rw (q, rest (rw q at h))
     go (n ∷ more) q h rest = absurd (omega (arith, ap length (rw q at h)))
-
--- each state that was shown is among the buttons of the finished reports, as a format carries them, in order; but in V, which does not carry M
-carried-buttons : (f : Format) (r : Report) → (f ≡ Microsoft → ⊥) → carried f r .buttons ≡ r .buttons
-carried-buttons Mm r h = refl
-carried-buttons Microsoft r h = absurd (h refl)
-carried-buttons Absolute r h = refl
-carried-buttons Relative r h = refl
-carried-buttons FiveByte r h = refl
-carried-buttons ThreeByte r h = refl
-carried-buttons Hexadecimal r h = refl
-
-pub shown-carried : (f : Format) (passages : List (Passage Message)) → (f ≡ Microsoft → ⊥) → Sub (shownBy passages) (map (λ (r : Report). r .buttons) (finishedReports f passages))
-shown-carried f [] h = none
-shown-carried f (silent ∷ passages) h = shown-carried f passages h
-shown-carried f (finished (report l) ∷ passages) h = go (l .shows) refl (shown-carried f passages h)
-  where
-    go : (t : Bool) → l .shows ≡ t → Sub (shownBy passages) (map (λ (r : Report). r .buttons) (finishedReports f passages))
-        → Sub (shownBy (finished (report l) ∷ passages)) (map (λ (r : Report). r .buttons) (finishedReports f (finished (report l) ∷ passages)))
-    go true e d = rw (e, carried-buttons f (l .report) h) (stays d)
-    go false e d = rw e (gone d)
-shown-carried f (finished (reply bytes) ∷ passages) h = shown-carried f passages h
-shown-carried f (broken n m ∷ passages) h = shown-carried f passages h

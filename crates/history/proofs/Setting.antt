@@ -8,6 +8,7 @@ use Rattle.frames.specs.Passages.{nothing}
 use Rattle.wire.specs.declared.Format.{Format}
 use Rattle.wire.specs.declared.Format.the-variants.{Mm, Microsoft, Absolute, Relative, FiveByte, ThreeByte, Hexadecimal}
 use Rattle.ballbox.specs.Box as box
+use Rattle.ballbox.specs.Presses.{remembered}
 use Rattle.ballbox.specs.Commands.{commandOf, obeyed}
 use Rattle.ballbox.specs.Events.{gives, bytesLeft, dropped, onHost, awake}
 use Rattle.ballbox.specs.Good.{good}
@@ -53,3 +54,8 @@ set-to f b a k d p =
 -- and the word that it gave: 256 where bytes were left, or none
 pub set-words : (f : Format) (b : BallBox) (a : Stepped) → good b ≡ true → b .dormant ≡ false → StepPromise b (Host (letterOf f)) a → sentWords (a .sent) ≡ cond (bytesLeft b) (break ∷ []) []
 set-words f b a k d p = ap (λ (x : box.Step). x .words) (p ∙ set-by f b k d)
+
+-- it remembers nothing
+pub letter-empties : (f : Format) (b : BallBox) (a : Stepped) → good b ≡ true → b .dormant ≡ false → StepPromise b (Host (letterOf f)) a → remembered (a .next .memory) ≡ []
+unfolding obeyed remembered
+letter-empties f b a k d p = ap (λ (x : box.Step). remembered (x .next .memory)) (p ∙ set-by f b k d)

@@ -29,14 +29,8 @@ use Rattle.ballbox.proofs.Remembering.{memory-parts, remembered-length, remembe
 use Rattle.ballbox.proofs.Cases.{latching-busy, latching-wanted, latching-idle, sending-byte, sending-silence, dropped-busy, dropped-idle}
 use Rattle.history.specs.History.{latchedNow, begun, pairedAt, isFive, unsentReply, whenAwake}
 use Rattle.history.specs.Presses.{empties, changeTo, inPlaceOfLast, noting, shownIn, shownBy}
-use Rattle.history.specs.Carried.{Carries}
+use Rattle.history.specs.Carried.{Carries, Showing}
 use Rattle.history.proofs.Sending.{bytes-left, pairs}
-
--- the report that is going shows the first state that is remembered, or none
-abbrev pub Showing : BallBox → UnderWay Message → Type 0
-Showing b nothing = b .memory .showing ≡ false
-Showing b (first n (report l)) = (b .memory .showing ≡ l .shows) × (l .shows ≡ true → take 1 (remembered (b .memory)) ≡ l .report .buttons ∷ [])
-Showing b (first n (reply bytes)) = b .memory .showing ≡ false
 
 -- what a box, with its line, makes of the states that it remembered: those that finished reports showed are gone from the front
 pub record Keeps (states : List ℕ) (b : BallBox) (shows : List ℕ) (g : UnderWay Message) : Type 0 where

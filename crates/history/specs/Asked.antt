@@ -1,8 +1,8 @@
--- A box that is set to one format and then asked only for reports.
+-- What the host sends meanwhile: to a box that is asked only for reports, and to one that is asked for no reply.
 use Prim.Native.Nat.{ℕ}
-use mathlib.Core.Bool.{Bool, true, _&&_}
+use mathlib.Core.Bool.{Bool, true, not, _&&_, _||_}
 use mathlib.Core.List.{List, [], _∷_}
-use Rattle.ballbox.specs.Commands.{asksForReports}
+use Rattle.ballbox.specs.Commands.{asksForReports, isCommand}
 use Rattle.ballbox.specs.declared.Event.{Event}
 use Rattle.ballbox.specs.declared.Event.the-variants.{Motion, Buttons, Host, Latch, Send, Period}
 
@@ -25,3 +25,10 @@ asks e = hostsPass asksForReports e
 
 abbrev pub onlyAsks : List Event → Bool
 onlyAsks events = allHosts asksForReports events
+
+-- a byte that has no reply and leaves the format: J K L R M Q N O D P, or one that is ignored
+abbrev pub unanswered : ℕ → Bool
+unanswered byte = asksForReports byte || not (isCommand byte)
+
+abbrev pub allUnanswered : List Event → Bool
+allUnanswered events = allHosts unanswered events

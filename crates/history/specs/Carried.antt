@@ -2,8 +2,8 @@
 use Prim.Native.Nat.{ℕ, _≤_, _<_}
 use mathlib.Core.Path.{_≡_}
 use mathlib.Core.Bool.{true, false}
-use mathlib.Core.List.{List}
-use lib.ListN.{length}
+use mathlib.Core.List.{List, [], _∷_}
+use lib.ListN.{length, take}
 use Rattle.frames.specs.Passages.{UnderWay, nothing, first, SoundPart}
 use Rattle.wire.specs.Line.{letterOf}
 use Rattle.wire.specs.Table.{five}
@@ -11,6 +11,7 @@ use Rattle.wire.specs.Holds.{accepted}
 use Rattle.wire.specs.Messages.{Message, report, reply, messageBytes, HeldBy}
 use Rattle.wire.specs.declared.Format.{Format}
 use Rattle.ballbox.specs.Box as box
+use Rattle.ballbox.specs.Presses.{remembered}
 use Rattle.ballbox.specs.Events.{bytesLeft}
 use Rattle.ballbox.specs.Good.{good}
 use Rattle.ballbox.specs.declared.BallBox.{BallBox}
@@ -36,6 +37,18 @@ pub record Rightly (b : BallBox) (n : ℕ) (m : Message) : Type 0 where
 abbrev pub Carries : BallBox → UnderWay Message → Type 0
 Carries b nothing = bytesLeft b ≡ false
 Carries b (first n m) = (b .going ≡ onLine (first n m)) × Rightly b n m
+
+-- the report that is going shows the first state that is remembered, or none
+abbrev pub Showing : BallBox → UnderWay Message → Type 0
+Showing b nothing = b .memory .showing ≡ false
+Showing b (first n (report l)) = (b .memory .showing ≡ l .shows) × (l .shows ≡ true → take 1 (remembered (b .memory)) ≡ l .report .buttons ∷ [])
+Showing b (first n (reply bytes)) = b .memory .showing ≡ false
+
+-- a good box, and what is going in it
+pub record Carrying (b : BallBox) (g : UnderWay Message) : Type 0 where
+  pub good : good b ≡ true
+  pub carries : Carries b g
+  pub showing : Showing b g
 
 -- the box is set to f, good and awake, and this, which passes a test, is going
 pub record SetOf (f : Format) (T : Message → Type 0) (b : BallBox) (g : UnderWay Message) : Type 0 where

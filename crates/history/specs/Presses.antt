@@ -1,5 +1,5 @@
--- Presses in a run: the button states that are to be shown, and those that its reports showed.
-use Prim.Native.Nat.{ℕ, _+_, _≤_, _<_}
+-- Presses in a run: those that are made, the button states that are to be shown, and those that its reports showed.
+use Prim.Native.Nat.{ℕ, _+_, _≤_}
 use mathlib.Core.Path.{_≡_}
 use mathlib.Core.Bool.{Bool, true, false, not, cond, _&&_, _||_}
 use mathlib.Core.List.{List, [], _∷_, _++_}
@@ -7,28 +7,17 @@ use lib.ListN.{length}
 use lib.Dec.{eqb, leb}
 use Rattle.wire.specs.Line.{known}
 use Rattle.frames.specs.Passages.{Passage, silent, finished, broken, UnderWay, nothing, first, finishedBy}
-use Rattle.wire.specs.Table.{five}
 use Rattle.wire.specs.Messages.{Latched, Message, report, reply}
+use Rattle.wire.specs.Buttons.{presses, buttonsGoing}
 use Rattle.ballbox.specs.Box.{modeD}
-use Rattle.ballbox.specs.Presses.{full}
+use Rattle.ballbox.specs.Presses.{remembered, full}
 use Rattle.ballbox.specs.Commands.{isStream, letterP, letterd}
-use Rattle.ballbox.specs.Events.{bytesLeft}
 use Rattle.ballbox.specs.declared.BallBox.{BallBox}
 use Rattle.ballbox.specs.declared.Event.{Event}
 use Rattle.ballbox.specs.declared.Event.the-variants.{Motion, Buttons, Host, Latch, Send, Period}
 use Rattle.ballbox.specs.declared.Stepped.{Stepped}
 use Rattle.history.specs.History.{nextBox}
 use Rattle.history.specs.Asked.{allHosts}
-
--- of the box no report is going: nothing is, or a reply of at most three bytes, of which n have gone
-pub data NoReport (b : BallBox) : UnderWay Message → Type 0 where
-  nothing-going : bytesLeft b ≡ false → NoReport b nothing
-  a-reply : (n : ℕ) (bytes : List ℕ)
-      → b .going ≡ record { length = length bytes; sent = n; bytes = five bytes }
-      → n < length bytes
-      → length bytes ≤ 3
-      → b .memory .showing ≡ false
-      → NoReport b (first n (reply bytes))
 
 -- "D, P, `d` and the format commands empty the memory": every other byte of the host's leaves it
 abbrev pub empties : ℕ → Bool
@@ -43,6 +32,24 @@ noHost events = allHosts (λ byte. false) events
 
 abbrev pub onlyStreams : List Event → Bool
 onlyStreams events = allHosts isStream events
+
+-- the states that a box is told of, 0 to 7; others are refused
+unfoldable pub buttonsTold : List Event → List ℕ
+buttonsTold [] = []
+buttonsTold (Motion dx dy ∷ events) = buttonsTold events
+buttonsTold (Buttons n ∷ events) = cond (leb n 7) (n ∷ []) [] ++ buttonsTold events
+buttonsTold (Host byte ∷ events) = buttonsTold events
+buttonsTold (Latch ∷ events) = buttonsTold events
+buttonsTold (Send ∷ events) = buttonsTold events
+buttonsTold (Period ∷ events) = buttonsTold events
+
+-- The presses of a button that are made at a box over events: how often it goes down in what the box is told.
+abbrev pub made : (ℕ → Bool) → BallBox → List Event → ℕ
+made down b events = presses down (down (b .settings .buttons)) (buttonsTold events)
+
+-- what a box has yet to show: the buttons of the report that is going, the states that are remembered, and the present one
+abbrev pub owed : BallBox → UnderWay Message → List ℕ
+owed b g = buttonsGoing g ++ (remembered (b .memory) ++ (b .settings .buttons ∷ []))
 
 -- "button states in order": the state that an event changes the buttons to, if it does
 abbrev pub changeTo : BallBox → Event → List ℕ
@@ -82,6 +89,11 @@ noNinth b (n ∷ more) = not (full (b .memory))
 unfoldable pub neverNinth : BallBox → List Event → Bool
 neverNinth b [] = true
 neverNinth b (e ∷ events) = noNinth b (changeTo b e) && neverNinth (nextBox b e) events
+
+-- what a box remembers now is kept over these events: it is no more than seven states, or none of the events is a ninth change
+pub data KeptOver (b : BallBox) (events : List Event) : Type 0 where
+  among-seven : length (remembered (b .memory)) ≤ 7 → KeptOver b events
+  without-ninth : neverNinth b events ≡ true → KeptOver b events
 
 -- "each shown by a report of its own": the states that finished reports showed
 abbrev pub shownIn : Message → List ℕ

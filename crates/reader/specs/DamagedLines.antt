@@ -5,14 +5,14 @@ use mathlib.Core.Bool.{true}
 use mathlib.Core.List.{List, [], _∷_, _++_}
 use lib.ListN.{length, take, drop, getD}
 use lib.IntN.{ℤ}
-use Rattle.frames.specs.Passages.{Passage, UnderWay, passageWords, partWords}
+use Rattle.frames.specs.Passages.{Passage, UnderWay, Sub, passageWords, partWords}
 use Rattle.frames.specs.Words.{break, lineWords}
 use Rattle.wire.specs.Line.{letterOf, sizeOf}
 use Rattle.wire.specs.Messages.{Message, messageBytes, SoundIn, SoundEnd}
 use Rattle.wire.specs.Numbers.{success}
 use Rattle.wire.specs.declared.Report.{Report}
 use Rattle.wire.specs.declared.Format.{Format}
-use Rattle.reader.specs.State.{fiveOf}
+use Rattle.reader.specs.State.{ready, fiveOf}
 use Rattle.reader.specs.Counts.{handedOut, numbers}
 use Rattle.reader.specs.Promises.{FreshPromise, ReadPromise}
 use Rattle.reader.specs.Runs.{StepsPromise, answers}
@@ -71,3 +71,14 @@ Within before pre old = length pre + length old ≤ length (passageWords message
 -- i is the place of the word that ends a report of f behind these passages, when `old` was replaced by `new`, with `given` in front of all
 abbrev pub EndsAt : Format → List (Passage Message) → List ℕ → List ℕ → List ℕ → ℕ → Type 0
 EndsAt f before given old new i = suc i + length old ≡ length given + length (passageWords messageBytes before) + sizeOf f + length new
+
+-- a reader of f where a line begins: a fresh one, or one that is ready
+pub data AtStart (f : Format) : Reader → Type 0 where
+  is-fresh : (a : NewReader) → FreshPromise (letterOf f) a → AtStart f (a .reader)
+  is-ready : AtStart f (ready (letterOf f))
+
+-- the reader r, given the words, hands out, by steps and by a long read, reports that are some of these, or all, in their order
+pub record TrueBy (r : Reader) (words : List ℕ) (sent : List Report) : Type 0 where
+  pub found : List Report
+  pub hands-out : HandsOutBy r words found
+  pub among : Sub found sent

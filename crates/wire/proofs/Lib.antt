@@ -1,5 +1,5 @@
 -- The laws of the seven formats (Codec), their letters (Letters) and digits (LookUp), the movement that is not held (Faults), the encoder (Accepts), what
--- follows from the promises (Answers, Refusals, Movements, Wrong), and what the functions' proofs share.
+-- follows from the promises (Answers, Refusals, Movements, Wrong), presses (Buttons), and what the functions' proofs share.
 pub mod Answers
 pub mod Refusals
 pub mod Movements
@@ -13,3 +13,4 @@ pub mod FixedBits
 pub mod Front
 pub mod Letters
 pub mod Sums
+pub mod Buttons

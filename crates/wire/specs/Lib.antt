@@ -1,5 +1,5 @@
 -- The seven formats, heading by heading of the paper: "Words on the line" (Line, Digits, Table, Holds, Places, Reading, Messages) and "Numbers given back"
--- (Numbers, Encoder); and what the public functions promise (Promises).
+-- (Numbers, Encoder); what the public functions promise (Promises); and how often a button goes down (Buttons).
 pub mod Line
 pub mod Digits
 pub mod Table
@@ -10,3 +10,4 @@ pub mod Messages
 pub mod Numbers
 pub mod Encoder
 pub mod Promises
+pub mod Buttons
