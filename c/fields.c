@@ -66,6 +66,45 @@ static void reader(void) {
     same_reader(a.next, 'U', four, 4, 2);
 }
 
+static void same_watch(istrolf_watch w, uint8_t known, uint8_t last) {
+    same("watch.known", w.known, known);
+    same("watch.last", w.last, last);
+}
+
+static void same_watched(istrolf_watched a, istrolf_watch next, size_t left, size_t middle, size_t right) {
+    same_watch(a.next, next.known, next.last);
+    same("watched.left", (long long)a.left, (long long)left);
+    same("watched.middle", (long long)a.middle, (long long)middle);
+    same("watched.right", (long long)a.right, (long long)right);
+}
+
+static void watch(void) {
+    same_watch(istrolf_watch_fresh(), 0, 0);
+    same_watch(istrolf_watch_knowing(6), 1, 6);
+    const istrolf_watch unaware = {0, 6}, knowing = {7, 6};
+
+    /* in: what is known, the buttons seen last, and of the report the buttons alone; out: what went down and up */
+    const istrolf_report p = {3, 4, 5, 6, 7};
+    istrolf_changes c = istrolf_watch_heard(unaware, p);
+    same_watch(c.next, 1, 3);
+    same("changes.down", c.down, 0);
+    same("changes.up", c.up, 0);
+    c = istrolf_watch_heard(knowing, p);
+    same_watch(c.next, 1, 3);
+    same("changes.down", c.down, ISTROLF_R);
+    same("changes.up", c.up, ISTROLF_L);
+
+    /* R goes down three times, L twice, M once; behind the sixth report stand four numbers more */
+    const int16_t numbers[34] = {3,  4, 4, 4, 4, 4, 1, 1, 1, 1, 1, 6, 6, 6, 6, -1, 7,
+                                 7,  7, 7, 5, 2, 2, 2, 2, 0, 7, 7, 7, 7, 7, 7, 7,  7};
+    const istrolf_watch last = {1, 0};
+    same_watched(istrolf_watch_over(knowing, numbers, 34), last, 2, 0, 3);
+    same_watched(istrolf_watch_over(istrolf_watch_knowing(0), numbers, 34), last, 2, 1, 3);
+    same_watched(istrolf_watch_over(unaware, numbers, 34), last, 2, 0, 2);
+    same_watched(istrolf_watch_over(knowing, numbers, 4), knowing, 0, 0, 0);
+    same_watched(istrolf_watch_over(unaware, numbers, 0), unaware, 0, 0, 0);
+}
+
 static void encoder(void) {
     const istrolf_report p = {5, 11, -12, 13, -14};
     const uint8_t bytes[7] = {130, 11, 244, 13, 242, 76, 77};
@@ -669,6 +708,7 @@ static void puck_reader(void) {
 
 int main(void) {
     reader();
+    watch();
     encoder();
     box();
     lister();

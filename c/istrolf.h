@@ -1,10 +1,10 @@
-/* Istrolf for C99 and C++: a serial trackball and the seven formats of the old mice. Reader, encoder, box, lister, yard check, bridge, reader of listings,
- * reader of replies, salvage, and the Digital VSXXX with its reader. Link libistrolf.a.
+/* Istrolf for C99 and C++: a serial trackball and the seven formats of the old mice. Reader, watch, encoder, box, lister, yard check, bridge, reader of
+ * listings, reader of replies, salvage, and the Digital VSXXX with its reader. Link libistrolf.a.
  *
  * Calls. Every function takes every argument, ends, and has one answer; each is proved. There is no set-up and no error but the refusals below.
  * Nothing is allocated and nothing is kept between calls, so calls from several threads need no lock.
  *
- * States. A reader, a box, a lister and the like are values that you own: a function ending in _fresh, or istrolf_puck_made, gives one; each other function
+ * States. A reader, a box, a lister and the like are values that you own: a function ending in _fresh, istrolf_puck_made or istrolf_watch_knowing gives one; each other function
  * takes one by value and gives the next in its answer. Store the next one over the old one and go on. A copy is a state of its own. Members may be read;
  * leave the writing to the functions: what they give keeps the rules of its kind. Whatever bytes stand in a state, a call is safe: one that breaks its rules is
  * refused with ISTROLF_BAD_STATE and handed back as it was.
@@ -110,6 +110,51 @@ istrolf_read_word istrolf_reader_step(istrolf_reader reader, uint16_t word);
  * taken, reports, dropped and out as they stand before the bad word. With 0 and taken below count, fewer than five numbers of out were left for the
  * next report: call again with next, words + taken, count - taken and new room. */
 istrolf_reading istrolf_reader_read(istrolf_reader reader, const uint16_t *words, size_t count, int16_t *out, size_t room);
+
+/* ---- The watch: reports in, presses out. A press is a button that is down in a report and was up in the one before it.
+ *
+ * One watch goes with one reader: hand it every report that this reader gives, in order, and no others. Bytes that the
+ * reader dropped, breaks and silences change nothing: a report is laid beside the last one that was seen. Where the
+ * report of a release was lost, two presses are one. V's reports do not carry M.
+ *
+ * The first report of a fresh watch teaches it which buttons are down, and tells nothing: a button that is held when the
+ * recorder is switched on is no press. So a fresh watch misses at most one press of each button, and never tells one too
+ * many. To begin with buttons that are known, send 'D', then 5, and when the reply has come the stream mode again: in
+ * prompt mode the box remembers nothing, so no report behind the reply shows an older state. What is pressed and let go
+ * before the mode is set is not seen. Do not ask while the box streams: where a button moves shortly before the 5, a
+ * report behind the reply still shows the state before, and the watch may tell a press that was made long ago. Begin a new
+ * watch where the format is changed: V's reports show M up, so M held would look like a press behind them.
+ *
+ * Every watch is a good one, and no call is refused. */
+
+typedef struct {
+    uint8_t known; /* 0 while no buttons were seen or told, and else 1 */
+    uint8_t last;  /* those that were seen last; bits above the lowest three are not looked at */
+} istrolf_watch;
+
+typedef struct {
+    istrolf_watch next;
+    uint8_t down; /* the buttons that went down, 4L+2M+R */
+    uint8_t up;   /* the buttons that went up */
+} istrolf_changes;
+
+typedef struct {
+    istrolf_watch next;
+    size_t left, middle, right; /* how often each went down */
+} istrolf_watched;
+
+/* A watch that has seen nothing. */
+istrolf_watch istrolf_watch_fresh(void);
+
+/* A watch that was told the buttons. */
+istrolf_watch istrolf_watch_knowing(uint8_t buttons);
+
+/* A report. */
+istrolf_changes istrolf_watch_heard(istrolf_watch watch, istrolf_report report);
+
+/* The numbers that istrolf_reader_read or istrolf_told_read wrote, five a report: count is five times its reports. What
+ * is left behind the last whole five is not looked at. Of buttons the lowest three bits count; below 0 none is down. */
+istrolf_watched istrolf_watch_over(istrolf_watch watch, const int16_t *numbers, size_t count);
 
 /* ---- The encoder: a report in, bytes out. */
 
@@ -544,6 +589,10 @@ ISTROLF_SIZE(read_word, 22) ISTROLF_AT(read_word, refusal, 0) ISTROLF_AT(read_wo
     ISTROLF_AT(read_word, dropped, 2) ISTROLF_AT(read_word, next, 3) ISTROLF_AT(read_word, report, 12)
 ISTROLF_SIZE(reading, 40) ISTROLF_AT(reading, refusal, 0) ISTROLF_AT(reading, next, 1) ISTROLF_AT(reading, taken, 16)
     ISTROLF_AT(reading, reports, 24) ISTROLF_AT(reading, dropped, 32)
+ISTROLF_SIZE(watch, 2) ISTROLF_AT(watch, known, 0) ISTROLF_AT(watch, last, 1)
+ISTROLF_SIZE(changes, 4) ISTROLF_AT(changes, next, 0) ISTROLF_AT(changes, down, 2) ISTROLF_AT(changes, up, 3)
+ISTROLF_SIZE(watched, 32) ISTROLF_AT(watched, next, 0) ISTROLF_AT(watched, left, 8) ISTROLF_AT(watched, middle, 16)
+    ISTROLF_AT(watched, right, 24)
 ISTROLF_SIZE(encoding, 16) ISTROLF_AT(encoding, refusal, 0) ISTROLF_AT(encoding, length, 8)
 ISTROLF_SIZE(pair, 4) ISTROLF_AT(pair, x, 0) ISTROLF_AT(pair, y, 2)
 ISTROLF_SIZE(sum, 16) ISTROLF_AT(sum, x, 0) ISTROLF_AT(sum, y, 8)

@@ -18,17 +18,17 @@ static size_t arrived(size_t turn, uint16_t *words, size_t most) {
 
 typedef struct {
     istrolf_reader reader; /* with the bytes of an unfinished report, from one piece to the next */
-    int middle;            /* whether M was down in the last report */
+    istrolf_watch watch;   /* of its reports: one press of M is one save */
     long x, y;             /* the cursor */
     int saves;
 } recorder;
 
 static void shown(recorder *r, const int16_t *report) {
-    int middle = (report[0] & ISTROLF_M) != 0;
+    istrolf_watched w = istrolf_watch_over(r->watch, report, 5);
+    r->watch = w.next;
     r->x += report[1] + report[3];
     r->y += report[2] + report[4];
-    if (middle && !r->middle) printf("save %d at %ld %ld\n", ++r->saves, r->x, r->y);
-    r->middle = middle;
+    if (w.middle > 0) printf("save %d at %ld %ld\n", ++r->saves, r->x, r->y);
 }
 
 static void heard(recorder *r, const uint16_t *words, size_t count) {
@@ -50,7 +50,7 @@ static void heard(recorder *r, const uint16_t *words, size_t count) {
 }
 
 int main(void) {
-    recorder r = {istrolf_reader_fresh('U').reader, 0, 0, 0, 0};
+    recorder r = {istrolf_reader_fresh('U').reader, istrolf_watch_fresh(), 0, 0, 0};
     uint16_t words[4];
     size_t count;
     for (size_t turn = 0; (count = arrived(turn, words, 4)) > 0; turn++) {

@@ -7,12 +7,15 @@ use Rattle.wire.specs.Encoder as wire
 use Rattle.wire.specs.declared.Report.{Report}
 use Rattle.ballbox.specs.declared.Event.{Event}
 use Rattle.replies.specs.declared.Asked.{Asked}
+use Rattle.saves.specs.declared.Watch.{Watch}
+use Rattle.saves.specs.declared.Told.{Told}
+use Rattle.saves.specs.declared.Watched.{Watched}
 use Rattle.istrolf.specs.Readers as readers
 use Rattle.istrolf.specs.Listers as listers
 use Rattle.istrolf.specs.Bridges as bridges
 use Rattle.istrolf.specs.Told as told
 use Rattle.istrolf.specs.Readbacks as readbacks
-use Rattle.istrolf.specs.Promises.{FreshReaderPromise, ReaderStepPromise, ReadPromise, EncodePromise, FreshBoxPromise, BoxStepPromise, FreshListerPromise, FeedPromise, FinishPromise, FreshYardPromise, YardStepPromise, YardCheckPromise, FreshBridgePromise, ConvertPromise, PickPromise, SalvagePromise, FreshToldPromise, TellPromise, ToldStepPromise, ToldReadPromise, FreshReadbackPromise, ReadbackReadPromise, ReadbackFinishPromise, ReadbackRewritePromise, MadePuckPromise, PuckStepPromise, FreshPuckReaderPromise, PuckReaderStepPromise, PuckReadPromise}
+use Rattle.istrolf.specs.Promises.{FreshReaderPromise, ReaderStepPromise, ReadPromise, EncodePromise, FreshBoxPromise, BoxStepPromise, FreshListerPromise, FeedPromise, FinishPromise, FreshYardPromise, YardStepPromise, YardCheckPromise, FreshBridgePromise, ConvertPromise, PickPromise, SalvagePromise, FreshToldPromise, TellPromise, ToldStepPromise, ToldReadPromise, FreshReadbackPromise, ReadbackReadPromise, ReadbackFinishPromise, ReadbackRewritePromise, MadePuckPromise, PuckStepPromise, FreshPuckReaderPromise, PuckReaderStepPromise, PuckReadPromise, FreshWatchPromise, KnowingWatchPromise, WatchHeardPromise, WatchOverPromise}
 use Rattle.istrolf.specs.declared.HeldReader.{HeldReader}
 use Rattle.istrolf.specs.declared.FreshReader.{FreshReader}
 use Rattle.istrolf.specs.declared.ReadWord.{ReadWord}
@@ -154,3 +157,15 @@ pub one-puck-read : (r : PuckReader) (words : List ℕ) (out : List ℤ) (a b : 
 one-puck-read r words out a b x y e f =
     let q = e ∙ sym f in
     (λ i. (record { refusal = q i .refusal; next = q i .next; taken = q i .taken; reports = q i .reports; dropped = q i .dropped }), ap (λ (l : Long PuckReader ℤ). l .out) q)
+
+pub one-fresh-watch : (a b : Watch) → FreshWatchPromise a → FreshWatchPromise b → a ≡ b
+one-fresh-watch a b e f = e ∙ sym f
+
+pub one-knowing-watch : (buttons : ℕ) (a b : Watch) → KnowingWatchPromise buttons a → KnowingWatchPromise buttons b → a ≡ b
+one-knowing-watch buttons a b e f = e ∙ sym f
+
+pub one-watch-heard : (w : Watch) (report : Report) (a b : Told) → WatchHeardPromise w report a → WatchHeardPromise w report b → a ≡ b
+one-watch-heard w report a b e f = e ∙ sym f
+
+pub one-watch-over : (w : Watch) (numbers : List ℤ) (a b : Watched) → WatchOverPromise w numbers a → WatchOverPromise w numbers b → a ≡ b
+one-watch-over w numbers a b e f = e ∙ sym f

@@ -5,9 +5,8 @@ use mathlib.Core.List.{List, _∷_, _++_, map}
 use Rattle.frames.specs.Passages.{Passage, silent, UnderWay, nothing, Unbroken, Unpaused, Sub}
 use Rattle.wire.specs.Line.{letterOf, markedOf}
 use Rattle.wire.specs.Messages.{Message, finishedReports}
-use Rattle.wire.specs.declared.Report.{Report}
+use Rattle.wire.specs.Buttons.{buttonsOf, buttonsIn}
 use Rattle.wire.specs.declared.Format.{Format}
-use Rattle.wire.specs.declared.Format.the-variants.{Microsoft}
 use Rattle.reader.specs.State.{ready}
 use Rattle.ballbox.specs.declared.BallBox.{BallBox}
 use Rattle.ballbox.specs.declared.Event.{Event}
@@ -31,10 +30,9 @@ module _ {h : HeldBox} {going : UnderWay Message} {events : List Event} {answers
   pub run-below : demand.Streaming (unpacked h) going events (history.answersTo (unpacked h) events)
   run-below =
       record {
-        good = run .good;
+        box = run .box;
         awake = ap marked (run .awake);
         stream = run .stream;
-        no-report = run .no-report;
         keeps = run .keeps;
         permitted = answers-permitted (unpacked h) events;
       }
@@ -95,6 +93,5 @@ module _ {h : HeldBox} {events : List Event} {answers : List SteppedBox} (run : 
       (hands-out f (history.wordsGiven (history.answersTo (unpacked h) events)) (finishedReports f rest)
       (demand.fresh-seen (run-below run) f set hosts front rest is m p u))
 
-  pub each-seen-in-c : (f ≡ Microsoft → ⊥)
-      → Sub (shownBy (sent h nothing events)) (map (λ (r : Report). r .buttons) (finishedReports f (sent h nothing events)))
-  each-seen-in-c other = demand.each-seen (run-below run) f set hosts other
+  pub each-seen-in-c : Sub (map (buttonsIn f) (shownBy (sent h nothing events))) (buttonsOf (finishedReports f (sent h nothing events)))
+  each-seen-in-c = demand.each-seen (run-below run) f set hosts

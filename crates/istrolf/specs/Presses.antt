@@ -1,4 +1,4 @@
--- What the press theorem speaks of, in C: a box in a stream mode that has no report going, by any answers that the C functions' promises permit.
+-- What the press theorem speaks of, in C: a box in a stream mode, in the middle of a report or not, by any answers that the C functions' promises permit.
 use Prim.Native.Nat.{ℕ, suc, _*_, _≤_}
 use mathlib.Core.Path.{_≡_}
 use mathlib.Core.Bool.{true}
@@ -7,13 +7,13 @@ use lib.ListN.{length}
 use Rattle.frames.specs.Passages.{Passage, UnderWay}
 use Rattle.wire.specs.Line.{sizeBy}
 use Rattle.wire.specs.Messages.{Message}
-use Rattle.ballbox.specs.Good.{good}
 use Rattle.ballbox.specs.Presses.{remembered}
 use Rattle.ballbox.specs.Commands.{isStream}
 use Rattle.ballbox.specs.declared.BallBox.{BallBox}
 use Rattle.ballbox.specs.declared.Event.{Event}
 use Rattle.history.specs.History.{passagesOf, goingAfter}
-use Rattle.history.specs.Presses.{NoReport, noneEmpties, noHost, statesOver, shownBy, ShownAgain, slotsIn}
+use Rattle.history.specs.Carried.{Carrying}
+use Rattle.history.specs.Presses.{noneEmpties, noHost, statesOver, shownBy, ShownAgain, slotsIn}
 use Rattle.demands.specs.Presses.{AllShown}
 use Rattle.istrolf.specs.Boxes.{unpacked, stands}
 use Rattle.istrolf.specs.Runs.{RunPromise, lastBox}
@@ -22,10 +22,9 @@ use Rattle.istrolf.specs.declared.SteppedBox.{SteppedBox}
 
 pub record Streaming (h : HeldBox) (going : UnderWay Message) (events : List Event) (answers : List SteppedBox) : Type 0 where
   pub stands : stands h ≡ true
-  pub good : good (unpacked h) ≡ true
   pub awake : h .dormant ≡ 0
   pub stream : isStream (h .settings .mode) ≡ true
-  pub no-report : NoReport (unpacked h) going
+  pub box : Carrying (unpacked h) going
   pub keeps : noneEmpties events ≡ true
   pub permitted : RunPromise h events answers
 

@@ -7,6 +7,10 @@ use lib.IntN.{ℤ}
 use Rattle.wire.specs.Encoder as wire
 use Rattle.wire.specs.declared.Report.{Report}
 use Rattle.reader.specs.Promises as reader
+use Rattle.saves.specs.Promises as saves
+use Rattle.saves.specs.declared.Watch.{Watch}
+use Rattle.saves.specs.declared.Told.{Told}
+use Rattle.saves.specs.declared.Watched.{Watched}
 use Rattle.ballbox.specs.Box.{freshBox}
 use Rattle.ballbox.specs.Promises as ballbox
 use Rattle.ballbox.specs.declared.Event.{Event}
@@ -232,3 +236,19 @@ readbackRewriteOf h input out =
 
 abbrev pub ReadbackRewritePromise : HeldReadback → List ℕ → List ℕ → RewrittenLines → List ℕ → Type 0
 ReadbackRewritePromise h input before answer after = readbacks.rewriting answer after ≡ readbackRewriteOf h input before
+
+-- `istrolf_watch_fresh()`
+abbrev pub FreshWatchPromise : Watch → Type 0
+FreshWatchPromise answer = saves.FreshPromise answer
+
+-- `istrolf_watch_knowing(buttons)`
+abbrev pub KnowingWatchPromise : ℕ → Watch → Type 0
+KnowingWatchPromise buttons answer = saves.KnowingPromise buttons answer
+
+-- `istrolf_watch_heard(watch, report)`
+abbrev pub WatchHeardPromise : Watch → Report → Told → Type 0
+WatchHeardPromise w report answer = saves.HeardPromise w report answer
+
+-- `istrolf_watch_over(watch, numbers)`
+abbrev pub WatchOverPromise : Watch → List ℤ → Watched → Type 0
+WatchOverPromise w numbers answer = saves.OverPromise w numbers answer

@@ -18,6 +18,7 @@ mod readbacks;
 mod readers;
 mod salvages;
 mod told;
+mod watches;
 mod yards;
 
 // What is given back for what stands for no state.
