@@ -16,7 +16,7 @@ use Rattle.ballbox.specs.declared.Event.the-variants.{Motion, Buttons, Host, La
 use Rattle.history.specs.Runs as box-runs
 use Rattle.history.specs.History as box-history
 use Rattle.history.specs.Asked.{allHosts, hostsPass}
-use Rattle.history.specs.Presses.{lastBox}
+use Rattle.history.specs.Presses.{boxAfter, lastBox}
 use Rattle.vsxxx.specs.Reports.{PuckMessage, of-box}
 use Rattle.puck.specs.Device.{withBall, Step}
 use Rattle.puck.specs.Rules.{letterT, asBox, byBox, outOfTest, rules}
@@ -25,12 +25,12 @@ use Rattle.puck.specs.Promises.{stepOf, StepPromise}
 use Rattle.puck.specs.declared.Puck.{Puck}
 use Rattle.puck.specs.declared.PuckStepped.{PuckStepped}
 use Rattle.puck.proofs.Goodness.{stepped-puck}
-use Rattle.puckhistory.specs.Runs.{RunPromise, nextPuck, lastPuck, asBoxAnswer, withoutT}
+use Rattle.puckhistory.specs.Runs.{RunPromise, nextPuck, puckAfter, lastPuck, asBoxAnswer, withoutT}
 use Rattle.puckhistory.specs.History.{boxTells, tellsOut, toldBy, passagesOf, goingAfter}
 use Rattle.puckhistory.proofs.Bridge.{in-box}
 
 -- passages told as another kind's, in two parts; and their finished reports
-passages-as-append : {K L : Type 0} (kind : K → L) (a b : List (Passage K)) → passagesAs kind (a ++ b) ≡ passagesAs kind a ++ passagesAs kind b
+pub passages-as-append : {K L : Type 0} (kind : K → L) (a b : List (Passage K)) → passagesAs kind (a ++ b) ≡ passagesAs kind a ++ passagesAs kind b
 passages-as-append kind [] b = refl
 passages-as-append kind (p ∷ a) b = rw (passages-as-append kind a b)
 
@@ -99,6 +99,15 @@ pub last-ball : (p : Puck) (answers : List PuckStepped) → lastPuck p answers .
 unfolding lastBox
 last-ball p [] = refl
 last-ball p (a ∷ answers) = last-ball (a .next) answers
+
+-- and so is the device after it
+pub ball-after : (p : Puck) (events : List Event) → good p ≡ true → p .test .left ≡ 0 → withoutT events ≡ true → puckAfter p events .ball ≡ boxAfter (p .ball) (map asBox events)
+unfolding puckAfter boxAfter allHosts
+ball-after p [] k z w = refl
+ball-after p (e ∷ events) k z w =
+    let n = next-is p e k z (left (T-free e) (withoutT events) w) in
+    let none : nextPuck p e .test .left ≡ 0 = ap (λ (q : Puck). q .test .left) n ∙ z in
+    ball-after (nextPuck p e) events (stepped-puck p e k) none (right (T-free e) (withoutT events) w) ∙ ap (λ (q : Puck). boxAfter (q .ball) (map asBox events)) n
 
 -- and its passages are the box's
 pub box-passages : (p : Puck) (g : UnderWay Message) (events : List Event) → good p ≡ true → p .test .left ≡ 0 → withoutT events ≡ true

@@ -7,6 +7,7 @@ use Rattle.ballbox.specs.Promises.{sentWords}
 use Rattle.ballbox.specs.declared.Event.{Event}
 use Rattle.ballbox.specs.declared.Stepped.{Stepped}
 use Rattle.history.specs.Asked.{allHosts}
+use Rattle.history.specs.Runs.{sentAs}
 use Rattle.puck.specs.Rules.{letterT}
 use Rattle.puck.specs.Promises.{StepPromise, stepOf}
 use Rattle.puck.specs.declared.Puck.{Puck}
@@ -40,6 +41,14 @@ puckAfter p (e ∷ events) = puckAfter (nextPuck p e) events
 unfoldable pub puckWords : Puck → List Event → List ℕ
 puckWords p [] = []
 puckWords p (e ∷ events) = stepOf p e .words ++ puckWords (nextPuck p e) events
+
+-- the answers that the rules give: of a step, and of a run
+unfoldable pub answerTo : Puck → Event → PuckStepped
+answerTo p e = record { refusal = stepOf p e .refusal; next = nextPuck p e; sent = sentAs (stepOf p e .words) }
+
+unfoldable pub answersTo : Puck → List Event → List PuckStepped
+answersTo p [] = []
+answersTo p (e ∷ events) = answerTo p e ∷ answersTo (nextPuck p e) events
 
 -- an answer of the device, as its box gave it; and events of which none is T
 abbrev pub asBoxAnswer : PuckStepped → Stepped

@@ -156,10 +156,10 @@ module _ (words : List ℕ) (legal : lineWords words ≡ true) where
 pub fit-legal : (k : List ℕ) (b : ℕ) → puckFrame .fits k b ≡ true → leb b silence ≡ true
 fit-legal k b h = le-leb b silence (omega (arith, puck-marked .laws .byte k b h))
 
-framed-line : (l : List (Passage PuckMessage)) → SoundLine l → Sound puckBytes (Framed puckFrame puckBytes) l
+pub framed-line : (l : List (Passage PuckMessage)) → SoundLine l → Sound puckBytes (Framed puckFrame puckBytes) l
 framed-line = sound-by puckBytes HeldByPuck (Framed puckFrame puckBytes) held-framed
 
-framed-going : (g : UnderWay PuckMessage) → SoundGoing g → SoundPart puckBytes (Framed puckFrame puckBytes) g
+pub framed-going : (g : UnderWay PuckMessage) → SoundGoing g → SoundPart puckBytes (Framed puckFrame puckBytes) g
 framed-going = part-by puckBytes HeldByPuck (Framed puckFrame puckBytes) held-framed
 
 abbrev pub legally : ℕ → Bool

@@ -5,7 +5,7 @@ use mathlib.Core.Bool.{true}
 use mathlib.Core.List.{List, _++_}
 use lib.ListN.{length, take, drop, getD}
 use lib.IntN.{ℤ}
-use Rattle.frames.specs.Passages.{Passage, UnderWay, passageWords, partWords, finishedBy, Sound, SoundPart}
+use Rattle.frames.specs.Passages.{Passage, UnderWay, Sub, passageWords, partWords, finishedBy, Sound, SoundPart}
 use Rattle.frames.specs.Words.{lineWords}
 use Rattle.wire.specs.Numbers.{success}
 use Rattle.vsxxx.specs.Reports.{PuckReport, movement, self-test, sixOf, PuckMessage, puckBytes, HeldByPuck, shownByPuck}
@@ -38,6 +38,12 @@ pub record HandsOutBy (r : PuckReader) (words : List ℕ) (found : List PuckRepo
 -- a fresh reader does
 abbrev pub HandsOut : List ℕ → List PuckReport → Type 0
 HandsOut words found = (r : PuckReader) → FreshPromise r → HandsOutBy r words found
+
+-- the reader r, given the words, hands out, by steps and by a long read, reports that are some of these, or all, in their order
+pub record TrueBy (r : PuckReader) (words : List ℕ) (sent : List PuckReport) : Type 0 where
+  pub found : List PuckReport
+  pub hands-out : HandsOutBy r words found
+  pub among : Sub found sent
 
 -- A fresh reader, given the words, answers word i (the first being 0) by the report p; and a long read with room for all that is found takes every word and writes what is found, p's six
 -- numbers behind those of the reports found before word i.

@@ -5,7 +5,7 @@ use mathlib.Core.Bool.{Bool, true, false}
 use mathlib.Core.List.{List, [], _∷_}
 use native.Mathlib.Nat.{mod-eq-of-lt}
 use native.Mathlib.Omega.{arith}
-use lib.Dec.{eqb}
+use lib.Dec.{T, eqb, leb, ltb, lit<, lit≤}
 use borrow.Author.Tests.{eqb-true, leb-true, le-leb}
 use Rattle.numbers.proofs.Choices.{or-else, both}
 use Rattle.numbers.proofs.Tested.{holds}
@@ -33,31 +33,33 @@ use Rattle.tellings.specs.Lines.{askedFor, replyTold}
 use Rattle.tellings.specs.Runs.{hasReply, asksOrTells, answerOf}
 use Rattle.replies.specs.declared.Asked.the-variants.{Command}
 use Rattle.replies.specs.declared.Reply.the-variants as reply
-use Rattle.tellings.proofs.Passed.{IsReply}
+use Rattle.tellings.proofs.Passed.{OfSort, IsReply}
 
 -- each reply, by its bytes
 is-ack : IsReply (0x06 ∷ [])
 unfolding fits replyTo
-is-ack = record { whole = (refl, refl); value = refl; short = omega arith; some = refl }
+is-ack = record { whole = (refl, refl); value = refl; short = omega arith; some = refl; letters = false; alike = ((lit≤ tt, lit< tt), tt) }
 
 is-code : (f : Format) → IsReply (codeByteOf f ∷ [])
 unfolding fits replyTo letterOfCode
-is-code Mm = record { whole = (refl, refl); value = refl; short = omega arith; some = refl }
-is-code Microsoft = record { whole = (refl, refl); value = refl; short = omega arith; some = refl }
-is-code Absolute = record { whole = (refl, refl); value = refl; short = omega arith; some = refl }
-is-code Relative = record { whole = (refl, refl); value = refl; short = omega arith; some = refl }
-is-code FiveByte = record { whole = (refl, refl); value = refl; short = omega arith; some = refl }
-is-code ThreeByte = record { whole = (refl, refl); value = refl; short = omega arith; some = refl }
-is-code Hexadecimal = record { whole = (refl, refl); value = refl; short = omega arith; some = refl }
+is-code Mm = record { whole = (refl, refl); value = refl; short = omega arith; some = refl; letters = false; alike = ((lit≤ tt, lit< tt), tt) }
+is-code Microsoft = record { whole = (refl, refl); value = refl; short = omega arith; some = refl; letters = false; alike = ((lit≤ tt, lit< tt), tt) }
+is-code Absolute = record { whole = (refl, refl); value = refl; short = omega arith; some = refl; letters = false; alike = ((lit≤ tt, lit< tt), tt) }
+is-code Relative = record { whole = (refl, refl); value = refl; short = omega arith; some = refl; letters = false; alike = ((lit≤ tt, lit< tt), tt) }
+is-code FiveByte = record { whole = (refl, refl); value = refl; short = omega arith; some = refl; letters = false; alike = ((lit≤ tt, lit< tt), tt) }
+is-code ThreeByte = record { whole = (refl, refl); value = refl; short = omega arith; some = refl; letters = false; alike = ((lit≤ tt, lit< tt), tt) }
+is-code Hexadecimal = record { whole = (refl, refl); value = refl; short = omega arith; some = refl; letters = false; alike = ((lit≤ tt, lit< tt), tt) }
 
-is-letters : (f m : ℕ) → known f ≡ true → isMode m ≡ true → f ≤ 255 → m ≤ 255 → IsReply (f ∷ m ∷ [])
+pub is-letters : (f m : ℕ) → known f ≡ true → isMode m ≡ true → OfSort true f → OfSort true m → IsReply (f ∷ m ∷ [])
 unfolding fits replyTo letterFits more
 is-letters f m k h i j =
     record {
-      whole = (both (isByte f) (known f) (le-leb f 255 i) k, refl, (both (isByte m) (isMode m) (le-leb m 255 j) h, refl));
+      whole = (both (isByte f) (known f) (le-leb f 255 (omega arith)) k, refl, (both (isByte m) (isMode m) (le-leb m 255 (omega arith)) h, refl));
       value = refl;
       short = omega arith;
       some = refl;
+      letters = true;
+      alike = (i, (j, tt));
     }
 
 is-buttons : (n : ℕ) → n ≤ 7 → IsReply (n ∷ 0 ∷ 0 ∷ [])
@@ -68,17 +70,19 @@ is-buttons n h =
       value = refl;
       short = omega arith;
       some = refl;
+      letters = false;
+      alike = ((omega arith, omega arith), ((lit≤ tt, lit< tt), ((lit≤ tt, lit< tt), tt)));
     }
 
--- letters are bytes
-letter-byte : (f : Format) → letterOf f ≤ 255
-letter-byte Mm = omega arith
-letter-byte Microsoft = omega arith
-letter-byte Absolute = omega arith
-letter-byte Relative = omega arith
-letter-byte FiveByte = omega arith
-letter-byte ThreeByte = omega arith
-letter-byte Hexadecimal = omega arith
+-- letters are of the sort of letters
+letter-sort : (f : Format) → OfSort true (letterOf f)
+letter-sort Mm = (lit≤ tt, lit< tt)
+letter-sort Microsoft = (lit≤ tt, lit< tt)
+letter-sort Absolute = (lit≤ tt, lit< tt)
+letter-sort Relative = (lit≤ tt, lit< tt)
+letter-sort FiveByte = (lit≤ tt, lit< tt)
+letter-sort ThreeByte = (lit≤ tt, lit< tt)
+letter-sort Hexadecimal = (lit≤ tt, lit< tt)
 
 -- the format that a known letter names
 pub formatOf : (l : ℕ) → known l ≡ true → (f : Format) × (l ≡ letterOf f)
@@ -88,19 +92,22 @@ formatOf l k = go (lettered l)
     go (named f e) = (f, e)
     go (unnamed n u) = absurd (holds (sym u ∙ k))
 
-known-byte : (l : ℕ) → known l ≡ true → l ≤ 255
-known-byte l k = let (f, e) = formatOf l k in rw e (letter-byte f)
+known-sort : (l : ℕ) → known l ≡ true → OfSort true l
+known-sort l k = let (f, e) = formatOf l k in rw e (letter-sort f)
 
-is-byte : (n m : ℕ) → n ≤ 255 → eqb m n ≡ true → m ≤ 255
-is-byte n m h e = omega (arith, eqb-true m n e)
+same-sort : (n m : ℕ) → OfSort true n → eqb m n ≡ true → OfSort true m
+same-sort n m h e = rw (eqb-true m n e) h
 
-mode-byte : (m : ℕ) → isMode m ≡ true → m ≤ 255
-mode-byte m =
+mode-sort : (m : ℕ) → isMode m ≡ true → OfSort true m
+mode-sort m =
     or-else _ _
     (or-else _ _
-    (or-else _ _ (or-else _ _ (or-else _ _ (or-else _ _ (or-else _ _ (or-else _ _ (is-byte 0x4A m (omega arith)) (is-byte 0x4B m (omega arith))) (is-byte 0x4C m (omega arith))) (is-byte 0x52 m (omega arith))) (is-byte 0x4D m (omega arith))) (is-byte 0x51 m (omega arith))) (is-byte 0x4E m (omega arith)))
-    (is-byte modeO m (omega arith)))
-    (is-byte modeD m (omega arith))
+    (or-else _ _ (or-else _ _ (or-else _ _ (or-else _ _ (or-else _ _ (or-else _ _ (a-letter 0x4A tt tt) (a-letter 0x4B tt tt)) (a-letter 0x4C tt tt)) (a-letter 0x52 tt tt)) (a-letter 0x4D tt tt)) (a-letter 0x51 tt tt)) (a-letter 0x4E tt tt))
+    (a-letter modeO tt tt))
+    (a-letter modeD tt tt)
+  where
+    a-letter : (n : ℕ) → T (leb 0x40 n) → T (ltb n 0x80) → eqb m n ≡ true → OfSort true m
+    a-letter n h k = same-sort n m (lit≤ h, lit< k)
 
 pub code-is : (f : Format) → codeByte (letterOf f) ≡ codeByteOf f
 unfolding codeByte
@@ -142,7 +149,7 @@ asks-reply b byte g (a-t e) =
     let s = parts b g .settings in
     let k = letter-known (b .settings) s in
     let m = mode-known (b .settings) s in
-    rw e (is-letters (b .settings .format) (b .settings .mode) k m (known-byte (b .settings .format) k) (mode-byte (b .settings .mode) m))
+    rw e (is-letters (b .settings .format) (b .settings .mode) k m (known-sort (b .settings .format) k) (mode-sort (b .settings .mode) m))
 asks-reply b byte g (a-05 e) = rw e (is-buttons (b .settings .buttons) (leb-true (b .settings .buttons) 7 (few (b .settings) (parts b g .settings))))
 
 unsent-sound : (f : Format) (bytes : List ℕ) → IsReply bytes → SoundPart messageBytes (HeldWith IsReply f) (unsentReply bytes)

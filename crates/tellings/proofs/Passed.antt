@@ -1,7 +1,7 @@
 -- Where the reader is told of each reply, the report reader is given the line without them, a broken one leaving a lone 256.
-use Prim.Native.Nat.{ℕ, zero, suc, _<_, _≤_}
+use Prim.Native.Nat.{ℕ, zero, suc, _+_, _<_, _≤_}
 use mathlib.Core.Path.{_≡_, refl, _∙_, ap}
-use mathlib.Core.Bool.{true, false}
+use mathlib.Core.Bool.{Bool, true, false}
 use mathlib.Core.List.{List, [], _∷_, _++_, append-assoc, append-nil, map-append}
 use native.Mathlib.Omega.{arith}
 use lib.ListN.{length, take}
@@ -96,12 +96,26 @@ over-break a = record { gives = refl; awaits = refl; tells = refl }
 abbrev pub awaitedFor : List ℕ → Awaited
 awaitedFor bytes = awaiting (kindOf (askedFor bytes)) none
 
--- the bytes of a reply as the box sends it
+-- the two sorts of bytes in replies: letters, from 40H to 7FH, and those below 40H
+abbrev pub lowest : Bool → ℕ
+lowest true = 0x40
+lowest false = 0
+
+abbrev pub OfSort : Bool → ℕ → Type 0
+OfSort letters b = (lowest letters ≤ b) × (b < lowest letters + 0x40)
+
+abbrev pub AllOfSort : Bool → List ℕ → Type 0
+AllOfSort letters [] = Unit {0}
+AllOfSort letters (b ∷ bytes) = OfSort letters b × AllOfSort letters bytes
+
+-- the bytes of a reply as the box sends it; all are of one sort
 pub record IsReply (bytes : List ℕ) : Type 0 where
   pub whole : WholeFrom (awaitedFor bytes) bytes
   pub value : toldIn (valueFrom (awaitedFor bytes) bytes) ≡ replyTold bytes ∷ []
   pub short : length bytes ≤ 3
   pub some : isNone (kindOf (askedFor bytes)) ≡ false
+  pub letters : Bool
+  pub alike : AllOfSort letters bytes
 
 came-from : (n : ℕ) (bytes : List ℕ) (k : Kind) → n < length bytes → length bytes ≤ 3 → stateFrom n (awaiting k none) bytes ≡ awaiting k (cameOf (take n bytes))
 unfolding more
