@@ -39,6 +39,9 @@ use Rattle.reader.specs.declared.Answers.{Answers}
 use Rattle.reader.proofs.Permitted as permitted
 use Rattle.reader.proofs.Refusals as refusals
 use Rattle.reader.proofs.Goodness as goodness
+use Rattle.saves.specs.Promises as watch
+use Rattle.saves.specs.declared.Watch.{Watch}
+use Rattle.saves.proofs.Answers as watch-answers
 use Rattle.ballbox.specs.Box.{Step, refused}
 use Rattle.ballbox.specs.Good as boxes
 use Rattle.ballbox.specs.Promises as box
@@ -159,6 +162,19 @@ read-line-one = permitted.one-read
 
 pub answers-one : (r : Reader) (words : List ℕ) (out : List ℤ) → OneWith (AnswersPromise r words out)
 answers-one = permitted.one-answers
+
+-- `Watch::fresh`, `knowing`, `heard`, `over`
+pub fresh-watch-one : One watch.FreshPromise
+fresh-watch-one = watch-answers.one-fresh
+
+pub knowing-watch-one : (buttons : ℕ) → One (watch.KnowingPromise buttons)
+knowing-watch-one = watch-answers.one-knowing
+
+pub watch-heard-one : (w : Watch) (r : Report) → One (watch.HeardPromise w r)
+watch-heard-one = watch-answers.one-heard
+
+pub watch-over-one : (w : Watch) (numbers : List ℤ) → One (watch.OverPromise w numbers)
+watch-over-one = watch-answers.one-over
 
 -- `BallBox::fresh`, `good`, `step`
 pub fresh-box-one : One box.FreshPromise

@@ -1,6 +1,6 @@
 -- Presses that outlive a busy line: "In stream modes the box shall remember button states in order, up to eight, each shown by a report of its own."
--- Over the public step, for every good box that is awake in a stream mode and has no report going, whatever it remembers, and every list of events:
--- motion, periods, buttons, Latch and Send in any order, and any byte of the host's but D, P, `d` and the formats.
+-- Over the public step, for every good box that is awake in a stream mode, in the middle of a report or not, whatever it remembers, and every list of
+-- events: motion, periods, buttons, Latch and Send in any order, and any byte of the host's but D, P, `d` and the formats. From the press to the save: Saves.
 use Prim.Native.Nat.{ℕ, suc, _*_, _≤_}
 use mathlib.Core.Path.{_≡_, refl, sym, _∙_, ap}
 use mathlib.Core.Bool.{true, false}
@@ -11,34 +11,32 @@ use lib.Seq.{take-append-le, take-at}
 use Rattle.frames.specs.Passages.{Passage, silent, UnderWay, nothing, Unbroken, Unpaused, Sub, passageWords, partWords}
 use Rattle.wire.specs.Line.{letterOf, sizeBy, markedOf}
 use Rattle.wire.specs.Messages.{Message, messageBytes, finishedReports, SoundIn, SoundEnd}
-use Rattle.wire.specs.declared.Report.{Report}
+use Rattle.wire.specs.Buttons.{buttonsOf, buttonsIn}
 use Rattle.wire.specs.declared.Format.{Format}
-use Rattle.wire.specs.declared.Format.the-variants.{Microsoft}
 use Rattle.reader.specs.State.{ready}
 use Rattle.reader.specs.DamagedLines.{HandsOut, HandsOutBy}
 use Rattle.reader.proofs.Followed as followed
 use Rattle.ballbox.specs.Presses.{remembered}
 use Rattle.ballbox.specs.Commands.{isStream, asksForReports}
-use Rattle.ballbox.specs.Events.{bytesLeft}
-use Rattle.ballbox.specs.Good.{good}
 use Rattle.ballbox.specs.declared.BallBox.{BallBox}
 use Rattle.ballbox.specs.declared.Event.{Event}
 use Rattle.ballbox.specs.declared.Stepped.{Stepped}
 use Rattle.history.specs.Runs.{RunPromise, wordsGiven}
 use Rattle.history.specs.History.{passagesOf, goingAfter}
-use Rattle.history.specs.Presses.{NoReport, nothing-going, noneEmpties, noHost, onlyStreams, changesIn, statesOver, neverNinth, shownBy, ShownAgain, slotsIn, lastBox}
+use Rattle.history.specs.Carried.{Carrying}
+use Rattle.history.specs.Presses.{noneEmpties, noHost, onlyStreams, changesIn, statesOver, neverNinth, shownBy, ShownAgain, slotsIn, lastBox}
 use Rattle.history.proofs.Bridge.{run-passages}
 use Rattle.history.proofs.Asking.{asked-sound, hosts-by}
 use Rattle.history.proofs.Presses as presses
 use Rattle.history.proofs.Within as within
 use Rattle.history.proofs.Again as again
+use Rattle.history.proofs.Survives.{shown-seen}
 
 -- such a box, and a run of it: any answers that the promise of the public step permits
 pub record Streaming (b : BallBox) (going : UnderWay Message) (events : List Event) (answers : List Stepped) : Type 0 where
-  pub good : good b ≡ true
+  pub box : Carrying b going
   pub awake : b .dormant ≡ false
   pub stream : isStream (b .settings .mode) ≡ true
-  pub no-report : NoReport b going
   pub keeps : noneEmpties events ≡ true
   pub permitted : RunPromise b events answers
 
@@ -51,7 +49,7 @@ pub record AllShown (b : BallBox) (events : List Event) (shown : List ℕ) (last
 
 module _ {b : BallBox} {going : UnderWay Message} {events : List Event} {answers : List Stepped} (run : Streaming b going events answers) where
   streams : presses.Streams b going
-  streams = presses.streams-from b going (run .good) (run .awake) (run .stream) (run .no-report)
+  streams = presses.streams-from b going (run .box) (run .awake) (run .stream)
 
   -- what it sent, the states that its finished reports showed, and the box after it
   abbrev pub sent : List (Passage Message)
@@ -81,7 +79,7 @@ module _ {b : BallBox} {going : UnderWay Message} {events : List Event} {answers
   shown-again = again.shown-again b going events streams (run .keeps)
 
   -- Within so many slots, each a Send with a Latch since the Send before: with k remembered, whatever else happens in between but a byte of the host's,
-  -- after (k + 1) reports' worth of slots those k have been shown
+  -- after (k + 1) reports' worth of slots those k have been shown; in the middle of a report too
   pub within-slots : noHost events ≡ true
       → suc (length (remembered (b .memory))) * sizeBy (b .settings .format) ≤ slotsIn events
       → AllShown b events shown last
@@ -109,19 +107,13 @@ module _ {b : BallBox} {going : UnderWay Message} {events : List Event} {answers
 -- but J K L R M Q N O.
 module _ {b : BallBox} {events : List Event} {answers : List Stepped} (run : Streaming b nothing events answers)
     (f : Format) (set : b .settings .format ≡ letterOf f) (hosts : onlyStreams events ≡ true) where
-  idle : bytesLeft b ≡ false
-  idle = nothing-left (run .no-report)
-    where
-      nothing-left : NoReport b nothing → bytesLeft b ≡ false
-      nothing-left (nothing-going e) = e
-
   sound : SoundIn f (sent run) × SoundEnd f (goingAfter b nothing events)
   sound =
       asked-sound f b nothing events (hosts-by isStream asksForReports (λ byte h. rw h) events hosts)
-      (record { good = run .good; awake = run .awake; format = set; carries = idle; sound = tt })
+      (record { good = run .box .good; awake = run .awake; format = set; carries = run .box .carries; sound = tt })
 
   line : wordsGiven answers ≡ passageWords messageBytes (sent run) ++ partWords messageBytes (goingAfter b nothing events)
-  line = run-passages b events answers (run .good) idle (run .permitted)
+  line = run-passages b events answers (run .box .good) (run .box .carries) (run .permitted)
 
   -- a reader that is ready hands out exactly the finished reports, as the format carries them, in order, by steps and by a long read with room: in a
   -- marked format whatever is broken off
@@ -151,7 +143,6 @@ module _ {b : BallBox} {events : List Event} {answers : List Stepped} (run : Str
       → HandsOut f (wordsGiven answers) (finishedReports f rest)
   fresh-seen front rest is m p u = rw line (followed.fresh-followed f (sent run) (goingAfter b nothing events) (sound .0) (sound .1) front rest is m p u)
 
-  -- so each state that was shown is seen, in order; but in V, whose reports carry no M
-  pub each-seen : (f ≡ Microsoft → ⊥)
-      → Sub (shown run) (map (λ (r : Report). r .buttons) (finishedReports f (sent run)))
-  each-seen other = presses.shown-carried f (sent run) other
+  -- so each state that was shown is seen, in order, as the format carries it: in V without M
+  pub each-seen : Sub (map (buttonsIn f) (shown run)) (buttonsOf (finishedReports f (sent run)))
+  each-seen = shown-seen f (sent run)

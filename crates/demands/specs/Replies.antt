@@ -306,13 +306,13 @@ pub record Run (f : Format) (b : BallBox) (a : Stepped) (events : List Event) (a
   pub permitted : RunPromise (a .next) events answers
 
 module _ {f : Format} {b : BallBox} {a : Stepped} {events : List Event} {answers : List Stepped} (run : Run f b a events answers) where
-  set-box : SetWith IsReply f (a .next) nothing
+  pub set-box : SetWith IsReply f (a .next) nothing
   set-box =
       let s = set-to f b a (run .good) (run .awake) (run .set) in
       record { good = s .good; awake = s .awake; format = s .format; carries = s .carries; sound = tt }
 
   -- the setting by itself is a run of the narrower theorem
-  setting : narrow.Run f b a [] []
+  pub setting : narrow.Run f b a [] []
   unfolding allHosts RunPromise
   setting = record { good = run .good; awake = run .awake; set = run .set; asked = refl; permitted = tt }
 

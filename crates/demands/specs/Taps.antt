@@ -27,8 +27,9 @@ use Rattle.ballbox.specs.declared.Event.{Event}
 use Rattle.ballbox.specs.declared.Event.the-variants.{Motion, Buttons, Host, Latch, Send, Period}
 use Rattle.history.specs.Runs.{wordsGiven, answersTo}
 use Rattle.history.specs.History.{nextBox, passagesOf}
-use Rattle.history.specs.Presses.{boxAfter, shownBy, nothing-going}
+use Rattle.history.specs.Presses.{boxAfter, shownBy}
 use Rattle.history.proofs.Permitted.{answers-permitted}
+use Rattle.history.proofs.Presses.{at-rest}
 use Rattle.demands.specs.Computing.{computing}
 use Rattle.demands.specs.Worked.{slots}
 use Rattle.demands.specs.Presses.{Streaming, seen-marked, seen-without-host}
@@ -63,7 +64,7 @@ pub tap-seen-in-S : HandsOutBy (ready (letterOf Mm)) (0x98 ∷ 0x05 ∷ 0x00 ∷
 unfolding computing
 tap-seen-in-S =
     let run : Streaming (boxIn Mm) nothing tapS (answersTo (boxIn Mm) tapS) =
-    record { good = refl; awake = refl; stream = refl; no-report = nothing-going refl; keeps = refl; permitted = answers-permitted (boxIn Mm) tapS } in
+    record { box = at-rest (boxIn Mm) refl refl; awake = refl; stream = refl; keeps = refl; permitted = answers-permitted (boxIn Mm) tapS } in
     seen-marked run Mm refl refl refl
 
 -- U: the same
@@ -83,7 +84,7 @@ pub tap-seen-in-U : HandsOutBy (ready (letterOf FiveByte))
 unfolding computing
 tap-seen-in-U =
     let run : Streaming (boxIn FiveByte) nothing tapU (answersTo (boxIn FiveByte) tapU) =
-    record { good = refl; awake = refl; stream = refl; no-report = nothing-going refl; keeps = refl; permitted = answers-permitted (boxIn FiveByte) tapU } in
+    record { box = at-rest (boxIn FiveByte) refl refl; awake = refl; stream = refl; keeps = refl; permitted = answers-permitted (boxIn FiveByte) tapU } in
     seen-without-host run FiveByte refl refl refl
 
 -- By the base's rule the press is lost: "A change is kept; in a stream mode it makes a report due." It stands here alone.

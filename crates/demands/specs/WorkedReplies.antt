@@ -48,7 +48,7 @@ pub record SendsItems (f : Format) (events : List Event) (items : List Item) (pa
   pub is : sent (setTo f) events ≡ passages
   pub ends : stillGoing (setTo f) events ≡ nothing
 
-run-of : {f : Format} {events : List Event} {items : List Item} {passages : List (Passage Message)}
+pub run-of : {f : Format} {events : List Event} {items : List Item} {passages : List (Passage Message)}
     → SendsItems f events items passages
     → Run f freshBox (setTo f) events (answersTo (setTo f .next) events)
 unfolding computing
@@ -146,7 +146,7 @@ Hears f items replies found =
     → ItemsPromise (a .reader) items done
     → (repliesOf done ≡ replies) × (handedOut (ownAnswersOf done) ≡ found)
 
-hears : (f : Format) (items : List Item) {replies : List Reply} {found : List Report}
+pub hears : (f : Format) (items : List Item) {replies : List Reply} {found : List Report}
     → (let done = doneOf (freshOf (letterOf f) .reader) items in (repliesOf done ≡ replies) × (handedOut (ownAnswersOf done) ≡ found))
     → Hears f items replies found
 hears f items h a done e p =

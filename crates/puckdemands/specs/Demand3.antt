@@ -40,7 +40,8 @@ module _ {buttons revision maker : ℕ} {p : Puck} {events : List Event} {answer
   pub as-sent : wordsGiven answers ≡ passageWords puckBytes sent ++ partWords puckBytes stillGoing
   as-sent = run-passages p powered events answers (made-is-good buttons revision maker p (run .made)) (made-holds buttons revision maker p (run .made)) (run .permitted)
 
-  sound : SoundLine sent × SoundGoing stillGoing
+  -- which are sound
+  pub sound : SoundLine sent × SoundGoing stillGoing
   sound = run-sound p powered events (made-is-good buttons revision maker p (run .made)) (made-holds buttons revision maker p (run .made))
 
   -- "Replace one stretch of its line words", `old`, "by any other legal words, or none", `new`: "each finished report that begins after the stretch is handed out as the box sent it", be it

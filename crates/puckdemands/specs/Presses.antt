@@ -15,8 +15,9 @@ use Rattle.ballbox.specs.Events.{bytesLeft}
 use Rattle.ballbox.specs.declared.Event.{Event}
 use Rattle.history.specs.History as box-history
 use Rattle.history.specs.Carried.{SetTo}
-use Rattle.history.specs.Presses.{nothing-going, noHost, changesIn, statesOver, neverNinth, ShownAgain, slotsIn}
+use Rattle.history.specs.Presses.{noHost, changesIn, statesOver, neverNinth, ShownAgain, slotsIn}
 use Rattle.history.proofs.Asking.{hosts-by}
+use Rattle.history.proofs.Presses.{at-rest}
 use Rattle.vsxxx.specs.Reports.{PuckMessage, of-box}
 use Rattle.puck.specs.Device.{testing}
 use Rattle.puck.specs.Rules.{modeR, letterT, asBox}
@@ -69,10 +70,9 @@ module _ {p : Puck} {events : List Event} {answers : List PuckStepped} (run : St
   box : presses.Streaming (p .ball) nothing (map asBox events) (map asBoxAnswer answers)
   box =
       record {
-        good = has .ball;
+        box = at-rest (p .ball) (has .ball) (run .idle);
         awake = has .follows .awake;
         stream = rw (run .stream);
-        no-report = nothing-going (run .idle);
         keeps = handed-keeps events (run .keeps);
         permitted = box-run p events answers (run .good) none-left no-T (run .permitted);
       }
