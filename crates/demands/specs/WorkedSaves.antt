@@ -12,12 +12,15 @@ use Rattle.wire.specs.Line.{letterOf}
 use Rattle.wire.specs.Reading.{report}
 use Rattle.wire.specs.Messages.{finishedReports}
 use Rattle.wire.specs.Buttons.{middle, isDown, presses, buttonsOf, pressesFrom, pressesAmong}
-use Rattle.wire.specs.declared.Format.the-variants.{Mm, ThreeByte}
-use Rattle.reader.specs.State.{ready}
+use Rattle.wire.specs.declared.Format.{Format}
+use Rattle.wire.specs.declared.Format.the-variants.{Mm, Microsoft, ThreeByte}
+use Rattle.reader.specs.State.{fresh, ready}
 use Rattle.reader.specs.Follows.{ready-marked, ShowsStates}
-use Rattle.reader.specs.declared.Answer.the-variants.{Nothing}
+use Rattle.reader.specs.declared.Answer.the-variants.{Nothing, Dropped}
 use Rattle.reader.specs.declared.Answer.the-variants as answer
 use Rattle.reader.proofs.DamagedRuns.{AnsweredBy, computed-by}
+use Rattle.ballbox.specs.Box.{modeO, modeD}
+use Rattle.ballbox.specs.Commands.{letterP}
 use Rattle.ballbox.specs.declared.BallBox.{BallBox}
 use Rattle.ballbox.specs.declared.Event.{Event}
 use Rattle.ballbox.specs.declared.Event.the-variants.{Motion, Buttons, Host, Latch}
@@ -78,6 +81,39 @@ pub kept-needed : shownBy (passagesOf (boxIn Mm) nothing
     ≡ 1 ∷ 2 ∷ 3 ∷ 4 ∷ 1 ∷ 3 ∷ 7 ∷ 5 ∷ []
 unfolding computing
 kept-needed = refl
+
+-- So are a stream mode (prompt mode remembers nothing), a change, buttons up to 7, and no byte of the host's: O breaks off
+-- each report that would show the press
+abbrev again : List Event → List Event
+again events = slots 1 (Host modeO ∷ events)
+
+pub press-needed : (shownBy (passagesOf (boxIn Mm) nothing (Host modeD ∷ Buttons 2 ∷ slots 6 [])) ≡ [])
+    × (shownBy (passagesOf (boxIn Mm) nothing (Buttons 0 ∷ slots 6 [])) ≡ [])
+    × (shownBy (passagesOf (boxIn Mm) nothing (Buttons 8 ∷ slots 6 [])) ≡ [])
+    × (shownBy (passagesOf (boxIn Mm) nothing (Buttons 2 ∷ again (again (again (again (again (again []))))))) ≡ [])
+unfolding computing
+press-needed = (refl, refl, refl, refl)
+
+-- and a reader that follows: a fresh one of T, before a silence, drops what shows the press
+pub follow-needed : (wordsGiven (answersTo (boxIn ThreeByte) (Buttons 2 ∷ slots 3 [])) ≡ 0x02 ∷ 0x00 ∷ 0x00 ∷ [])
+    × AnsweredBy (fresh (letterOf ThreeByte)) (0x02 ∷ 0x00 ∷ 0x00 ∷ []) (Dropped 1 ∷ Dropped 1 ∷ Dropped 1 ∷ [])
+unfolding computing
+follow-needed = (refl, computed-by (fresh (letterOf ThreeByte)) _ _ refl)
+
+-- For as many saves as presses too: of one press none is seen where the box is in prompt mode, where P empties the
+-- memory, where the state is still to be shown, and in V, which does not carry M
+abbrev seenOf : Format → BallBox → List Event → ℕ
+seenOf f b events = pressesFrom (isDown middle) (b .settings .buttons) (finishedReports f (passagesOf b nothing events))
+
+abbrev Unseen : Format → List Event → Type 0
+Unseen f events = (_≡_ {A = ℕ} (made (isDown middle) (boxIn f) events) 1) × (_≡_ {A = ℕ} (seenOf f (boxIn f) events) 0)
+
+pub count-needs : Unseen Mm (Host modeD ∷ Buttons 2 ∷ Buttons 0 ∷ Host modeO ∷ slots 6 [])
+    × Unseen Mm (Buttons 2 ∷ Buttons 0 ∷ Host letterP ∷ slots 3 [])
+    × Unseen Mm (Buttons 2 ∷ slots 2 [])
+    × Unseen Microsoft (Buttons 2 ∷ Buttons 0 ∷ slots 6 [])
+unfolding computing presses buttonsTold
+count-needs = ((refl, refl), (refl, refl), (refl, refl), (refl, refl))
 
 -- The mark is needed: T sends 00 02 E8 and 00 01 00, with no button down at any time; the first byte is lost, and a
 -- ready reader hands out a report with M down. A watch would save.
