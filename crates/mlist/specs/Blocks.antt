@@ -1,29 +1,17 @@
--- What a block of the input leaves.
-use Prim.Native.Nat.{ℕ, _≤_}
+-- Where the program stands between blocks.
+use Prim.Native.Nat.{ℕ}
 use mathlib.Core.Path.{_≡_}
-use mathlib.Core.Bool.{Bool, false, not, _&&_}
-use mathlib.Core.List.{List}
-use mathlib.Core.Logic.{_⊎_}
-use lib.ListN.{length, take}
-use Rattle.listing.specs.Promises.{FeedPromise}
-use Rattle.listing.specs.declared.Lister.{Lister}
-use Rattle.listing.specs.declared.Listed.{Listed}
+use mathlib.Core.Bool.{true, false}
+use mathlib.Core.List.{[]}
+use Rattle.shell.specs.Standing.{Stands, Closes, Failed, silent}
+use Rattle.listing.specs.Feeding.{good}
+use Rattle.listing.proofs.Whole.{allOf}
+use Rattle.mlist.specs.Program.{mlist}
+use Rattle.mlist.specs.declared.Went.{Went}
 
--- a lister was fed bytes and took all of them, with its text in the slice; more is to be read if that went well and it has not ended
-pub record Fed (m : Lister) (bytes before after : List ℕ) (next : Lister) (on well : Bool) : Type 0 where
-  pub answer : Listed
-  pub feeds : FeedPromise m bytes before answer after
-  pub whole : answer .taken ≡ length bytes
-  pub same : answer .next ≡ next
-  pub going : on ≡ (well && not (answer .ended))
-
--- it was fed the first bytes of the buffer, one or more
-pub record FedFront (m : Lister) (input before after : List ℕ) (next : Lister) (on well : Bool) : Type 0 where
-  pub count : ℕ
-  pub some : 1 ≤ count
-  pub there : count ≤ length input
-  pub fed : Fed m (take count input) before after next on well
-
--- or nothing was read, and nothing more is to be read
-abbrev pub Leaves : Lister → List ℕ → List ℕ → List ℕ → Lister → Bool → Bool → Type 0
-Leaves m input before after next on well = ((next ≡ m) × (on ≡ false)) ⊎ FedFront m input before after next on well
+-- of whatever follows, the lister writes what is still to be written; where no more is to be read the last lines are left, or something failed
+pub record Left (t : ℕ) (w : Went) : Type 0 where
+  pub sound : good (w .next) ≡ true
+  pub stands : w .on ≡ true → Stands mlist t (allOf (w .next)) silent
+  pub closes : w .on ≡ false → w .well ≡ true → Closes mlist t (allOf (w .next) []) []
+  pub failed : w .well ≡ false → Failed mlist t

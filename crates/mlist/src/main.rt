@@ -1,13 +1,17 @@
 // mlist: the listing of standard input, to standard output.
 ghost use mathlib.Core.Path.{_≡_};
-ghost use mathlib.Core.Bool.{true};
-ghost use Prim.Native.Nat.{_*_, _≤_};
+ghost use mathlib.Core.Bool.{true, false};
+ghost use mathlib.Core.List.{[], _++_};
+ghost use Prim.Native.Nat.{_*_, _-_, _≤_, _<_};
 ghost use lib.ListN.{length};
+ghost use Rattle.shell.specs.Outside.{Trace};
+ghost use Rattle.shell.specs.Standing.{Stands, Ends, silent};
+ghost use Rattle.listing.specs.Scanning.{passed, mostBytes};
 ghost use Rattle.listing.specs.Feeding.{good};
 ghost use Rattle.listing.specs.Promises.{enough};
-ghost use Rattle.mlist.specs.Blocks.{Fed, Leaves};
-use libc::STDIN_FILENO;
-use libc::STDOUT_FILENO;
+ghost use Rattle.listing.proofs.Whole.{allOf};
+ghost use Rattle.mlist.specs.Program.{mlist};
+ghost use Rattle.mlist.specs.Blocks.{Left};
 use listing::Lister;
 
 // Where the listing stands: the lister, whether more is to be read, and whether each read and write went well.
@@ -17,26 +21,17 @@ struct Went {
     well: bool,
 }
 
-// The first bytes, to standard output; where that fails, why, to standard error.
-fn show(out: &[u8], count: usize) -> bool
-    requires { ⌜ count ≤ length (now out) ⌝ }
-{
-    let is_shown = io::write_all(STDOUT_FILENO, &out[..count]);
-    if !is_shown {
-        os::fail(b"mlist: standard output");
-    }
-    is_shown
-}
-
 // Bytes of the input, and their text to standard output. With forty places for each of them all are taken.
-fn list(lister: Lister, bytes: &[u8], out: &mut [u8]) -> Went
-    requires { ⌜ good lister ≡ true ⌝ }
-    requires { ⌜ enough * length (now bytes) ≤ length (now out) ⌝ }
-    ensures { λ r. ⌜ Fed lister (now (bytes .entry)) (now (out .entry)) (now (out .exit)) (r .next) (r .on) (r .well) ⌝ }
+fn list(turn: &mut u64, lister: Lister, bytes: &[u8], out: &mut [u8]) -> Went
+    requires { ⌜ (good lister ≡ true) × (enough * length (now bytes) ≤ length (now out)) × (0 < length (now bytes)) ⌝ }
+    requires { ⌜ Stands mlist (now turn) (λ q. allOf lister (now bytes ++ q)) silent ⌝ }
+    ensures { λ r. ⌜ Left (now (turn .exit)) r ⌝ }
+    ensures { λ r. ⌜ (r .on ≡ true → mostBytes - passed (r .next .scanner) < mostBytes - passed (lister .scanner)) ⌝ }
 {
     let listed = lister.feed(bytes, out);
     let next = listed.next;
-    let is_shown = show(out, listed.written);
+    let n = listed.written;
+    let is_shown = shell::show(turn, b"mlist: standard output", &out[..n]);
     Went {
         next: next,
         on: is_shown & !listed.ended,
@@ -44,35 +39,29 @@ fn list(lister: Lister, bytes: &[u8], out: &mut [u8]) -> Went
     }
 }
 
-// Whether a read went well; where it failed, why, to standard error.
-fn is_read(got: isize) -> bool {
-    if got < 0 {
-        os::fail(b"mlist: standard input");
-    }
-    got >= 0
-}
-
 // A block of the input: what a read brought is listed, and where it brought nothing the input is over or cannot be read.
-fn block(lister: Lister, input: &mut [u8], out: &mut [u8]) -> Went
-    requires { ⌜ good lister ≡ true ⌝ }
-    requires { ⌜ enough * length (now input) ≤ length (now out) ⌝ }
-    ensures { λ r. ⌜ Leaves lister (now (input .exit)) (now (out .entry)) (now (out .exit)) (r .next) (r .on) (r .well) ⌝ }
+fn block(turn: &mut u64, lister: Lister, input: &mut [u8], out: &mut [u8]) -> Went
+    requires { ⌜ (good lister ≡ true) × (enough * length (now input) ≤ length (now out)) × (0 < length (now input)) ⌝ }
+    requires { ⌜ Stands mlist (now turn) (allOf lister) silent ⌝ }
+    ensures { λ r. ⌜ Left (now (turn .exit)) r ⌝ }
+    ensures { λ r. ⌜ (r .on ≡ true → mostBytes - passed (r .next .scanner) < mostBytes - passed (lister .scanner)) ⌝ }
 {
-    let got = libc::read(STDIN_FILENO, input);
-    let n = io::count(got, input);
+    let got = shell::more(turn, b"mlist: standard input", input);
+    let n = got.count;
     if n == 0 {
         return Went {
             next: lister,
             on: false,
-            well: is_read(got),
+            well: got.well,
         };
     }
-    list(lister, &input[..n], out)
+    list(turn, lister, &input[..n], out)
 }
 
 // The blocks, one after the other, until the input is over or the listing has ended: nothing is read after its end.
-fn blocks(input: &mut [u8], out: &mut [u8]) -> Went
-    requires { ⌜ enough * length (now input) ≤ length (now out) ⌝ }
+fn blocks(turn: &mut u64, input: &mut [u8], out: &mut [u8]) -> Went
+    requires { ⌜ (enough * length (now input) ≤ length (now out)) × (0 < length (now input)) × Trace (now turn) [] [] [] ⌝ }
+    ensures { λ r. ⌜ Left (now (turn .exit)) r × (r .on ≡ false) ⌝ }
 {
     let mut went = Went {
         next: Lister::fresh(),
@@ -80,25 +69,37 @@ fn blocks(input: &mut [u8], out: &mut [u8]) -> Went
         well: true,
     };
     while went.on {
-        went = block(went.next, input, out);
+        went = block(turn, went.next, input, out);
     }
     went
 }
 
 // The last lines, which only a listing has whose reads and writes all went well.
-fn end(went: Went, out: &mut [u8])
-    requires { ⌜ went .well ≡ true ⌝ }
+fn end(turn: &mut u64, went: Went, out: &mut [u8]) -> bool
+    requires { ⌜ Left (now turn) went × (went .on ≡ false) × (went .well ≡ true) × (enough ≤ length (now out)) ⌝ }
+    ensures { λ r. ⌜ Ends mlist (now (turn .exit)) r ⌝ }
 {
     let lister = went.next;
     let listed = lister.finish(out);
-    show(out, listed.written);
+    let n = listed.written;
+    shell::show(turn, b"mlist: standard output", &out[..n])
+}
+
+// WHAT IS HANDED OUT IS THE LISTING OF THE INPUT.
+fn whole(turn: &mut u64, input: &mut [u8], out: &mut [u8]) -> bool
+    requires { ⌜ (enough * length (now input) ≤ length (now out)) × (0 < length (now input)) × Trace (now turn) [] [] [] ⌝ }
+    ensures { λ r. ⌜ Ends mlist (now (turn .exit)) r ⌝ }
+{
+    let went = blocks(turn, input, out);
+    if went.well {
+        return end(turn, went, out);
+    }
+    false
 }
 
 fn main() {
+    let mut turn = shell::start();
     let mut input = [0u8; 4096];
     let mut out = [0u8; 163840];
-    let went = blocks(&mut input, &mut out);
-    if went.well {
-        end(went, &mut out);
-    }
+    whole(&mut turn, &mut input, &mut out);
 }

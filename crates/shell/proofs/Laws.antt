@@ -1,9 +1,10 @@
 -- How a program goes on: it begins, reads, writes and ends.
-use Prim.Native.Nat.{ℕ}
+use Prim.Native.Nat.{ℕ, suc, _<_}
 use mathlib.Core.Path.{_≡_, refl, sym, _∙_, ap, subst}
-use mathlib.Core.Bool.{Bool, true, false, true≢false}
+use mathlib.Core.Bool.{Bool, true, false, cond, true≢false}
 use mathlib.Core.Logic.{inl, inr}
 use mathlib.Core.List.{List, [], _++_, append-assoc, append-nil}
+use native.Mathlib.Omega.{arith}
 use lib.ListN.{take, drop, take-append-drop}
 use Rattle.shell.specs.Outside.{Trace, Over, Complains, Failing, Brought, Handed, Said}
 use Rattle.shell.specs.Standing.{Program, Stands, Closes, Settled, Fronts, Done, Failed, Tells, unread, unwritten, unsaid, Ends}
@@ -15,6 +16,19 @@ split n outs bytes left =
     ap (λ (l : List ℕ). outs ++ (l ++ left)) (sym (take-append-drop n bytes))
     ∙ ap (λ (l : List ℕ). outs ++ l) (append-assoc (take n bytes) (drop n bytes) left)
     ∙ sym (append-assoc outs (take n bytes) (drop n bytes ++ left))
+
+-- a read brings something only where it went well
+pub brings : (name : List ℕ) (t t′ : ℕ) (got : Got) (part : List ℕ) → Brought name t t′ got part → 0 < got .count → got .well ≡ true
+brings name t t′ got part b k = go (got .well) refl
+  where
+    go : (w : Bool) → got .well ≡ w → w ≡ true
+    go true e = refl
+    go false e = absurd (omega (arith, k, b .none e))
+
+-- a loop that goes on only where a number falls
+pub falls-off : (on : Bool) (next here : ℕ) → (on ≡ true → next < here) → cond on (suc next) 0 < suc here
+falls-off true next here h = omega (arith, h refl)
+falls-off false next here h = omega arith
 
 module _ (p : Program) where
   pub begins : (t : ℕ) → Trace t [] [] [] → Stands p t (p .writes) (p .says)

@@ -15,6 +15,10 @@ pub record Program : Type 0 where
   pub input : List ℕ
   pub output : List ℕ
 
+-- nothing, of any input
+abbrev pub silent : List ℕ → List ℕ
+silent q = []
+
 -- WHILE IT READS: of whatever is still to come, `rest` is what is still to be written, and `told` what standard error is to tell, which
 -- has nothing yet
 pub record Stands (p : Program) (t : ℕ) (rest told : List ℕ → List ℕ) : Type 0 where
