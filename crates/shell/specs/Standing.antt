@@ -3,7 +3,7 @@ use Prim.Native.Nat.{ℕ}
 use mathlib.Core.Path.{_≡_}
 use mathlib.Core.Bool.{Bool, true, false}
 use mathlib.Core.Logic.{_⊎_}
-use mathlib.Core.List.{List, [], _++_}
+use mathlib.Core.List.{List, [], _∷_, _++_}
 use lib.ListN.{take}
 use Rattle.shell.specs.Outside.{Trace, Over, Complains}
 
@@ -14,6 +14,20 @@ pub record Program : Type 0 where
   pub says : List ℕ → List ℕ
   pub input : List ℕ
   pub output : List ℕ
+
+-- ": standard ", and "input" or "output" behind it
+abbrev standard : List ℕ
+standard = 58 ∷ 32 ∷ 115 ∷ 116 ∷ 97 ∷ 110 ∷ 100 ∷ 97 ∷ 114 ∷ 100 ∷ 32 ∷ []
+
+-- the program of a name
+abbrev pub program : List ℕ → (List ℕ → List ℕ) → (List ℕ → List ℕ) → Program
+program name writes says =
+    record {
+      writes = writes;
+      says = says;
+      input = name ++ (standard ++ (105 ∷ 110 ∷ 112 ∷ 117 ∷ 116 ∷ []));
+      output = name ++ (standard ++ (111 ∷ 117 ∷ 116 ∷ 112 ∷ 117 ∷ 116 ∷ []));
+    }
 
 -- nothing, of any input
 abbrev pub silent : List ℕ → List ℕ
