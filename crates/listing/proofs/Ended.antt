@@ -98,7 +98,7 @@ pub never-passed : (s : Scanner) → Within s → passed s < mostBytes
 never-passed s h = omega arith
 
 -- QUIET: a lister that has ended writes nothing more
-none-told : (input : List ℕ) (s : Scanner) → s .ended ≡ true → told (allFound s input) ≡ []
+pub none-told : (input : List ℕ) (s : Scanner) → s .ended ≡ true → told (allFound s input) ≡ []
 unfolding allFound endOf
 none-told [] s h = let k = closed-over s h in rw (k .1, k .0)
 none-told (c ∷ cs) s h = let k = byte-over s c h in rw (k .1) (none-told cs (scannedByte s c .next) (k .0))

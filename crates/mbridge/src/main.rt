@@ -1,224 +1,298 @@
 // mbridge: a recording of any format on standard input, a recording of V on standard output, for a recorder that knows only V.
 ghost use mathlib.Core.Path.{_≡_};
-ghost use Prim.Native.Nat.{_≤_};
+ghost use mathlib.Core.Bool.{true};
+ghost use mathlib.Core.List.{List, [], _∷_, _++_};
+ghost use Prim.Native.Nat.{ℕ, _+_, _*_, _-_, _≤_, _<_};
 ghost use lib.ListN.{length};
-ghost use Rattle.text.specs.Growth.{textOf};
-ghost use Rattle.mbridge.specs.Lines.{numbered, byteLine, badLine};
+ghost use Rattle.text.specs.Growth.{slice, filledBy};
+ghost use Rattle.listing.specs.Scanning.{passed, mostBytes};
+ghost use Rattle.bridge.specs.Good.{good};
+ghost use Rattle.shell.specs.Outside.{Trace};
+ghost use Rattle.shell.specs.Standing.{Stands, Closes, Ends};
+ghost use Rattle.mbridge.specs.Lines.{numbered, byteLines};
+ghost use Rattle.mbridge.specs.Recording.{silent, bridging};
+ghost use Rattle.mbridge.specs.Blocks.{most, Puts, Takes, restOf, Midway, Stepped, Ready, Left};
 use bridge::Bridge;
-use libc::STDIN_FILENO;
-use libc::STDOUT_FILENO;
 use listing::Found;
 use listing::Lister;
-use listing::Scan;
 use listing::Scanner;
 use text::Text;
 
-// The scanner of the recording and the bridge of its format, and whether each read and write went well.
+// The places that a byte of the input needs at most: a report becomes 33 V reports of three bytes, and the line of a byte has six at most.
+const MOST: usize = 594;
+
+// The bridge, and the place behind the lines that were put.
+struct Put {
+    next: Bridge,
+    used: usize,
+}
+
+// The scanner of the recording and the bridge of its format, the bytes that are to be shown, whether more is to be read, and whether each read and
+// write went well.
 struct Went {
     scanner: Scanner,
     bridge: Bridge,
+    used: usize,
+    on: bool,
     well: bool,
 }
 
-// The first bytes, to standard output; where that fails, why, to standard error.
-fn show(out: &[u8], count: usize) -> bool
-    requires { ⌜ count ≤ length (now out) ⌝ }
+// A line of a letter and a number, to a slice at a place, and the place behind it.
+fn numbered(out: &mut [u8], at: usize, letter: u8, n: u32) -> usize
+    ensures { λ r. ⌜ slice (now (out .exit)) r ≡ filledBy (slice (now (out .entry)) at) (numbered letter n) ⌝ }
 {
-    let is_shown = io::write_all(STDOUT_FILENO, &out[..count]);
-    if !is_shown {
-        os::fail(b"mbridge: standard output");
-    }
-    is_shown
+    let tab = Text::byte_to(out, at, letter);
+    let number = Text::byte_to(out, tab, b'\t');
+    let newline = Text::decimal_to(out, number, 1, n as i64);
+    Text::byte_to(out, newline, b'\n')
 }
 
-// A line of a letter and a number.
-fn numbered(letter: u8, n: u32) -> Text
-    ensures { λ r. ⌜ r ≡ textOf (numbered letter n) ⌝ }
+// Bytes as they are.
+fn same(out: &mut [u8], at: usize, bytes: &[u8]) -> usize
+    ensures { λ r. ⌜ slice (now (out .exit)) r ≡ filledBy (slice (now (out .entry)) at) (now (bytes .entry)) ⌝ }
 {
-    Text::none()
-        .with(letter)
-        .with(b'\t')
-        .decimal(1, n as i64)
-        .with(b'\n')
-}
-
-// The line of a byte.
-fn byte_line(b: u8) -> Text
-    ensures { λ r. ⌜ r ≡ textOf (byteLine b) ⌝ }
-{
-    numbered(b'B', b as u32)
-}
-
-// A line that is bad in a recording too, with the number of the bad line.
-fn bad_line(line: u32) -> Text
-    ensures { λ r. ⌜ r ≡ textOf (badLine line) ⌝ }
-{
-    numbered(b'E', line)
-}
-
-// The lines of so many bytes, to a slice: how long they are.
-fn lines(bytes: &[u8], count: usize, out: &mut [u8]) -> usize
-    ensures { λ r. ⌜ r ≤ length (now (out .exit)) ⌝ }
-{
+    let mut end = at;
     let mut i: usize = 0;
-    let mut at: usize = 0;
-    while (i < count) & (i < bytes.len()) {
-        let text = byte_line(bytes[i]);
-        if !text.put(out, at) {
-            break;
-        }
-        at = at + text.len;
+    while i < bytes.len() {
+        end = Text::byte_to(out, end, bytes[i]);
         i = i + 1;
     }
-    at
+    end
 }
 
-// A text, to standard output.
-fn say(text: Text) -> bool {
-    let mut out = [0u8; 40];
-    if !text.put(&mut out, 0) {
-        return false;
+// The lines of bytes.
+fn lines(out: &mut [u8], at: usize, bytes: &[u8]) -> usize
+    ensures { λ r. ⌜ slice (now (out .exit)) r ≡ filledBy (slice (now (out .entry)) at) (byteLines (now (bytes .entry))) ⌝ }
+{
+    let mut end = at;
+    let mut i: usize = 0;
+    while i < bytes.len() {
+        end = numbered(out, end, b'B', bytes[i] as u32);
+        i = i + 1;
     }
-    show(&out, text.len)
+    end
 }
 
-// A word to the bridge, and the lines of its V bytes to standard output. A report becomes 33 V reports at most, and a line has six bytes at most.
-fn word(went: Went, w: u16) -> Went {
+// A word to the bridge, and the lines of its V bytes. A report becomes 33 V reports at most.
+fn word(out: &mut [u8], at: usize, bridge: Bridge, n: u32, w: u16) -> Put
+    requires { ⌜ good bridge ≡ true ⌝ }
+    ensures { λ r. ⌜ Puts bridge (Found.Word n w) (now (out .entry)) at r (now (out .exit)) ⌝ }
+{
     let words = [w];
     let mut bytes = [0u8; 99];
-    let mut out = [0u8; 594];
-    let bridge = went.bridge;
-    let scanner = went.scanner;
     let converted = bridge.convert(&words, &mut bytes);
     let next = converted.next;
-    if converted.sent == 0 {
-        return Went {
-            scanner: scanner,
-            bridge: next,
-            well: went.well,
-        };
-    }
-    let count = if converted.sent > 33 {
-        99
-    } else {
-        3 * converted.sent
-    };
-    let n = lines(&bytes, count, &mut out);
-    Went {
-        scanner: scanner,
-        bridge: next,
-        well: show(&out, n),
+    let count = 3 * converted.sent;
+    let end = lines(out, at, &bytes[..count]);
+    Put {
+        next: next,
+        used: end,
     }
 }
 
 // The bridge of a format, and the first line.
-fn format(went: Went, letter: u8) -> Went {
-    let scanner = went.scanner;
+fn format(out: &mut [u8], at: usize, bridge: Bridge, letter: u8) -> Put
+    ensures { λ r. ⌜ Puts bridge (Found.Format letter) (now (out .entry)) at r (now (out .exit)) ⌝ }
+{
     let new = Bridge::fresh(letter);
-    let bridge = new.bridge;
-    Went {
-        scanner: scanner,
-        bridge: bridge,
-        well: show(b"F\tV\n", 4),
+    let next = new.bridge;
+    let end = same(out, at, b"F\tV\n");
+    Put {
+        next: next,
+        used: end,
     }
 }
 
-// What the scanner found.
-fn found(went: Went, scan: Scan) -> Went {
-    let next = scan.next;
-    let bridge = went.bridge;
-    let here = Went {
-        scanner: next,
-        bridge: bridge,
-        well: went.well,
-    };
-    let found = scan.found;
+// What was found in the recording.
+fn found(out: &mut [u8], at: usize, bridge: Bridge, found: Found) -> Put
+    requires { ⌜ good bridge ≡ true ⌝ }
+    ensures { λ r. ⌜ Puts bridge found (now (out .entry)) at r (now (out .exit)) ⌝ }
+{
     match found {
-        Found::Nothing => here,
-        Found::Format(letter) => format(here, letter),
-        Found::Word(_, w) => word(here, w),
-        Found::Bad(n) => Went {
-            scanner: next,
-            bridge: bridge,
-            well: say(bad_line(n)),
+        Found::Nothing => Put {
+            next: bridge,
+            used: at,
         },
-        Found::Over => Went {
-            scanner: next,
-            bridge: bridge,
-            well: show(b"E\tover\n", 7),
+        Found::Format(letter) => format(out, at, bridge, letter),
+        Found::Word(n, w) => word(out, at, bridge, n, w),
+        Found::Bad(n) => {
+            let end = numbered(out, at, b'E', n);
+            Put {
+                next: bridge,
+                used: end,
+            }
         },
-        Found::End => here,
+        Found::Over => {
+            let end = same(out, at, b"E\tover\n");
+            Put {
+                next: bridge,
+                used: end,
+            }
+        },
+        Found::End => Put {
+            next: bridge,
+            used: at,
+        },
+    }
+}
+
+// A byte of the input, and the lines of what is found at it.
+fn taken(out: &mut [u8], at: usize, scanner: Scanner, bridge: Bridge, b: u8) -> Went
+    requires { ⌜ good bridge ≡ true ⌝ }
+    ensures { λ r. ⌜ Takes scanner bridge b (now (out .entry)) at r (now (out .exit)) ⌝ }
+{
+    let scan = scanner.byte(b);
+    let next = scan.next;
+    let at_it = scan.found;
+    let put = found(out, at, bridge, at_it);
+    let after = put.next;
+    Went {
+        scanner: next,
+        bridge: after,
+        used: put.used,
+        on: !next.ended,
+        well: true,
+    }
+}
+
+// The same, where it has room: what has been put is shown before a byte that might have none.
+fn byte(turn: &mut u64, out: &mut [u8], went: Went, b: u8) -> Went
+    requires { ⌜ (good (went .bridge) ≡ true) × (went .used ≤ length (now out)) × (most ≤ length (now out)) × (went .on ≡ true) ⌝ }
+    ensures { λ r. ⌜ ((left : List ℕ) → Midway (now (turn .entry)) went (now (out .entry)) (b ∷ left) → Stepped (went .scanner) (now (turn .exit)) r (now (out .exit)) left) ⌝ }
+{
+    let scanner = went.scanner;
+    let bridge = went.bridge;
+    let used = went.used;
+    if out.len() - used >= MOST {
+        return taken(out, used, scanner, bridge, b);
+    }
+    if shell::show(turn, b"mbridge: standard output", &out[..used]) {
+        return taken(out, 0, scanner, bridge, b);
+    }
+    Went {
+        scanner: scanner,
+        bridge: bridge,
+        used: 0,
+        on: false,
+        well: false,
+    }
+}
+
+// What is left to be shown at the end of a block.
+fn shown(turn: &mut u64, out: &[u8], went: Went) -> Went
+    requires { ⌜ Midway (now turn) went (now out) [] ⌝ }
+    ensures { λ r. ⌜ Left (now (turn .exit)) r × (r .scanner ≡ went .scanner) × (r .on ≡ true → went .on ≡ true) ⌝ }
+{
+    if !went.well {
+        return went;
+    }
+    let scanner = went.scanner;
+    let bridge = went.bridge;
+    let used = went.used;
+    let is_shown = shell::show(turn, b"mbridge: standard output", &out[..used]);
+    Went {
+        scanner: scanner,
+        bridge: bridge,
+        used: 0,
+        on: is_shown & went.on,
+        well: is_shown,
     }
 }
 
 // The bytes of a block, one by one, until a write fails or the recording has ended.
-fn bytes(went: Went, input: &[u8]) -> Went {
-    let mut here = went;
+fn bytes(turn: &mut u64, out: &mut [u8], scanner: Scanner, bridge: Bridge, input: &[u8]) -> Went
+    requires { ⌜ Ready scanner bridge × (0 < length (now input)) × (most ≤ length (now out)) ⌝ }
+    requires { ⌜ Stands bridging (now turn) (λ q. restOf scanner bridge (now input ++ q)) silent ⌝ }
+    ensures { λ r. ⌜ Left (now (turn .exit)) r ⌝ }
+    ensures { λ r. ⌜ (r .on ≡ true → mostBytes - passed (r .scanner) < mostBytes - passed scanner) ⌝ }
+{
+    let mut here = Went {
+        scanner: scanner,
+        bridge: bridge,
+        used: 0,
+        on: true,
+        well: true,
+    };
     let mut i: usize = 0;
-    while i < input.len() {
-        let scanner = here.scanner;
-        if scanner.ended | !here.well {
-            return here;
-        }
-        here = found(here, scanner.byte(input[i]));
+    while (i < input.len()) & here.on {
+        here = byte(turn, out, here, input[i]);
         i = i + 1;
     }
-    here
+    shown(turn, out, here)
 }
 
-// Whether a read went well; where it failed, why, to standard error.
-fn is_read(got: isize) -> bool {
-    if got < 0 {
-        os::fail(b"mbridge: standard input");
+// The last line, which may lack its newline, and the end.
+fn last(turn: &mut u64, out: &mut [u8], scanner: Scanner, bridge: Bridge) -> bool
+    requires { ⌜ (good bridge ≡ true) × (2 * most ≤ length (now out)) × Closes bridging (now turn) (restOf scanner bridge []) [] ⌝ }
+    ensures { λ r. ⌜ Ends bridging (now (turn .exit)) r ⌝ }
+{
+    let closed = scanner.closed();
+    let next = closed.next;
+    let on_it = closed.found;
+    let put = found(out, 0, bridge, on_it);
+    let end = next.end();
+    let at_end = end.found;
+    let all = found(out, put.used, put.next, at_end);
+    let used = all.used;
+    shell::show(turn, b"mbridge: standard output", &out[..used])
+}
+
+// A block of the input: what a read brought, and where it brought nothing the input is over or cannot be read.
+fn block(turn: &mut u64, input: &mut [u8], out: &mut [u8], scanner: Scanner, bridge: Bridge) -> Went
+    requires { ⌜ Ready scanner bridge × (0 < length (now input)) × (2 * most ≤ length (now out)) ⌝ }
+    requires { ⌜ Stands bridging (now turn) (restOf scanner bridge) silent ⌝ }
+    ensures { λ r. ⌜ Left (now (turn .exit)) r ⌝ }
+    ensures { λ r. ⌜ (r .on ≡ true → mostBytes - passed (r .scanner) < mostBytes - passed scanner) ⌝ }
+{
+    let got = shell::more(turn, b"mbridge: standard input", input);
+    let n = got.count;
+    if n > 0 {
+        return bytes(turn, out, scanner, bridge, &input[..n]);
     }
-    got >= 0
+    if got.well {
+        let is_shown = last(turn, out, scanner, bridge);
+        return Went {
+            scanner: scanner,
+            bridge: bridge,
+            used: 0,
+            on: false,
+            well: is_shown,
+        };
+    }
+    Went {
+        scanner: scanner,
+        bridge: bridge,
+        used: 0,
+        on: false,
+        well: false,
+    }
 }
 
-// The blocks of the input, until it is over, a read or a write fails, or the recording has ended. Each brings a byte or more, and a recording has fewer
-// bytes than there are turns.
-fn blocks() -> Went {
+// The blocks, one after the other, until the input is over, a read or a write fails, or the recording has ended: WHAT IS HANDED OUT IS THE RECORDING OF V.
+fn whole(turn: &mut u64, input: &mut [u8], out: &mut [u8]) -> bool
+    requires { ⌜ Trace (now turn) [] [] [] × (0 < length (now input)) × (2 * most ≤ length (now out)) ⌝ }
+    ensures { λ r. ⌜ Ends bridging (now (turn .exit)) r ⌝ }
+{
     let lister = Lister::fresh();
     let scanner = lister.scanner;
     let new = Bridge::fresh(b'U');
     let bridge = new.bridge;
-    let mut here = Went {
+    let mut went = Went {
         scanner: scanner,
         bridge: bridge,
+        used: 0,
+        on: true,
         well: true,
     };
-    let mut input = [0u8; 4096];
-    let mut left: usize = 8000000;
-    while left > 0 {
-        let got = libc::read(STDIN_FILENO, &mut input);
-        let n = io::count(got, &input);
-        if n == 0 {
-            let last = here.scanner;
-            let bridge = here.bridge;
-            return Went {
-                scanner: last,
-                bridge: bridge,
-                well: is_read(got),
-            };
-        }
-        here = bytes(here, &input[..n]);
-        let now = here.scanner;
-        if now.ended | !here.well {
-            return here;
-        }
-        left = left - 1;
+    while went.on {
+        went = block(turn, input, out, went.scanner, went.bridge);
     }
-    here
+    went.well
 }
 
-// The last line, which may lack its newline, and the end.
 fn main() {
-    let went = blocks();
-    if went.well {
-        let scanner = went.scanner;
-        let closed = found(went, scanner.closed());
-        let last = closed.scanner;
-        if closed.well {
-            found(closed, last.end());
-        }
-    }
+    let mut turn = shell::start();
+    let mut input = [0u8; 4096];
+    let mut out = [0u8; 16384];
+    whole(&mut turn, &mut input, &mut out);
 }

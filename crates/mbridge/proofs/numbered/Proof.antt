@@ -1,49 +1,33 @@
--- `numbered`: a letter, a tab and a decimal.
+-- `numbered`: a letter, a tab, a decimal and a newline, one behind the other.
 use borrow.Author.Needs.{needs}
 use native.Mathlib.Omega.{arith}
-use mathlib.Core.Path.{_∙_}
+use mathlib.Core.Path.{_≡_, _∙_, ap}
 use mathlib.Core.List.{[], _∷_}
-use lib.IntN.{pos}
+use lib.IntN.{ℤ, pos}
 use mir.Syntax.{w64}
 use mir.Facts.{toZ-pos}
-use Rattle.text.specs.Growth.{grown, none}
+use Rattle.text.specs.Growth.{slice, filled, filledBy}
 use Rattle.text.specs.Decimals.{plain, decimalOf}
-use Rattle.text.proofs.Laws.{both}
+use Rattle.text.specs.declared.Text.{Text}
+use Rattle.text.proofs.Filled.{both-filled}
 use Rattle.mbridge.proofs.numbered.Statement.{statement}
 use Rattle.mbridge.proofs.numbered.Tie as tie
 
-none-requires : tie.Need-none-requires
-none-requires c κs = search needs
-
-with-requires : tie.Need-with-requires
-with-requires c κs = search needs
-
-with-requires-2 : tie.Need-with-requires-2
-with-requires-2 c κs = search needs
-
-cast-decimal : tie.Need-cast-decimal
-cast-decimal c = search needs
-
-decimal-requires : tie.Need-decimal-requires
-decimal-requires c κs = search needs
-
-with-requires-3 : tie.Need-with-requires-3
-with-requires-3 c κs = search needs
-
 returns : tie.Need-returns
-returns c = let n = c .before .before .before .before .before .args .n in
-    c .with3 .ensures
-    ∙ rw (c .before .decimal .ensures, c .before .before .with2 .ensures, c .before .before .before .with .ensures, c .before .before .before .before .none .ensures, toZ-pos w64 {n = n} (omega arith))
-    (both (grown (grown none (c .before .before .before .before .before .args .letter)) 9) (decimalOf plain (pos n)) (10 ∷ []))
+returns c =
+    let s = c .before .before .before .before .before .before .before .before .before .before .before .before .before .before .before .before .before in
+    let n = s .args .n in
+    let letter = c .before .before .before .before .before .before .before .before .before .before .before .before .before .before .byte-to in
+    let tab = c .before .before .before .before .before .before .before .before .before .before .byte-to2 in
+    let number = c .before .before .before .before .before .before .decimal-to in
+    let t = filled (filled (slice (s .args .out .now) (s .args .at)) (s .args .letter)) 9 in
+    let first : slice (tab .last .0) (tab .result) ≡ t = tab .ensures ∙ ap (λ (u : Text). filled u 9) (letter .ensures) in
+    let next : slice (number .last .0) (number .result) ≡ filledBy t (decimalOf plain (pos n)) =
+    number .ensures
+    ∙ ap (λ (x : ℤ). filledBy (slice (tab .last .0) (tab .result)) (decimalOf plain x)) (toZ-pos w64 {n = n} (omega arith))
+    ∙ ap (λ (u : Text). filledBy u (decimalOf plain (pos n))) first in
+    c .before .before .byte-to3 .ensures ∙ ap (λ (u : Text). filled u 10) next ∙ both-filled t (decimalOf plain (pos n)) (10 ∷ [])
 
 pub numbered-spec : {M : Type 1} → statement M
 numbered-spec =
-    tie.close
-    (tie.spec
-    none-requires
-    with-requires
-    with-requires-2
-    cast-decimal
-    decimal-requires
-    with-requires-3
-    returns)
+    tie.close (tie.spec (λ c κs. search needs) (λ c κs. search needs) (λ c. search needs) (λ c κs. search needs) (λ c κs. search needs) (λ c. search needs) returns)
