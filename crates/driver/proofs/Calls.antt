@@ -59,7 +59,7 @@ module _ (m : Driver) (input before after : List ℕ) (a : Driven) (h : Kept m) 
   next-kept = rw (call-next f before after a feeds) (piece-goes input [] m (length before) b h .0)
 
   -- what it wrote, and what comes behind the bytes that it took
-  call-goes : (rest : List ℕ) → allOf m (take (a .taken) input ++ rest) ≡ take (a .written) after ++ allOf (a .next) rest
+  pub call-goes : (rest : List ℕ) → allOf m (take (a .taken) input ++ rest) ≡ take (a .written) after ++ allOf (a .next) rest
   call-goes rest = rw (call-text f before after a feeds, call-next f before after a feeds, call-taken f before after a feeds) (piece-goes input rest m (length before) b h .1)
 
   -- with so many places it takes a byte, or a slot that was owed, where there is one
@@ -77,7 +77,7 @@ module _ (m : Driver) (before after : List ℕ) (a : Driven) (h : Kept m) (p : F
   pub last-kept : Kept (a .next)
   last-kept = rw (call-next l before after a finishes) (end-goes m (length before) h .0)
 
-  last-goes : allOf m [] ≡ take (a .written) after ++ allOf (a .next) []
+  pub last-goes : allOf m [] ≡ take (a .written) after ++ allOf (a .next) []
   last-goes = rw (call-text l before after a finishes, call-next l before after a finishes) (end-goes m (length before) h .1)
 
   -- with so many places it has ended, or has less to do

@@ -1,36 +1,38 @@
--- What a block of the input leaves.
-use Prim.Native.Nat.{ℕ, _+_, _≤_}
+-- What the program is to write, and where it stands between blocks.
+use Prim.Native.Nat.{ℕ}
 use mathlib.Core.Path.{_≡_}
-use mathlib.Core.Bool.{Bool, true, false, not, _&&_}
-use mathlib.Core.List.{List}
+use mathlib.Core.Bool.{Bool, true, false}
 use mathlib.Core.Logic.{_⊎_}
-use lib.ListN.{length, take, drop}
-use Rattle.ballbox.specs.Box.{Bytes}
-use Rattle.driver.specs.Promises.{FeedPromise}
-use Rattle.driver.specs.declared.Driver.{Driver}
-use Rattle.driver.specs.declared.Driven.{Driven}
+use mathlib.Core.List.{List, [], _∷_, _++_}
+use Rattle.shell.specs.Outside.{Over}
+use Rattle.shell.specs.Standing.{Program, Stands, Failed}
+use Rattle.driver.specs.Driving.{recordingOf}
+use Rattle.driver.proofs.Kept.{Kept}
+use Rattle.driver.proofs.Whole.{allOf}
+use Rattle.mbox.specs.declared.Went.{Went}
 
--- a driver was fed what was left of the bytes, with the slice as the call before had left it, and so on: the driver then, the bytes taken, and the slice
-pub data Calls (m : Driver) (bytes before : List ℕ) : Driver → ℕ → List ℕ → Type 0 where
-  none : Calls m bytes before m 0 before
-  more : {here : Driver} {at : ℕ} {out : List ℕ} → Calls m bytes before here at out → (answer : Driven) (after : List ℕ) → FeedPromise here (drop at bytes) out answer after
-      → Calls m bytes before (answer .next) (at + answer .taken) after
+-- "mbox: standard ", and "input" or "output" behind it
+abbrev standard : List ℕ
+standard = 0x6D ∷ 0x62 ∷ 0x6F ∷ 0x78 ∷ 0x3A ∷ 0x20 ∷ 0x73 ∷ 0x74 ∷ 0x61 ∷ 0x6E ∷ 0x64 ∷ 0x61 ∷ 0x72 ∷ 0x64 ∷ 0x20 ∷ []
 
--- bytes were fed to a driver, and if all went well they were taken to the last and no slot is owed; more is to be read if it has not ended besides
-pub record Fed (m : Driver) (bytes before after : List ℕ) (next : Driver) (on well : Bool) : Type 0 where
-  pub are-bytes : Bytes bytes
-  pub taken : ℕ
-  pub calls : Calls m bytes before next taken after
-  pub whole : well ≡ true → (taken ≡ length bytes) × (next .owed ≡ 0)
-  pub going : on ≡ (well && not (next .ended))
+-- the recording of a whole script, and nothing on standard error
+abbrev pub box : Program
+box =
+    record {
+      writes = recordingOf;
+      says = λ _. [];
+      input = standard ++ (0x69 ∷ 0x6E ∷ 0x70 ∷ 0x75 ∷ 0x74 ∷ []);
+      output = standard ++ (0x6F ∷ 0x75 ∷ 0x74 ∷ 0x70 ∷ 0x75 ∷ 0x74 ∷ []);
+    }
 
--- it was fed the first bytes of the buffer, one or more
-pub record FedFront (m : Driver) (input before after : List ℕ) (next : Driver) (on well : Bool) : Type 0 where
-  pub count : ℕ
-  pub some : 1 ≤ count
-  pub there : count ≤ length input
-  pub fed : Fed m (take count input) before after next on well
+-- the program reads on, and of whatever follows these bytes are still to be written
+abbrev pub On : ℕ → (List ℕ → List ℕ) → Type 0
+On t rest = Stands box t rest (λ _. [])
 
--- or nothing was read, and nothing more is to be read
-abbrev pub Leaves : Driver → List ℕ → List ℕ → List ℕ → Driver → Bool → Bool → Type 0
-Leaves m input before after next on well = ((next ≡ m) × (on ≡ false)) ⊎ FedFront m input before after next on well
+-- of whatever follows, the driver writes what is still to be written; where no more is to be read, the input is over or the recording has ended
+pub record Left (t : ℕ) (w : Went) : Type 0 where
+  pub kept : Kept (w .next)
+  pub stands : w .well ≡ true → On t (allOf (w .next))
+  pub failed : w .well ≡ false → Failed box t
+  pub going : w .on ≡ true → w .well ≡ true
+  pub stops : w .on ≡ false → w .well ≡ true → Over t ⊎ (w .next .ended ≡ true)

@@ -1,14 +1,17 @@
 // mbox: a box to try. Events on standard input, the recording of what the box puts on the line on standard output.
 ghost use mathlib.Core.Path.{_≡_};
-ghost use mathlib.Core.Bool.{true};
-ghost use Prim.Native.Nat.{_≤_};
+ghost use mathlib.Core.Bool.{true, false};
+ghost use mathlib.Core.List.{[], _++_};
+ghost use Prim.Native.Nat.{_-_, _≤_, _<_};
 ghost use lib.ListN.{length};
+ghost use Rattle.shell.specs.Outside.{Trace};
+ghost use Rattle.shell.specs.Standing.{Ends};
 ghost use Rattle.driver.specs.Promises.{enough};
 ghost use Rattle.driver.proofs.Kept.{Kept};
-ghost use Rattle.mbox.specs.Blocks.{Fed, Leaves};
+ghost use Rattle.driver.proofs.Whole.{allOf};
+ghost use Rattle.driver.proofs.Nearer.{passed, mostBytes};
+ghost use Rattle.mbox.specs.Blocks.{box, On, Left};
 use driver::Driver;
-use libc::STDIN_FILENO;
-use libc::STDOUT_FILENO;
 
 // Where the events stand: the driver, whether more is to be read, and whether each read and write went well.
 struct Went {
@@ -17,30 +20,21 @@ struct Went {
     well: bool,
 }
 
-// The first bytes, to standard output; where that fails, why, to standard error.
-fn show(out: &[u8], count: usize) -> bool
-    requires { ⌜ count ≤ length (now out) ⌝ }
-{
-    let is_shown = io::write_all(STDOUT_FILENO, &out[..count]);
-    if !is_shown {
-        os::fail(b"mbox: standard output");
-    }
-    is_shown
-}
-
 // Bytes of the input, and their recording to standard output: a call may stop for room, and is followed by another until all of them are taken and no slot is
 // owed. With nine places each takes a byte or a slot.
-fn drive(driver: Driver, bytes: &[u8], out: &mut [u8]) -> Went
-    requires { ⌜ Kept driver ⌝ }
-    requires { ⌜ enough ≤ length (now out) ⌝ }
-    ensures { λ r. ⌜ Fed driver (now (bytes .entry)) (now (out .entry)) (now (out .exit)) (r .next) (r .on) (r .well) ⌝ }
+fn drive(turn: &mut u64, driver: Driver, bytes: &[u8], out: &mut [u8]) -> Went
+    requires { ⌜ Kept driver × (enough ≤ length (now out)) × (0 < length (now bytes)) ⌝ }
+    requires { ⌜ On (now turn) (λ q. allOf driver (now bytes ++ q)) ⌝ }
+    ensures { λ r. ⌜ Left (now (turn .exit)) r ⌝ }
+    ensures { λ r. ⌜ (r .on ≡ true → mostBytes - passed (r .next) < mostBytes - passed driver) ⌝ }
 {
     let mut here = driver;
     let mut at: usize = 0;
     let mut well = true;
     while well & ((at < bytes.len()) | (here.owed != 0)) {
         let driven = here.feed(&bytes[at..], out);
-        well = show(out, driven.written);
+        let n = driven.written;
+        well = shell::show(turn, b"mbox: standard output", &out[..n]);
         at = at + driven.taken;
         here = driven.next;
     }
@@ -51,36 +45,30 @@ fn drive(driver: Driver, bytes: &[u8], out: &mut [u8]) -> Went
     }
 }
 
-// Whether a read went well; where it failed, why, to standard error.
-fn is_read(got: isize) -> bool {
-    if got < 0 {
-        os::fail(b"mbox: standard input");
-    }
-    got >= 0
-}
-
 // A block of the input: what a read brought is fed, and where it brought nothing the input is over or cannot be read.
-fn block(driver: Driver, input: &mut [u8], out: &mut [u8]) -> Went
-    requires { ⌜ Kept driver ⌝ }
-    requires { ⌜ enough ≤ length (now out) ⌝ }
-    ensures { λ r. ⌜ Leaves driver (now (input .exit)) (now (out .entry)) (now (out .exit)) (r .next) (r .on) (r .well) ⌝ }
+fn block(turn: &mut u64, driver: Driver, input: &mut [u8], out: &mut [u8]) -> Went
+    requires { ⌜ Kept driver × (enough ≤ length (now out)) × (0 < length (now input)) ⌝ }
+    requires { ⌜ On (now turn) (allOf driver) ⌝ }
+    ensures { λ r. ⌜ Left (now (turn .exit)) r ⌝ }
+    ensures { λ r. ⌜ (r .on ≡ true → mostBytes - passed (r .next) < mostBytes - passed driver) ⌝ }
 {
-    let got = libc::read(STDIN_FILENO, input);
-    let n = io::count(got, input);
+    let got = shell::more(turn, b"mbox: standard input", input);
+    let n = got.count;
     if n == 0 {
         return Went {
             next: driver,
             on: false,
-            well: is_read(got),
+            well: got.well,
         };
     }
-    drive(driver, &input[..n], out)
+    drive(turn, driver, &input[..n], out)
 }
 
 // The blocks, one after the other, until the input is over or the recording has ended: nothing is read after its end.
-fn blocks(input: &mut [u8], out: &mut [u8]) -> Went
-    requires { ⌜ enough ≤ length (now out) ⌝ }
-    ensures { λ r. ⌜ Kept (r .next) ⌝ }
+fn blocks(turn: &mut u64, input: &mut [u8], out: &mut [u8]) -> Went
+    requires { ⌜ Trace (now turn) [] [] [] ⌝ }
+    requires { ⌜ (enough ≤ length (now out)) × (0 < length (now input)) ⌝ }
+    ensures { λ r. ⌜ Left (now (turn .exit)) r × (r .on ≡ false) ⌝ }
 {
     let mut went = Went {
         next: Driver::fresh(),
@@ -88,31 +76,43 @@ fn blocks(input: &mut [u8], out: &mut [u8]) -> Went
         well: true,
     };
     while went.on {
-        went = block(went.next, input, out);
+        went = block(turn, went.next, input, out);
     }
     went
 }
 
 // The end of the input, which only a recording has whose reads and writes all went well; its lines too may stop for room.
-fn end(went: Went, out: &mut [u8])
-    requires { ⌜ went .well ≡ true ⌝ }
-    requires { ⌜ Kept (went .next) ⌝ }
-    requires { ⌜ enough ≤ length (now out) ⌝ }
+fn end(turn: &mut u64, went: Went, out: &mut [u8]) -> bool
+    requires { ⌜ Left (now turn) went × (went .on ≡ false) × (went .well ≡ true) × (enough ≤ length (now out)) ⌝ }
+    ensures { λ r. ⌜ Ends box (now (turn .exit)) r ⌝ }
 {
     let mut here = went.next;
     let mut well = true;
     while well & !here.ended {
         let driven = here.finish(out);
-        well = show(out, driven.written);
+        let n = driven.written;
+        well = shell::show(turn, b"mbox: standard output", &out[..n]);
         here = driven.next;
     }
+    well
+}
+
+// All of it: WHAT IS HANDED OUT IS THE RECORDING OF THE SCRIPT.
+fn whole(turn: &mut u64, input: &mut [u8], out: &mut [u8]) -> bool
+    requires { ⌜ Trace (now turn) [] [] [] ⌝ }
+    requires { ⌜ (enough ≤ length (now out)) × (0 < length (now input)) ⌝ }
+    ensures { λ r. ⌜ Ends box (now (turn .exit)) r ⌝ }
+{
+    let went = blocks(turn, input, out);
+    if went.well {
+        return end(turn, went, out);
+    }
+    false
 }
 
 fn main() {
+    let mut turn = shell::start();
     let mut input = [0u8; 4096];
     let mut out = [0u8; 65536];
-    let went = blocks(&mut input, &mut out);
-    if went.well {
-        end(went, &mut out);
-    }
+    whole(&mut turn, &mut input, &mut out);
 }

@@ -1,59 +1,31 @@
 -- What was read is fed.
 use borrow.Author.Needs.{needs}
-use mathlib.Core.Path.{refl}
-use mathlib.Core.Logic.{inl, inr}
 use native.Mathlib.Omega.{arith}
+use mathlib.Core.Path.{_≡_, sym}
+use mathlib.Core.Bool.{true≢false}
+use lib.ListN.{length}
+use lib.Seq.{length-take-le}
+use Rattle.mbox.proofs.Turns.{over, behind, brought}
 use Rattle.mbox.proofs.block.Statement.{statement}
 use Rattle.mbox.proofs.block.Tie as tie
 
-read-requires : tie.Need-read-requires
-read-requires c κs = search needs
-
-count-requires : tie.Need-count-requires
-count-requires c κs = search needs
-
-is-read-requires : tie.Need-is-read-requires
-is-read-requires c κs = search needs
-
-same-length : tie.Need-same-length
-same-length c = search needs
-
 returns : tie.Need-returns
-returns c = inl (refl, refl)
-
-slice-reshare-prefix-drive : tie.Need-slice-reshare-prefix-drive
-slice-reshare-prefix-drive c = search needs
+returns c =
+    let s = c .before .before .before .before .before .before .before .before .before in
+    let m = c .before .before .before .more in
+    let same : length (m .last .1 .1 .0) ≡ length (s .args .input .now) = search needs in
+    (over (s .pre .0 .0) (s .pre .1) (m .ensures .1) (omega (arith, same, s .pre .0 .2)) (omega arith), λ y. absurd (true≢false (sym y)))
 
 slice-aggregate-drive : tie.Need-slice-aggregate-drive
-slice-aggregate-drive c = search needs
+slice-aggregate-drive c = let m = c .before .before .before .before .before .more in sym (length-take-le (m .result .count) (m .last .1 .1 .0) (m .ensures .0))
 
 drive-requires : tie.Need-drive-requires
-drive-requires c κs = search needs
-
-same-length-2 : tie.Need-same-length-2
-same-length-2 c = search needs
-
-same-length-3 : tie.Need-same-length-3
-same-length-3 c = search needs
-
-returns-2 : tie.Need-returns-2
-returns-2 c =
-    let n = c .before .before .before .before .before .before .count .ensures .0 in
-    let some = c .before .before .before .before .before .if1 .left in
-    inr (record { count = c .before .before .before .before .before .before .count .result; some = omega (arith, some); there = n .0; fed = c .before .before .drive .ensures })
+drive-requires c κs =
+    let s = c .before .before .before .before .before .before .before .before .before .before .before .before in
+    let m = c .before .before .before .before .before .before .more in
+    let some = c .before .before .before .if1 .left in
+    let long = length-take-le (m .result .count) (m .last .1 .1 .0) (m .ensures .0) in
+    ((s .pre .0 .0, s .pre .0 .1, omega (arith, long, some)), behind (s .pre .0 .0) (s .pre .1) (m .ensures .1) (brought (s .pre .0 .0) (s .pre .1) (m .ensures .1) (λ e. omega (arith, some, e))))
 
 pub block-spec : {M : Type 1} → statement M
-block-spec =
-    tie.close
-    (tie.spec
-    read-requires
-    count-requires
-    is-read-requires
-    same-length
-    returns
-    slice-reshare-prefix-drive
-    slice-aggregate-drive
-    drive-requires
-    same-length-2
-    same-length-3
-    returns-2)
+block-spec = tie.close (tie.spec (λ c. search needs) (λ c κs. search needs) (λ c. search needs) returns (λ c. search needs) slice-aggregate-drive drive-requires (λ c. search needs) (λ c. search needs) (λ c. search needs))
