@@ -10,6 +10,7 @@ pub mod Cuts
 pub mod Goodness
 pub mod Grammar
 pub mod Loop
+pub mod Onward
 pub mod Refusals
 pub mod Rewrites
 pub mod SameItems
