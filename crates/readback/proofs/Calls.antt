@@ -143,7 +143,7 @@ refused-here r l ls e = rw e
 no-newline : (r : Readback) (l : List ℕ) → 0 < length l → lengthTo newline l ≡ length l → readingFrom r (cutIn l) ≡ reading (r .salvage) [] (r .lines + 1)
 no-newline r l some none = ap (readingFrom r) (cut-none l some none) ∙ refused-here r l [] (rw (not-whole l some none))
 
-finish-says : (r : Readback) (left : List ℕ) (a : Back) → good r ≡ true → lengthTo newline left ≡ length left → FinishPromise r (length left) a
+pub finish-says : (r : Readback) (left : List ℕ) (a : Back) → good r ≡ true → lengthTo newline left ≡ length left → FinishPromise r (length left) a
     → readingFrom r (cutIn left) ≡ reading (r .salvage) [] (a .line)
 unfolding readingFrom cutIn
 finish-says r [] a g n p = ap (reading (r .salvage) []) (sym (finish-line r 0 a g p ∙ ap (λ (t : Bool). cond t 0 (r .lines + 1)) (and-yes (r .ended))))
@@ -230,7 +230,7 @@ module _ (r : Readback) (g : good r ≡ true) (d q : List ℕ) (room : ℕ) (no 
 
 -- A FAULT IS TOLD AT ITS LINE, whatever follows: the items before it are handed out, and nothing behind it
 module _ (r : Readback) (piece : List ℕ) (out after : List ℤ) (a : Back) (g : good r ≡ true) (p : ReadPromise r piece out a after) (no : a .refusal ≡ faultyLine) where
-  fault-says : (q : List ℕ) → readingFrom r (cutIn (piece ++ q)) ≡ reading (a .next .salvage) (itemsAmong (run reads r (linesOf piece) (length out) .answers)) (a .line)
+  pub fault-says : (q : List ℕ) → readingFrom r (cutIn (piece ++ q)) ≡ reading (a .next .salvage) (itemsAmong (run reads r (linesOf piece) (length out) .answers)) (a .line)
   fault-says q =
       let f = run reads r (linesOf piece) (length out) in
       let t = length (bytesIn (take (length (f .answers)) (linesOf piece))) in

@@ -12,7 +12,7 @@ use borrow.Author.Tests.{ltb-true, ltb-false, leb-true, leb-false, eqb-true, eqb
 use Rattle.numbers.proofs.Choices.{cases}
 use Rattle.numbers.proofs.Tested.{left, right}
 use Rattle.fold.specs.Fold.{MachineOver, Ran, behind, written, places, takes, run}
-use Rattle.fold.proofs.Laws.{join, up-to, within, over-taken, stays}
+use Rattle.fold.proofs.Laws.{join, up-to, within, over-taken, stays, stops}
 use Rattle.wire.specs.Numbers.{success}
 use Rattle.listing.specs.Lines.{newline, lengthTo, front}
 use Rattle.listing.specs.declared.Given.{Given}
@@ -237,27 +237,43 @@ module _ {A X : Type 0} (m : MachineOver (List ℕ) Readback A X) (follows : Fol
     pub later-good : good (f .next) ≡ true
     later-good = stays m (λ (r : Readback). good r ≡ true) leaves-good (linesOf piece) r room g
 
-    lines-both : linesOf piece ≡ ws ++ linesOf d
-    lines-both = ap linesOf (sym (append-nil piece)) ∙ ap linesOf (front-and-rest []) ∙ ap (λ (l : List ℕ). linesOf (bytesIn ws ++ l)) (append-nil d) ∙ lines-wholes ws d wholes
+    pub lines-both : (q : List ℕ) → linesOf (piece ++ q) ≡ ws ++ linesOf (d ++ q)
+    lines-both q = ap linesOf (front-and-rest q) ∙ lines-wholes ws (d ++ q) wholes
 
-    taken-long : length (f .answers) ≡ length ws
+    lines-here : linesOf piece ≡ ws ++ linesOf d
+    lines-here = ap linesOf (sym (append-nil piece)) ∙ lines-both [] ∙ ap (λ (l : List ℕ). ws ++ linesOf l) (append-nil d)
+
+    pub taken-long : length (f .answers) ≡ length ws
     taken-long = sym (length-take-le (length (f .answers)) (linesOf piece) (within m (linesOf piece) r room .0))
 
-    joins : f ≡ behind (f .answers) later
-    joins =
+    -- a run over a piece and more is the run over the piece, and then over what it left and more
+    pub joins : (q : List ℕ) → run m r (linesOf (piece ++ q)) room ≡ behind (f .answers) (run m (f .next) (linesOf (d ++ q)) room-left)
+    joins q =
         let all = up-to m (linesOf piece) r room in
-        let j = join m (linesOf d) ws r room (ap (λ (f : Ran Readback A). length (f .answers)) all ∙ taken-long) in
-        ap (λ (ls : List (List ℕ)). run m r ls room) lines-both ∙ j ∙ rw all
+        let j = join m (linesOf (d ++ q)) ws r room (ap (λ (f : Ran Readback A). length (f .answers)) all ∙ taken-long) in
+        ap (λ (ls : List (List ℕ)). run m r ls room) (lines-both q) ∙ j ∙ rw all
+
+    joins-here : f ≡ behind (f .answers) later
+    joins-here =
+        ap (λ (l : List ℕ). run m r (linesOf l) room) (sym (append-nil piece)) ∙ joins []
+        ∙ ap (λ (l : List ℕ). behind (f .answers) (run m (f .next) (linesOf l) room-left)) (append-nil d)
 
     none-later : length (later .answers) ≡ 0
-    none-later = omega (arith, ap (λ (k : Ran Readback A). length (k .answers)) joins, length-append (f .answers) (later .answers))
+    none-later = omega (arith, ap (λ (k : Ran Readback A). length (k .answers)) joins-here, length-append (f .answers) (later .answers))
 
     same-refusal : later .refusal ≡ f .refusal
-    same-refusal = sym (ap (λ (k : Ran Readback A). k .refusal) joins)
+    same-refusal = sym (ap (λ (k : Ran Readback A). k .refusal) joins-here)
 
     -- where it is refused, the first line of what is left is, whatever follows
     pub refused : (f .refusal ≡ 0 → ⊥) → (q : List ℕ) → Refused m (f .next) (d ++ q) (f .refusal)
     refused some q = first-refused (f .next) later-good d q room-left (f .refusal) same-refusal some none-later
+
+    -- and where the first line of what is left is one that it refuses, it is refused
+    pub refuses : (l : List ℕ) (ls : List (List ℕ)) → linesOf d ≡ l ∷ ls → (m .refusal (f .next) l ≡ 0 → ⊥) → f .refusal ≡ m .refusal (f .next) l
+    unfolding run
+    refuses l ls e some =
+        let here : run m (f .next) (l ∷ ls) room-left .refusal ≡ m .refusal (f .next) l = rw (stops m (f .next) l room-left (λ z. absurd (some z))) in
+        sym same-refusal ∙ ap (λ (k : List (List ℕ)). run m (f .next) k room-left .refusal) e ∙ here
 
     more-lines : f .next .lines ≡ r .lines + length (f .answers)
     more-lines =
@@ -282,8 +298,8 @@ module _ {A X : Type 0} (m : MachineOver (List ℕ) Readback A X) (follows : Fol
           go [] e = e
           go (l ∷ ls) e =
               let small = no-room (f .next) l ls room-left (ap (λ (k : List (List ℕ)). run m (f .next) k room-left .refusal) (sym e) ∙ same-refusal ∙ fine)
-                  (ap (λ (k : List (List ℕ)). length (run m (f .next) k room-left .answers)) (sym e) ∙ none-later) in
-              let one : length (linesOf piece) ≡ length ws + suc (length ls) = ap length lines-both ∙ length-append ws (linesOf d) ∙ ap (λ (k : List (List ℕ)). length ws + length k) e in
+              (ap (λ (k : List (List ℕ)). length (run m (f .next) k room-left .answers)) (sym e) ∙ none-later) in
+              let one : length (linesOf piece) ≡ length ws + suc (length ls) = ap length lines-here ∙ length-append ws (linesOf d) ∙ ap (λ (k : List (List ℕ)). length ws + length k) e in
               let all : most * suc (length (f .answers)) ≤ most * length piece = mul-le-mul-left most (omega (arith, one, taken-long, few-handed piece)) in
               absurd (omega (arith, small, few (f .next) l later-good, few-written, enough, all, mul-suc most (length (f .answers))))
 

@@ -35,21 +35,21 @@ module _ (r : Readback) (piece out after : List ℕ) (a : Rewritten) (g : good r
   abbrev text : List ℕ
   text = written rewrites (f .answers)
 
-  is : rewriting a after ≡ counted f (linesOf piece) out
+  pub is : rewriting a after ≡ counted f (linesOf piece) out
   unfolding rewriteOf rewrittenOf
   is = rw g at p
 
-  next-is : a .next ≡ f .next
+  pub next-is : a .next ≡ f .next
   next-is = ap (λ (w : Rewriting). w .told .next) is
 
   -- EVERY CALL OF A GOOD READER GIVES A GOOD ONE
   pub next-good : good (a .next) ≡ true
   next-good = ap good next-is ∙ stays rewrites (λ (r : Readback). good r ≡ true) (λ r l h. step-leaves r (bodyOf l) h .0) (linesOf piece) r (length out) g
 
-  took : take (a .taken) piece ≡ bytesIn ws
+  pub took : take (a .taken) piece ≡ bytesIn ws
   took = ap (λ (w : Rewriting). take (w .told .taken) piece) is ∙ lines-front piece (length (f .answers))
 
-  wrote : take (a .written) after ≡ text
+  pub wrote : take (a .written) after ≡ text
   wrote = ap (λ (w : Rewriting). take (w .told .written) (w .out)) is ∙ take-at text (drop (length text) out) (length text) refl
 
   -- in front of more, on both sides
