@@ -1,15 +1,23 @@
 // mwidth: a listing on standard input, rewritten at the other width of line numbers to standard output; a line that is faulty, or whose number does not fit,
 // is told on standard error.
-ghost use Prim.Native.Nat.{_≤_};
-ghost use lib.ListN.{length};
-use libc::STDERR_FILENO;
-use libc::STDIN_FILENO;
-use libc::STDOUT_FILENO;
+ghost use Prim.Native.Nat.{ℕ, _*_, _+_, _-_, _≤_, _<_};
+ghost use mathlib.Core.Path.{_≡_};
+ghost use mathlib.Core.Bool.{true, false};
+ghost use mathlib.Core.List.{[]};
+ghost use lib.ListN.{length, take};
+ghost use Rattle.shell.specs.Outside.{Trace, Said};
+ghost use Rattle.shell.specs.Standing.{Stands, Closes, Ends};
+ghost use Rattle.text.specs.Growth.{slice, filledBy};
+ghost use Rattle.readback.specs.Steps.{good};
+ghost use Rattle.readback.specs.Pieces.{longest};
+ghost use Rattle.readback.specs.Held.{Ready, toGo};
+ghost use Rattle.readback.specs.Promises.{RewritePromise};
+ghost use Rattle.mwidth.specs.Told.{tellOf};
+ghost use Rattle.mwidth.specs.Program.{mwidth};
+ghost use Rattle.mwidth.specs.Blocks.{rest, tells, lastWords, Left};
 use readback::Readback;
 use readback::Rewritten;
-
-// The most blocks that are read, each of a byte or more: no listing has as many bytes.
-const MOST: u32 = 30_000_000;
+use text::Text;
 
 // Where the rewriting stands: the reader, the bytes of a line that is not whole yet, whether more is to be read, whether each read and write went well, and
 // what was refused, with its line.
@@ -22,79 +30,48 @@ struct Went {
     line: u32,
 }
 
-// What a read brought, and whether it went well.
-struct Got {
-    count: usize,
-    well: bool,
-}
-
-// The first bytes, to standard output; where that fails, why, to standard error.
-fn show(out: &[u8], count: usize) -> bool
-    requires { ⌜ count ≤ length (now out) ⌝ }
-{
-    let is_shown = io::write_all(STDOUT_FILENO, &out[..count]);
-    if !is_shown {
-        os::fail(b"mwidth: standard output");
-    }
-    is_shown
-}
-
-// The same, of no more bytes than there are.
-fn shown(out: &[u8], written: usize) -> bool {
-    if written > out.len() {
-        return false;
-    }
-    show(out, written)
-}
-
-// What standard input brings; where it cannot be read, why, to standard error.
-fn more(part: &mut [u8]) -> Got
-    ensures { λ r. ⌜ r .count ≤ length (now (part .exit)) ⌝ }
-{
-    let got = libc::read(STDIN_FILENO, part);
-    let n = io::count(got, part);
-    if got < 0 {
-        os::fail(b"mwidth: standard input");
-    }
-    Got {
-        count: n,
-        well: got >= 0,
-    }
-}
-
-// The bytes from a place up to another, moved to the front; how many they are.
-fn kept(input: &mut [u8], from: usize, to: usize) -> usize
-    ensures { λ r. ⌜ r ≤ length (now (input .exit)) ⌝ }
-{
-    if to <= from {
-        return 0;
-    }
-    if input.len() < to {
-        return 0;
-    }
-    let count = to - from;
-    let mut i: usize = 0;
-    while i < count {
-        input[i] = input[from + i];
-        i = i + 1;
-    }
-    count
-}
-
-// The first bytes of a block, rewritten.
+// The first bytes of a buffer, rewritten.
 fn front(reader: Readback, input: &[u8], all: usize, out: &mut [u8]) -> Rewritten
     requires { ⌜ all ≤ length (now input) ⌝ }
+    ensures { λ r. ⌜ RewritePromise reader (take all (now (input .entry))) (now (out .entry)) r (now (out .exit)) ⌝ }
 {
     reader.rewrite(&input[..all], out)
 }
 
-// A block of the listing: the bytes that were held and what a read brings.
-fn block(reader: Readback, held: usize, input: &mut [u8], out: &mut [u8]) -> Went
-    requires { ⌜ held ≤ length (now input) ⌝ }
+// What is held and what was read: its lines at the other width are written, and the rest is held. With forty places for each byte all lines are taken.
+fn listed(turn: &mut u64, reader: Readback, all: usize, input: &mut [u8], out: &mut [u8]) -> Went
+    requires { ⌜ (all ≤ length (now input)) × (40 * length (now input) ≤ length (now out)) × (good reader ≡ true) ⌝ }
+    requires { ⌜ Stands mwidth (now turn) (rest reader (take all (now input))) (tells reader (take all (now input))) ⌝ }
     ensures { λ r. ⌜ r .held ≤ length (now (input .exit)) ⌝ }
+    ensures { λ r. ⌜ Left (now (turn .exit)) r (take (r .held) (now (input .exit))) ⌝ }
+    ensures { λ r. ⌜ ((held : ℕ) → held < all → held ≤ longest → r .on ≡ true → toGo (r .next) (r .held) < toGo reader held) ⌝ }
 {
-    let got = more(&mut input[held..]);
-    let all = held + got.count;
+    let told = front(reader, input, all, out);
+    let next = told.next;
+    let taken = told.taken;
+    let left = all - taken;
+    let n = told.written;
+    let is_shown = shell::show(turn, b"mwidth: standard output", &out[..n]);
+    shell::keep(input, taken, left);
+    Went {
+        next: next,
+        held: left,
+        on: is_shown & (told.refusal == 0),
+        well: is_shown,
+        refusal: told.refusal,
+        line: told.line,
+    }
+}
+
+// A block of the listing: the bytes that were held and what a read brings.
+fn block(turn: &mut u64, reader: Readback, held: usize, input: &mut [u8], out: &mut [u8]) -> Went
+    requires { ⌜ (held ≤ length (now input)) × (40 * length (now input) ≤ length (now out)) × (longest < length (now input)) ⌝ }
+    requires { ⌜ Ready reader (take held (now input)) × Stands mwidth (now turn) (rest reader (take held (now input))) (tells reader (take held (now input))) ⌝ }
+    ensures { λ r. ⌜ r .held ≤ length (now (input .exit)) ⌝ }
+    ensures { λ r. ⌜ Left (now (turn .exit)) r (take (r .held) (now (input .exit))) ⌝ }
+    ensures { λ r. ⌜ (r .on ≡ true → toGo (r .next) (r .held) < toGo reader held) ⌝ }
+{
+    let got = shell::behind(turn, b"mwidth: standard input", input, held);
     if got.count == 0 {
         return Went {
             next: reader,
@@ -105,22 +82,15 @@ fn block(reader: Readback, held: usize, input: &mut [u8], out: &mut [u8]) -> Wen
             line: 0,
         };
     }
-    let told = front(reader, input, all, out);
-    let next = told.next;
-    let well = shown(out, told.written);
-    let left = kept(input, told.taken, all);
-    Went {
-        next: next,
-        held: left,
-        on: well & (told.refusal == 0),
-        well: well,
-        refusal: told.refusal,
-        line: told.line,
-    }
+    listed(turn, reader, held + got.count, input, out)
 }
 
 // The blocks, one after the other, until the listing is over or a line is not rewritten.
-fn blocks(input: &mut [u8], out: &mut [u8]) -> Went {
+fn blocks(turn: &mut u64, input: &mut [u8], out: &mut [u8]) -> Went
+    requires { ⌜ (40 * length (now input) ≤ length (now out)) × (longest < length (now input)) × Trace (now turn) [] [] [] ⌝ }
+    ensures { λ r. ⌜ (r .well ≡ true → Closes mwidth (now (turn .exit)) [] (lastWords r)) ⌝ }
+    ensures { λ r. ⌜ (r .well ≡ false → Ends mwidth (now (turn .exit)) false) ⌝ }
+{
     let mut went = Went {
         next: Readback::fresh(),
         held: 0,
@@ -129,46 +99,76 @@ fn blocks(input: &mut [u8], out: &mut [u8]) -> Went {
         refusal: 0,
         line: 0,
     };
-    let mut i: u32 = 0;
-    while i < MOST {
-        if !(went.on & went.well) {
-            return went;
-        }
-        went = block(went.next, went.held, input, out);
-        i = i + 1;
+    while went.on {
+        went = block(turn, went.next, went.held, input, out);
     }
     went
 }
 
+// Bytes to a slice from a place on, and the place behind them.
+fn put(out: &mut [u8], at: usize, bytes: &[u8]) -> usize
+    ensures { λ r. ⌜ slice (now (out .exit)) r ≡ filledBy (slice (now (out .entry)) at) (now (bytes .entry)) ⌝ }
+{
+    let mut to = at;
+    let mut i: usize = 0;
+    while i < bytes.len() {
+        to = Text::byte_to(out, to, bytes[i]);
+        i = i + 1;
+    }
+    to
+}
+
 // A line of the listing that was not rewritten, to standard error.
-fn tell(line: u32, why: &[u8]) {
-    io::write_all(STDERR_FILENO, b"mwidth: line ");
-    io::print_decimal(STDERR_FILENO, line as u64);
-    io::write_all(STDERR_FILENO, why);
+fn tell(turn: &mut u64, line: u32, why: &[u8]) -> bool
+    requires { ⌜ length (now why) ≤ 50 ⌝ }
+    ensures { λ r. ⌜ Said (now (turn .entry)) (now (turn .exit)) r (tellOf line (now (why .entry))) ⌝ }
+{
+    let mut bytes = [0u8; 80];
+    let number = put(&mut bytes, 0, b"mwidth: line ");
+    let behind = Text::decimal_to(&mut bytes, number, 1, line as i64);
+    let n = put(&mut bytes, behind, why);
+    shell::say(turn, &bytes[..n])
 }
 
 // What was refused, or an end that is missing.
-fn last(went: Went) {
-    if went.refusal == 15 {
-        tell(went.line, b": its number does not fit the other width\n");
-        return;
+fn last(turn: &mut u64, went: Went) -> bool
+    requires { ⌜ Closes mwidth (now turn) [] (lastWords went) ⌝ }
+    ensures { λ r. ⌜ Ends mwidth (now (turn .exit)) r ⌝ }
+{
+    let refusal = went.refusal;
+    if refusal == 15 {
+        return tell(
+            turn,
+            went.line,
+            b": its number does not fit the other width\n",
+        );
     }
-    if went.refusal != 0 {
-        tell(went.line, b" is faulty\n");
-        return;
+    if refusal != 0 {
+        return tell(turn, went.line, b" is faulty\n");
     }
     let reader = went.next;
     let end = reader.finish(went.held);
     if end.refusal != 0 {
-        tell(end.line, b" is missing or not whole\n");
+        return tell(turn, end.line, b" is missing or not whole\n");
     }
+    true
+}
+
+// WHAT IS HANDED OUT IS THE LISTING AT THE OTHER WIDTH, and what is told is the line that was not rewritten.
+fn whole(turn: &mut u64, input: &mut [u8], out: &mut [u8]) -> bool
+    requires { ⌜ (40 * length (now input) ≤ length (now out)) × (longest < length (now input)) × Trace (now turn) [] [] [] ⌝ }
+    ensures { λ r. ⌜ Ends mwidth (now (turn .exit)) r ⌝ }
+{
+    let went = blocks(turn, input, out);
+    if went.well {
+        return last(turn, went);
+    }
+    false
 }
 
 fn main() {
+    let mut turn = shell::start();
     let mut input = [0u8; 4096];
-    let mut out = [0u8; 8192];
-    let went = blocks(&mut input, &mut out);
-    if went.well {
-        last(went);
-    }
+    let mut out = [0u8; 163840];
+    whole(&mut turn, &mut input, &mut out);
 }

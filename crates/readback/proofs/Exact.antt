@@ -31,7 +31,7 @@ use Rattle.readback.proofs.Across.{whole-line}
 use Rattle.readback.proofs.Again.{Printed, accepted}
 use Rattle.readback.proofs.AsItWas.{cut-first, line-whole, letter-plain, item-step, first-plain, first-step}
 use Rattle.readback.proofs.Goodness.{known-is, fresh-is-good}
-use Rattle.readback.proofs.Other.{goes-on, taken-read, faulty-read, front-and-rest, refused-line, calls-good, in-any-calls}
+use Rattle.readback.proofs.Other.{over-call, goes-on, taken-read, faulty-read, front-and-rest, refused-line, calls-good, in-any-calls}
 use Rattle.readback.proofs.Rewrites.{other-known}
 use Rattle.readback.proofs.SameItems.{next-good, next-is, took}
 use Rattle.readback.proofs.Wholes.{cut-wholes, lines-whole}
@@ -182,19 +182,6 @@ fits-here w k (item.Over ∷ is) last h = (refl, rw h tt)
 
 twice : (w : ℕ) → widthKnown w ≡ true → otherWidth (otherWidth w) ≡ w
 twice = known-both (λ (w : ℕ). otherWidth (otherWidth w) ≡ w) refl refl
-
--- what a call took of lines, and what stands behind them
-module _ (P : Readback → List (List ℕ) → Readback → List (List ℕ) → Type 0) (same : (r : Readback) (ls : List (List ℕ)) → P r ls r ls)
-    (line : (r : Readback) (l : List ℕ) (ls : List (List ℕ)) (next : Readback) (more : List (List ℕ)) → rewrites .refusal r l ≡ 0 → P (rewrites .next r l) ls next more → P r (l ∷ ls) next more) where
-  over-call : (r : Readback) (piece out after : List ℕ) (a : Rewritten) (g : good r ≡ true) → RewritePromise r piece out a after
-      → (q : List ℕ) → P r (cutIn (take (a .taken) piece ++ q)) (a .next) (cutIn q)
-  over-call r piece out after a g p q =
-      let f = run rewrites r (linesOf piece) (length out) in
-      let ws = take (length (f .answers)) (linesOf piece) in
-      let cut : cutIn (take (a .taken) piece ++ q) ≡ ws ++ cutIn q = ap (λ (l : List ℕ). cutIn (l ++ q)) (took r piece out after a g p) ∙ cut-wholes ws q (lines-whole rewrites whole-line r piece (length out)) in
-      rw (cut, next-is r piece out after a g p)
-      (over-taken rewrites (λ r ls texts next. (more : List (List ℕ)) → P r (ls ++ more) next more) (λ r more. same r more) (λ r l ls texts next z ih more. line r l (ls ++ more) next more z (ih more))
-      (linesOf piece) r (length out) (cutIn q))
 
 -- CALLS ONE AFTER THE OTHER
 module _ (P : Readback → List (List ℕ) → Readback → List (List ℕ) → Type 0) (same : (r : Readback) (ls : List (List ℕ)) → P r ls r ls)

@@ -160,6 +160,19 @@ module _ (r : Readback) (piece out after : List ℕ) (a : Rewritten) (g : good r
         let n = onward.nearer rewrites rewriting-follows taken-read r piece (length out) g 40 few-places enough (sym refusal-is ∙ fine) held h few in
         rw (taken-is, next-is r piece out after a g p) n
 
+-- what a call took of lines, and what stands behind them
+module _ (P : Readback → List (List ℕ) → Readback → List (List ℕ) → Type 0) (same : (r : Readback) (ls : List (List ℕ)) → P r ls r ls)
+    (line : (r : Readback) (l : List ℕ) (ls : List (List ℕ)) (next : Readback) (more : List (List ℕ)) → rewrites .refusal r l ≡ 0 → P (rewrites .next r l) ls next more → P r (l ∷ ls) next more) where
+  pub over-call : (r : Readback) (piece out after : List ℕ) (a : Rewritten) (g : good r ≡ true) → RewritePromise r piece out a after
+      → (q : List ℕ) → P r (cutIn (take (a .taken) piece ++ q)) (a .next) (cutIn q)
+  over-call r piece out after a g p q =
+      let f = run rewrites r (linesOf piece) (length out) in
+      let ws = take (length (f .answers)) (linesOf piece) in
+      let cut : cutIn (take (a .taken) piece ++ q) ≡ ws ++ cutIn q = ap (λ (l : List ℕ). cutIn (l ++ q)) (took r piece out after a g p) ∙ cut-wholes ws q (lines-whole rewrites whole-line r piece (length out)) in
+      rw (cut, next-is r piece out after a g p)
+      (over-taken rewrites (λ r ls texts next. (more : List (List ℕ)) → P r (ls ++ more) next more) (λ r more. same r more) (λ r l ls texts next z ih more. line r l (ls ++ more) next more z (ih more))
+      (linesOf piece) r (length out) (cutIn q))
+
 -- CALLS ONE AFTER THE OTHER: what they wrote is what is written of the bytes that they took, and then what is written of what follows
 pub calls-write : (ks : List Rewrite) (q : List ℕ) (r : Readback) → good r ≡ true → PermittedRewrites r ks
     → otherFrom r (cutIn (tookBy ks ++ q)) ≡ wroteBy ks ++ otherFrom (rewriterAfter r ks) (cutIn q)

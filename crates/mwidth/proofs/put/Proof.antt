@@ -1,0 +1,73 @@
+-- Byte after byte.
+use borrow.Author.Needs.{needs}
+use native.Mathlib.Omega.{arith}
+use Prim.Native.Nat.{suc, _-_, _≤_, _+_}
+use mathlib.Core.Path.{_≡_, refl, sym, _∙_, ap}
+use mathlib.Core.List.{List, [], _∷_, _++_}
+use lib.ListN.{length, take, getD}
+use lib.Seq.{take-suc, take-all}
+use Rattle.text.specs.Growth.{slice, filled, filledBy}
+use Rattle.text.proofs.Filled.{both-filled}
+use Rattle.mwidth.proofs.put.Statement.{statement}
+use Rattle.mwidth.proofs.put.Tie as tie
+
+abbrev Inv-loop : tie.InvT-loop
+Inv-loop out₀ at bytes to₀ i₀ out to i = (slice out to ≡ filledBy (slice out₀ at) (take i bytes)) × (i ≤ length bytes) × (length out ≡ length out₀)
+
+abbrev μ-loop : tie.MeasureT-loop
+μ-loop out₀ at bytes to₀ i₀ out to i = length bytes - i
+
+loop-holds : tie.Need-loop-holds Inv-loop μ-loop
+loop-holds c = (refl, omega arith, refl)
+
+shared-slice-read-byte-to : tie.Need-shared-slice-read-byte-to Inv-loop μ-loop
+shared-slice-read-byte-to c = omega arith
+
+byte-to-requires : tie.Need-byte-to-requires Inv-loop μ-loop
+byte-to-requires c κs = tt
+
+add-i : tie.Need-add-i Inv-loop μ-loop
+add-i c = omega arith
+
+loop-less : tie.Need-loop-less Inv-loop μ-loop
+loop-less c = omega arith
+
+loop-again : tie.Need-loop-again Inv-loop μ-loop
+loop-again c =
+    let s = c .before .before .before .before .before .before .before .before .before in
+    let l = c .before .before .before .before .before .before .loop in
+    let b = c .before .before .byte-to in
+    let bytes = s .args .bytes .now in
+    let start = slice (s .args .out .now) (s .args .at) in
+    let next : l .i + 1 ≡ suc (l .i) = omega arith in
+    let same : length (b .last .0) ≡ length (l .out) = search needs in
+    let byte = getD bytes (l .i) 0 in (
+      b .ensures ∙ ap (λ (t : _). filled t byte) (l .inv .0) ∙ both-filled start (take (l .i) bytes) (byte ∷ [])
+          ∙ ap (filledBy start) (sym (take-suc bytes (l .i) 0 (omega arith)) ∙ ap (λ (n : _). take n bytes) (sym next)),
+      omega arith,
+      same ∙ l .inv .2,
+    )
+
+same-length : tie.Need-same-length Inv-loop μ-loop
+same-length c = c .before .loop .inv .2
+
+returns : tie.Need-returns Inv-loop μ-loop
+returns c =
+    let s = c .before .before .before .before in
+    let l = c .before .loop in
+    l .inv .0 ∙ ap (filledBy (slice (s .args .out .now) (s .args .at))) (take-all (l .i) (s .args .bytes .now) (omega arith))
+
+pub put-spec : {M : Type 1} → statement M
+put-spec =
+    tie.close
+    (tie.spec
+    Inv-loop
+    μ-loop
+    loop-holds
+    shared-slice-read-byte-to
+    byte-to-requires
+    add-i
+    loop-less
+    loop-again
+    same-length
+    returns)
