@@ -1,7 +1,7 @@
 -- Where the program stands: before the first byte, behind a byte, behind a block, and at the end.
 use Prim.Native.Nat.{ℕ, suc, _+_, _-_, _*_, _<_, _≤_}
 use mathlib.Core.Path.{_≡_, refl, sym, _∙_, ap, subst}
-use mathlib.Core.Bool.{Bool, true, false, not, cond, _&&_, true≢false}
+use mathlib.Core.Bool.{Bool, true, false, not, _&&_, true≢false}
 use mathlib.Core.List.{List, [], _∷_, _++_, append-assoc, append-nil}
 use mathlib.Core.Logic.{_⊎_, ⊎-elim}
 use native.Mathlib.Omega.{arith}
@@ -24,11 +24,11 @@ use Rattle.bridge.specs.Promises.{freshOf}
 use Rattle.bridge.specs.declared.Bridge.{Bridge}
 use Rattle.bridge.proofs.Goodness.{fresh-is-good}
 use Rattle.shell.specs.Outside.{Trace, Brought, Handed}
-use Rattle.shell.specs.Standing.{Stands, Closes, Ends}
+use Rattle.shell.specs.Standing.{Stands, Closes, Ends, silent}
 use Rattle.shell.specs.declared.Got.{Got}
 use Rattle.shell.proofs.Laws as standing
-use Rattle.mbridge.specs.Recording.{waiting, bridgeBehind, linesFor, linesFrom, bridgedOf, silent, bridging}
-use Rattle.mbridge.specs.Blocks.{most, Puts, Takes, restOf, Midway, Stepped, Left}
+use Rattle.mbridge.specs.Recording.{waiting, bridgeBehind, linesFor, linesFrom, bridgedOf, mbridge}
+use Rattle.mbridge.specs.Blocks.{most, Puts, Takes, restOf, Midway, Stepped, Steps, Left}
 use Rattle.mbridge.specs.declared.Put.{Put}
 use Rattle.mbridge.specs.declared.Went.{Went}
 use Rattle.mbridge.proofs.Filling.{put-behind, used-is, same-long}
@@ -60,13 +60,13 @@ pub starts : (t : ℕ) → Trace t [] [] [] → (s : Scanner) (b : Bridge) → s
 starts t traced s b e f =
     record {
       ready = λ _. record { sound = rw f (fresh-is-good (letterOf FiveByte) (freshOf (letterOf FiveByte)) refl); within = rw e (omega arith, omega arith) };
-      stands = λ _. standing.reworded bridging t bridgedOf (restOf s b) silent silent (standing.begins bridging t traced) (λ q. sym (rw (e, f) (all-at-once q))) (λ q. refl);
+      stands = λ _. standing.reworded mbridge t bridgedOf (restOf s b) silent silent (standing.begins mbridge t traced) (λ q. sym (rw (e, f) (all-at-once q))) (λ q. refl);
       ends = λ n. absurd (true≢false n);
     }
 
 -- a byte, with room for what is found at it
 module _ (t : ℕ) (s : Scanner) (b : Bridge) (c : ℕ) (before : List ℕ) (at : ℕ) (r : Went) (after left : List ℕ) (g : good b ≡ true) (w : Within s) (room : at + most ≤ length before)
-    (k : Takes s b c before at r after) (st : Stands bridging t (λ q. take at before ++ restOf s b (c ∷ (left ++ q))) silent) where
+    (k : Takes s b c before at r after) (st : Stands mbridge t (λ q. take at before ++ restOf s b (c ∷ (left ++ q))) silent) where
   abbrev l : List ℕ
   l = linesFor b (scannedByte s c .found)
 
@@ -91,7 +91,7 @@ module _ (t : ℕ) (s : Scanner) (b : Bridge) (c : ℕ) (before : List ℕ) (at 
         midway = record {
           room = omega (arith, fits, used-is before after l at (r .used) fits (k .lines), same-long before after l at (r .used) fits (k .lines));
           sound = rw (k .next) (found-good b (scannedByte s c .found) g);
-          stands = λ _. standing.reworded bridging t _ _ silent silent st rest-is (λ q. refl);
+          stands = λ _. standing.reworded mbridge t _ _ silent silent st rest-is (λ q. refl);
           failed = λ n. absurd (true≢false (sym (k .well) ∙ n));
           goes = λ y. (k .well, going y .1);
           stops = λ n _. not-false (r .scanner .ended) (sym (k .goes) ∙ n);
@@ -100,12 +100,12 @@ module _ (t : ℕ) (s : Scanner) (b : Bridge) (c : ℕ) (before : List ℕ) (at 
       }
 
 -- what is to be shown is shown
-module _ (t t′ : ℕ) (w : Went) (out rest : List ℕ) (well : Bool) (m : Midway t w out rest) (y : w .well ≡ true) (h : Handed (bridging .output) t t′ well (take (w .used) out)) where
+module _ (t t′ : ℕ) (w : Went) (out rest : List ℕ) (well : Bool) (m : Midway t w out rest) (y : w .well ≡ true) (h : Handed (mbridge .output) t t′ well (take (w .used) out)) where
   abbrev later : List ℕ → List ℕ
   later q = restOf (w .scanner) (w .bridge) (rest ++ q)
 
-  pub emptied : well ≡ true → Stands bridging t′ later silent
-  emptied = standing.writes bridging t t′ well (take (w .used) out) (λ q. take (w .used) out ++ later q) later silent (m .stands y) (λ q. refl) h
+  pub emptied : well ≡ true → Stands mbridge t′ later silent
+  emptied = standing.writes mbridge t t′ well (take (w .used) out) (λ q. take (w .used) out ++ later q) later silent (m .stands y) (λ q. refl) h
 
   pub unshown : well ≡ false → (more : List ℕ) → Midway t′ (record { scanner = w .scanner; bridge = w .bridge; used = 0; on = false; well = false }) out more
   unshown n more =
@@ -113,20 +113,20 @@ module _ (t t′ : ℕ) (w : Went) (out rest : List ℕ) (well : Bool) (m : Midw
         room = omega arith;
         sound = m .sound;
         stands = λ e. absurd (true≢false (sym e));
-        failed = λ _. standing.fails-writing bridging t t′ well (take (w .used) out) (λ q. take (w .used) out ++ later q) later silent (m .stands y) (λ q. refl) h n;
+        failed = λ _. standing.fails-writing mbridge t t′ well (take (w .used) out) (λ q. take (w .used) out ++ later q) later silent (m .stands y) (λ q. refl) h n;
         goes = λ e. absurd (true≢false (sym e));
         stops = λ _ e. absurd (true≢false (sym e));
       }
 
 -- at the start of a block
-pub enters : (t : ℕ) (s : Scanner) (b : Bridge) (out input : List ℕ) → good b ≡ true → Within s → Stands bridging t (λ q. restOf s b (input ++ q)) silent
+pub enters : (t : ℕ) (s : Scanner) (b : Bridge) (out input : List ℕ) → good b ≡ true → Within s → Stands mbridge t (λ q. restOf s b (input ++ q)) silent
     → Midway t (record { scanner = s; bridge = b; used = 0; on = true; well = true }) out input
 enters t s b out input g w st =
     record { room = omega arith; sound = g; stands = λ _. st; failed = λ n. absurd (true≢false n); goes = λ _. (refl, w); stops = λ n. absurd (true≢false n) }
 
 -- behind one of its bytes
 pub turned : (t t′ : ℕ) (w r : Went) (out after input : List ℕ) (i n : ℕ) → i < length input → Midway t w out (drop i input) → n + i ≤ passed (w .scanner)
-    → ((left : List ℕ) → Midway t w out (getD input i 0 ∷ left) → Stepped (w .scanner) t′ r after left)
+    → Steps (getD input i 0) t w out t′ r after
     → Midway t′ r after (drop (i + 1) input) × (r .on ≡ true → n + (i + 1) ≤ passed (r .scanner))
 turned t t′ w r out after input i n h m far step =
     let k = step (drop (suc i) input) (rw (drop-cons input i 0 h) at m) in rw add-one (k .midway, λ y. omega (arith, k .brings y))
@@ -137,7 +137,7 @@ finished t w out rest m none =
     record {
       room = m .room;
       sound = m .sound;
-      stands = λ y. standing.reworded bridging t _ _ silent silent (m .stands y) (λ q. ap (λ (l : List ℕ). take (w .used) out ++ l) (same (w .on) refl y q)) (λ q. refl);
+      stands = λ y. standing.reworded mbridge t _ _ silent silent (m .stands y) (λ q. ap (λ (l : List ℕ). take (w .used) out ++ l) (same (w .on) refl y q)) (λ q. refl);
       failed = m .failed;
       goes = m .goes;
       stops = m .stops;
@@ -147,14 +147,14 @@ finished t w out rest m none =
     same true e y q = ap (λ (l : List ℕ). restOf (w .scanner) (w .bridge) (l ++ q)) (none e)
     same false e y q = let n = m .stops e y in quiet (rest ++ q) (w .scanner) (w .bridge) n ∙ sym (quiet q (w .scanner) (w .bridge) n)
 
-module _ (t t′ : ℕ) (w : Went) (out : List ℕ) (well : Bool) (m : Midway t w out []) (y : w .well ≡ true) (h : Handed (bridging .output) t t′ well (take (w .used) out)) where
+module _ (t t′ : ℕ) (w : Went) (out : List ℕ) (well : Bool) (m : Midway t w out []) (y : w .well ≡ true) (h : Handed (mbridge .output) t t′ well (take (w .used) out)) where
   pub shows : Left t′ (record { scanner = w .scanner; bridge = w .bridge; used = 0; on = well && w .on; well = well })
   shows =
       record {
         ready = λ e. record { sound = m .sound; within = m .goes (right well (w .on) e) .1 };
         stands = λ e. emptied t t′ w out [] well m y h (left well (w .on) e);
         ends = λ n. record {
-          done = λ e. standing.done bridging t′ (standing.settled bridging t′ _ silent [] [] (emptied t t′ w out [] well m y h e) (λ q. quiet q (w .scanner) (w .bridge) (m .stops (off well (w .on) e n) y)) (λ q. refl));
+          done = λ e. standing.done mbridge t′ (standing.settled mbridge t′ _ silent [] [] (emptied t t′ w out [] well m y h e) (λ q. quiet q (w .scanner) (w .bridge) (m .stops (off well (w .on) e n) y)) (λ q. refl));
           failed = λ e. unshown t t′ w out [] well m y h e [] .failed refl;
         };
       }
@@ -174,24 +174,20 @@ broken t w out m n =
     }
 
 -- a read
-module _ (t t′ : ℕ) (s : Scanner) (b : Bridge) (part : List ℕ) (got : Got) (st : Stands bridging t (restOf s b) silent) (k : Brought (bridging .input) t t′ got part) where
-  pub some : 0 < got .count → Stands bridging t′ (λ q. restOf s b (take (got .count) part ++ q)) silent
-  some n = standing.reads bridging t t′ got part (restOf s b) silent st k (go (got .well) refl)
-    where
-      go : (w : Bool) → got .well ≡ w → got .well ≡ true
-      go true e = e
-      go false e = absurd (omega (arith, k .none e))
+module _ (t t′ : ℕ) (s : Scanner) (b : Bridge) (part : List ℕ) (got : Got) (st : Stands mbridge t (restOf s b) silent) (k : Brought (mbridge .input) t t′ got part) where
+  pub some : 0 < got .count → Stands mbridge t′ (λ q. restOf s b (take (got .count) part ++ q)) silent
+  some n = standing.reads mbridge t t′ got part (restOf s b) silent st k (standing.brings (mbridge .input) t t′ got part k n)
 
-  pub over : 0 < length part → got .count ≡ 0 → got .well ≡ true → Closes bridging t′ (restOf s b []) []
+  pub over : 0 < length part → got .count ≡ 0 → got .well ≡ true → Closes mbridge t′ (restOf s b []) []
   over room z w =
-      subst (λ (n : ℕ). Closes bridging t′ (restOf s b (take n part ++ [])) []) z
-      (standing.over bridging t′ _ silent (standing.reads bridging t t′ got part (restOf s b) silent st k w) (k .over w room z))
+      subst (λ (n : ℕ). Closes mbridge t′ (restOf s b (take n part ++ [])) []) z
+      (standing.over mbridge t′ _ silent (standing.reads mbridge t t′ got part (restOf s b) silent st k w) (k .over w room z))
 
-  pub unread : got .well ≡ false → Ends bridging t′ false
-  unread n = standing.fails bridging t′ (standing.fails-reading bridging t t′ got part (restOf s b) silent st k n)
+  pub unread : got .well ≡ false → Ends mbridge t′ false
+  unread n = standing.fails mbridge t′ (standing.fails-reading mbridge t t′ got part (restOf s b) silent st k n)
 
 -- the program ends
-pub ended : (t : ℕ) (w : Went) → w .on ≡ false → Ends bridging t (w .well) → Left t w
+pub ended : (t : ℕ) (w : Went) → w .on ≡ false → Ends mbridge t (w .well) → Left t w
 ended t w n e = record { ready = λ y. absurd (true≢false (sym y ∙ n)); stands = λ y. absurd (true≢false (sym y ∙ n)); ends = λ _. e }
 
 -- the last line, and the end
@@ -226,10 +222,5 @@ module _ (s : Scanner) (b : Bridge) (closed end : Scan) (put all : Put) (out mid
       ∙ ap (λ (l : List ℕ). l ++ linesFor (put .next) (end .found)) (put-behind out mid (linesFor b (closed .found)) 0 (put .used) fits-first (p .lines))
       ∙ rw (p .next, then, is, append-nil)
 
-  pub closes : (t t′ : ℕ) (well : Bool) → Closes bridging t (restOf s b []) [] → Handed (bridging .output) t t′ well (take (all .used) after) → Ends bridging t′ well
-  closes t t′ well c h = standing.last bridging t t′ well (restOf s b []) c (subst (Handed (bridging .output) t t′ well) text h)
-
--- by which the loop falls
-pub falls-off : (on : Bool) (next here : ℕ) → (on ≡ true → next < here) → cond on (suc next) 0 < suc here
-falls-off true next here h = omega (arith, h refl)
-falls-off false next here h = omega arith
+  pub closes : (t t′ : ℕ) (well : Bool) → Closes mbridge t (restOf s b []) [] → Handed (mbridge .output) t t′ well (take (all .used) after) → Ends mbridge t′ well
+  closes t t′ well c h = standing.last mbridge t t′ well (restOf s b []) c (subst (Handed (mbridge .output) t t′ well) text h)

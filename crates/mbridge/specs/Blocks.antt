@@ -12,8 +12,8 @@ use Rattle.listing.proofs.Scanned.{allFound}
 use Rattle.listing.proofs.Ended.{Within}
 use Rattle.bridge.specs.Good.{good}
 use Rattle.bridge.specs.declared.Bridge.{Bridge}
-use Rattle.shell.specs.Standing.{Stands, Failed, Ends}
-use Rattle.mbridge.specs.Recording.{bridgeBehind, linesFor, linesFrom, silent, bridging}
+use Rattle.shell.specs.Standing.{Stands, Failed, Ends, silent}
+use Rattle.mbridge.specs.Recording.{bridgeBehind, linesFor, linesFrom, mbridge}
 use Rattle.mbridge.specs.declared.Put.{Put}
 use Rattle.mbridge.specs.declared.Went.{Went}
 
@@ -42,8 +42,8 @@ restOf s b q = linesFrom b (allFound s q)
 pub record Midway (t : ℕ) (w : Went) (out left : List ℕ) : Type 0 where
   pub room : w .used ≤ length out
   pub sound : good (w .bridge) ≡ true
-  pub stands : w .well ≡ true → Stands bridging t (λ q. take (w .used) out ++ restOf (w .scanner) (w .bridge) (left ++ q)) silent
-  pub failed : w .well ≡ false → Failed bridging t
+  pub stands : w .well ≡ true → Stands mbridge t (λ q. take (w .used) out ++ restOf (w .scanner) (w .bridge) (left ++ q)) silent
+  pub failed : w .well ≡ false → Failed mbridge t
   pub goes : w .on ≡ true → (w .well ≡ true) × Within (w .scanner)
   pub stops : w .on ≡ false → w .well ≡ true → w .scanner .ended ≡ true
 
@@ -52,6 +52,9 @@ pub record Stepped (s : Scanner) (t : ℕ) (w : Went) (out left : List ℕ) : Ty
   pub midway : Midway t w out left
   pub brings : w .on ≡ true → passed s < passed (w .scanner)
 
+abbrev pub Steps : ℕ → ℕ → Went → List ℕ → ℕ → Went → List ℕ → Type 0
+Steps b t w out t′ r after = (left : List ℕ) → Midway t w out (b ∷ left) → Stepped (w .scanner) t′ r after left
+
 -- BETWEEN BLOCKS: more is to be read, or the program ends
 pub record Ready (s : Scanner) (b : Bridge) : Type 0 where
   pub sound : good b ≡ true
@@ -59,5 +62,5 @@ pub record Ready (s : Scanner) (b : Bridge) : Type 0 where
 
 pub record Left (t : ℕ) (w : Went) : Type 0 where
   pub ready : w .on ≡ true → Ready (w .scanner) (w .bridge)
-  pub stands : w .on ≡ true → Stands bridging t (restOf (w .scanner) (w .bridge)) silent
-  pub ends : w .on ≡ false → Ends bridging t (w .well)
+  pub stands : w .on ≡ true → Stands mbridge t (restOf (w .scanner) (w .bridge)) silent
+  pub ends : w .on ≡ false → Ends mbridge t (w .well)

@@ -11,7 +11,7 @@ use Rattle.bridge.specs.Splitting.{bytesAll}
 use Rattle.bridge.specs.Line.{given, behind}
 use Rattle.bridge.specs.Promises.{freshOf}
 use Rattle.bridge.specs.declared.Bridge.{Bridge}
-use Rattle.shell.specs.Standing.{Program}
+use Rattle.shell.specs.Standing.{Program, program, silent}
 use Rattle.mbridge.specs.Lines.{formatLine, byteLines, badLine, overLine}
 
 -- the bridge before a format has come
@@ -41,23 +41,10 @@ unfoldable pub linesFrom : Bridge → List Found → List ℕ
 linesFrom b [] = []
 linesFrom b (f ∷ fs) = linesFor b f ++ linesFrom (bridgeBehind b f) fs
 
--- THE RECORDING OF V
+-- of a whole input
 unfoldable pub bridgedOf : List ℕ → List ℕ
 bridgedOf input = linesFrom waiting (recordingOf width input)
 
--- "mbridge: standard "
-abbrev standard : List ℕ
-standard = 109 ∷ 98 ∷ 114 ∷ 105 ∷ 100 ∷ 103 ∷ 101 ∷ 58 ∷ 32 ∷ 115 ∷ 116 ∷ 97 ∷ 110 ∷ 100 ∷ 97 ∷ 114 ∷ 100 ∷ 32 ∷ []
-
--- the program: the recording of V, and nothing to tell; "input" and "output" are what it calls the two
-abbrev pub silent : List ℕ → List ℕ
-silent input = []
-
-abbrev pub bridging : Program
-bridging =
-    record {
-      writes = bridgedOf;
-      says = silent;
-      input = standard ++ (105 ∷ 110 ∷ 112 ∷ 117 ∷ 116 ∷ []);
-      output = standard ++ (111 ∷ 117 ∷ 116 ∷ 112 ∷ 117 ∷ 116 ∷ []);
-    }
+-- "mbridge": THE RECORDING OF V of its input, and nothing on standard error
+abbrev pub mbridge : Program
+mbridge = program (109 ∷ 98 ∷ 114 ∷ 105 ∷ 100 ∷ 103 ∷ 101 ∷ []) bridgedOf silent

@@ -8,10 +8,10 @@ ghost use Rattle.text.specs.Growth.{slice, filledBy};
 ghost use Rattle.listing.specs.Scanning.{passed, mostBytes};
 ghost use Rattle.bridge.specs.Good.{good};
 ghost use Rattle.shell.specs.Outside.{Trace};
-ghost use Rattle.shell.specs.Standing.{Stands, Closes, Ends};
+ghost use Rattle.shell.specs.Standing.{Stands, Closes, Ends, silent};
 ghost use Rattle.mbridge.specs.Lines.{numbered, byteLines};
-ghost use Rattle.mbridge.specs.Recording.{silent, bridging};
-ghost use Rattle.mbridge.specs.Blocks.{most, Puts, Takes, restOf, Midway, Stepped, Ready, Left};
+ghost use Rattle.mbridge.specs.Recording.{mbridge};
+ghost use Rattle.mbridge.specs.Blocks.{most, Puts, Takes, restOf, Midway, Steps, Ready, Left};
 use bridge::Bridge;
 use listing::Found;
 use listing::Lister;
@@ -158,7 +158,7 @@ fn taken(out: &mut [u8], at: usize, scanner: Scanner, bridge: Bridge, b: u8) -> 
 // The same, where it has room: what has been put is shown before a byte that might have none.
 fn byte(turn: &mut u64, out: &mut [u8], went: Went, b: u8) -> Went
     requires { ⌜ (good (went .bridge) ≡ true) × (went .used ≤ length (now out)) × (most ≤ length (now out)) × (went .on ≡ true) ⌝ }
-    ensures { λ r. ⌜ ((left : List ℕ) → Midway (now (turn .entry)) went (now (out .entry)) (b ∷ left) → Stepped (went .scanner) (now (turn .exit)) r (now (out .exit)) left) ⌝ }
+    ensures { λ r. ⌜ Steps b (now (turn .entry)) went (now (out .entry)) (now (turn .exit)) r (now (out .exit)) ⌝ }
 {
     let scanner = went.scanner;
     let bridge = went.bridge;
@@ -202,7 +202,7 @@ fn shown(turn: &mut u64, out: &[u8], went: Went) -> Went
 // The bytes of a block, one by one, until a write fails or the recording has ended.
 fn bytes(turn: &mut u64, out: &mut [u8], scanner: Scanner, bridge: Bridge, input: &[u8]) -> Went
     requires { ⌜ Ready scanner bridge × (0 < length (now input)) × (most ≤ length (now out)) ⌝ }
-    requires { ⌜ Stands bridging (now turn) (λ q. restOf scanner bridge (now input ++ q)) silent ⌝ }
+    requires { ⌜ Stands mbridge (now turn) (λ q. restOf scanner bridge (now input ++ q)) silent ⌝ }
     ensures { λ r. ⌜ Left (now (turn .exit)) r ⌝ }
     ensures { λ r. ⌜ (r .on ≡ true → mostBytes - passed (r .scanner) < mostBytes - passed scanner) ⌝ }
 {
@@ -223,8 +223,8 @@ fn bytes(turn: &mut u64, out: &mut [u8], scanner: Scanner, bridge: Bridge, input
 
 // The last line, which may lack its newline, and the end.
 fn last(turn: &mut u64, out: &mut [u8], scanner: Scanner, bridge: Bridge) -> bool
-    requires { ⌜ (good bridge ≡ true) × (2 * most ≤ length (now out)) × Closes bridging (now turn) (restOf scanner bridge []) [] ⌝ }
-    ensures { λ r. ⌜ Ends bridging (now (turn .exit)) r ⌝ }
+    requires { ⌜ (good bridge ≡ true) × (2 * most ≤ length (now out)) × Closes mbridge (now turn) (restOf scanner bridge []) [] ⌝ }
+    ensures { λ r. ⌜ Ends mbridge (now (turn .exit)) r ⌝ }
 {
     let closed = scanner.closed();
     let next = closed.next;
@@ -240,7 +240,7 @@ fn last(turn: &mut u64, out: &mut [u8], scanner: Scanner, bridge: Bridge) -> boo
 // A block of the input: what a read brought, and where it brought nothing the input is over or cannot be read.
 fn block(turn: &mut u64, input: &mut [u8], out: &mut [u8], scanner: Scanner, bridge: Bridge) -> Went
     requires { ⌜ Ready scanner bridge × (0 < length (now input)) × (2 * most ≤ length (now out)) ⌝ }
-    requires { ⌜ Stands bridging (now turn) (restOf scanner bridge) silent ⌝ }
+    requires { ⌜ Stands mbridge (now turn) (restOf scanner bridge) silent ⌝ }
     ensures { λ r. ⌜ Left (now (turn .exit)) r ⌝ }
     ensures { λ r. ⌜ (r .on ≡ true → mostBytes - passed (r .scanner) < mostBytes - passed scanner) ⌝ }
 {
@@ -268,10 +268,11 @@ fn block(turn: &mut u64, input: &mut [u8], out: &mut [u8], scanner: Scanner, bri
     }
 }
 
-// The blocks, one after the other, until the input is over, a read or a write fails, or the recording has ended: WHAT IS HANDED OUT IS THE RECORDING OF V.
+// The blocks, one after the other, until the input is over, a read or a write fails, or the recording has ended: WHAT IS HANDED OUT IS THE
+// RECORDING OF V.
 fn whole(turn: &mut u64, input: &mut [u8], out: &mut [u8]) -> bool
     requires { ⌜ Trace (now turn) [] [] [] × (0 < length (now input)) × (2 * most ≤ length (now out)) ⌝ }
-    ensures { λ r. ⌜ Ends bridging (now (turn .exit)) r ⌝ }
+    ensures { λ r. ⌜ Ends mbridge (now (turn .exit)) r ⌝ }
 {
     let lister = Lister::fresh();
     let scanner = lister.scanner;
