@@ -1,3 +1,3 @@
--- The laws of the program: bytes bring the scanner on (Read), and what is said is what is said of the recording (Said).
-pub mod Read
+-- The laws of the program: what is said is the judgement (Said), and where a block and the end leave it (Turns).
 pub mod Said
+pub mod Turns

@@ -1,3 +1,4 @@
--- What the program says of a recording (Judging), and what it promises of its parts (Blocks).
+-- What is said of a recording (Judging), as it is heard (Hearing), and what the program is to write (Blocks).
 pub mod Judging
+pub mod Hearing
 pub mod Blocks

@@ -1,7 +1,7 @@
 // A recording, judged byte by byte: the scanner, the check behind it, and what is to be said.
 ghost use mathlib.Core.Path.{_≡_};
-ghost use Rattle.text.specs.Growth.{textOf};
-ghost use Rattle.myard.specs.Judging.{unheard, judgedBy, heard, behindByte, behindBytes, lastOf, numbered, yes, over, lineFor};
+ghost use Rattle.myard.specs.Judging.{numbered, yes, over, lineFor};
+ghost use Rattle.myard.specs.Hearing.{unheard, judgedBy, heard, behindByte, behindBytes, lastOf, Holds};
 use crate::Judge;
 use crate::Verdict;
 use listing::Found;
@@ -26,7 +26,7 @@ fn judged(verdict: Verdict, can: bool, line: u32) -> Verdict
 
 // A line of a letter and a number.
 fn numbered(letter: u8, n: u32) -> Text
-    ensures { λ r. ⌜ r ≡ textOf (numbered letter n) ⌝ }
+    ensures { λ r. ⌜ Holds r (numbered letter n) ⌝ }
 {
     Text::none()
         .with(letter)
@@ -36,13 +36,13 @@ fn numbered(letter: u8, n: u32) -> Text
 }
 
 fn yes() -> Text
-    ensures { λ r. ⌜ r ≡ textOf yes ⌝ }
+    ensures { λ r. ⌜ Holds r yes ⌝ }
 {
     Text::none().with(b'Y').with(b'\n')
 }
 
 fn over() -> Text
-    ensures { λ r. ⌜ r ≡ textOf over ⌝ }
+    ensures { λ r. ⌜ Holds r over ⌝ }
 {
     Text::none()
         .with(b'E')
@@ -56,7 +56,7 @@ fn over() -> Text
 
 // What is written: `Y`; `N` and a line; `E` and a line, or `over`.
 pub(crate) fn line_for(verdict: Verdict) -> Text
-    ensures { λ r. ⌜ r ≡ textOf (lineFor verdict) ⌝ }
+    ensures { λ r. ⌜ Holds r (lineFor verdict) ⌝ }
 {
     match verdict {
         Verdict::Yes => yes(),

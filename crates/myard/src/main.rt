@@ -1,10 +1,15 @@
 // myard: whether the recording on standard input is a line that a box of ours can send, to standard output.
-ghost use Prim.Native.Nat.{_<_};
+ghost use Prim.Native.Nat.{_-_, _<_};
+ghost use mathlib.Core.Path.{_≡_};
+ghost use mathlib.Core.Bool.{true, false};
+ghost use mathlib.Core.List.{[]};
 ghost use lib.ListN.{length};
-ghost use Rattle.myard.specs.Blocks.{Within, Leaves};
+ghost use Rattle.shell.specs.Outside.{Trace};
+ghost use Rattle.shell.specs.Standing.{Closes, Ends};
+ghost use Rattle.listing.specs.Scanning.{passed, mostBytes};
+ghost use Rattle.myard.specs.Hearing.{saidOf};
+ghost use Rattle.myard.specs.Blocks.{judges, On, Within, Left};
 use crate::judging::line_for;
-use libc::STDIN_FILENO;
-use libc::STDOUT_FILENO;
 use listing::Scanner;
 use yard::Yard;
 
@@ -32,20 +37,24 @@ struct Went {
     well: bool,
 }
 
-// Whether a read went well; where it failed, why, to standard error.
-fn is_read(got: isize) -> bool {
-    if got < 0 {
-        os::fail(b"myard: standard input");
-    }
-    got >= 0
-}
-
-// Bytes of the input: more is to be read where the recording has not ended.
-fn judged(judge: Judge, bytes: &[u8]) -> Went
-    requires { ⌜ Within judge × (0 < length (now bytes)) ⌝ }
-    ensures { λ r. ⌜ Leaves judge (r .next) (r .on) ⌝ }
+// A block of the input: what a read brought is judged, and more is to be read where the recording has not ended. Where it brought nothing the input is over
+// or cannot be read.
+fn block(turn: &mut u64, judge: Judge, input: &mut [u8]) -> Went
+    requires { ⌜ Within judge × (0 < length (now input)) ⌝ }
+    requires { ⌜ On (now turn) (saidOf judge) ⌝ }
+    ensures { λ r. ⌜ Left (now (turn .exit)) r ⌝ }
+    ensures { λ r. ⌜ (r .on ≡ true → mostBytes - passed (r .next .scanner) < mostBytes - passed (judge .scanner)) ⌝ }
 {
-    let next = judge.bytes(bytes);
+    let got = shell::more(turn, b"myard: standard input", input);
+    let n = got.count;
+    if n == 0 {
+        return Went {
+            next: judge,
+            on: false,
+            well: got.well,
+        };
+    }
+    let next = judge.bytes(&input[..n]);
     let scanner = next.scanner;
     Went {
         next: next,
@@ -54,60 +63,51 @@ fn judged(judge: Judge, bytes: &[u8]) -> Went
     }
 }
 
-// A block of the input: what a read brought is judged, and where it brought nothing the input is over or cannot be read.
-fn block(judge: Judge, input: &mut [u8]) -> Went
-    requires { ⌜ Within judge ⌝ }
-    ensures { λ r. ⌜ Leaves judge (r .next) (r .on) ⌝ }
-{
-    let got = libc::read(STDIN_FILENO, input);
-    let n = io::count(got, input);
-    if n == 0 {
-        return Went {
-            next: judge,
-            on: false,
-            well: is_read(got),
-        };
-    }
-    judged(judge, &input[..n])
-}
-
 // The blocks, one after the other, until the input is over or the recording has ended: nothing is read after its end.
-fn blocks(input: &mut [u8]) -> Went {
+fn blocks(turn: &mut u64, input: &mut [u8]) -> Went
+    requires { ⌜ Trace (now turn) [] [] [] ⌝ }
+    requires { ⌜ 0 < length (now input) ⌝ }
+    ensures { λ r. ⌜ Left (now (turn .exit)) r × (r .on ≡ false) ⌝ }
+{
     let mut went = Went {
         next: Judge::unheard(),
         on: true,
         well: true,
     };
     while went.on {
-        went = block(went.next, input);
+        went = block(turn, went.next, input);
     }
     went
 }
 
-// The first bytes, to standard output; where that fails, why, to standard error.
-fn show(bytes: &[u8], count: usize) {
-    if count > bytes.len() {
-        return;
-    }
-    let is_shown = io::write_all(STDOUT_FILENO, &bytes[..count]);
-    if !is_shown {
-        os::fail(b"myard: standard output");
-    }
-}
-
-// What is said at the end, where all reads went well.
-fn say(judge: Judge) {
+// What is said at the end.
+fn say(turn: &mut u64, judge: Judge) -> bool
+    requires { ⌜ Closes judges (now turn) (saidOf judge []) [] ⌝ }
+    ensures { λ r. ⌜ Ends judges (now (turn .exit)) r ⌝ }
+{
     let last = judge.last();
     let verdict = last.verdict;
     let text = line_for(verdict);
     let bytes = text.bytes;
-    show(&bytes, text.len);
+    let n = text.len;
+    shell::show(turn, b"myard: standard output", &bytes[..n])
+}
+
+// All of it, said where all reads went well: WHAT IS HANDED OUT IS THE JUDGEMENT OF THE RECORDING.
+fn whole(turn: &mut u64, input: &mut [u8]) -> bool
+    requires { ⌜ Trace (now turn) [] [] [] ⌝ }
+    requires { ⌜ 0 < length (now input) ⌝ }
+    ensures { λ r. ⌜ Ends judges (now (turn .exit)) r ⌝ }
+{
+    let went = blocks(turn, input);
+    if went.well {
+        return say(turn, went.next);
+    }
+    false
 }
 
 fn main() {
+    let mut turn = shell::start();
     let mut input = [0u8; 4096];
-    let went = blocks(&mut input);
-    if went.well {
-        say(went.next);
-    }
+    whole(&mut turn, &mut input);
 }

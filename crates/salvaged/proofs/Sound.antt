@@ -112,7 +112,7 @@ module _ (n : ℕ) (l : Log) (s : Sound l) (k : 1 ≤ n → Settled l) where
       go : (f : Found) → View n f → l .alone ≡ given.Nothing → Settled (newHeard l f)
       go found.Over is-over e = made-alone l item.Over tt refl s
       go (found.Bad m) (is-bad h) e = made-alone l (item.E (n + 1)) (h, tt) ((omega arith, omega (arith, h)), refl) s
-      go (found.Format f) (is-format p) e = format-settled l f p s
+      go (found.Format f) (is-format z p) e = format-settled l f p s
       go (found.Word m w) (is-word h p) e = word-settled l w p (k h) e
 
   end-settled : Settled (heard l (endIn n))

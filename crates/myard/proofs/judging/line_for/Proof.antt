@@ -28,7 +28,7 @@ over-requires : tie.Need-over-requires
 over-requires c κs = search needs
 
 returns : tie.Need-returns
-returns c = search needs
+returns c = rw (c .before .enum-told .given .1) (c .yes .ensures)
 
 returns-2 : tie.Need-returns-2
 returns-2 c = rw (c .before .before .verdict .given .1) (c .numbered .ensures)
@@ -37,7 +37,7 @@ returns-3 : tie.Need-returns-3
 returns-3 c = rw (c .before .before .verdict2 .given .1) (c .numbered2 .ensures)
 
 returns-4 : tie.Need-returns-4
-returns-4 c = search needs
+returns-4 c = rw (c .before .enum-told2 .given .1) (c .over .ensures)
 
 pub line-for-spec : {M : Type 1} → statement M
 line-for-spec =
