@@ -99,8 +99,10 @@ typedef struct {
 
 /* A fresh reader of a format. In S, V, A and B it takes the first report that begins. In U, T and W, where data can
  * look like a first byte, it drops each byte up to the first ISTROLF_SILENCE, and so it does behind a byte that fits no
- * place and behind an ISTROLF_BREAK: a port that tells no silences gets no report. Refusal: BAD_LETTER, and then the
- * reader is a fresh one of U; look at the refusal. */
+ * place and behind an ISTROLF_BREAK: a port that tells no silences gets no report. A reply of the box is read like any
+ * bytes: in T, V, A and B it can look like a report, and in T an ACK, which a waking box sends too, begins one with L and M
+ * down. A host that asks for replies, or wakes a box, uses istrolf_told_read. Refusal: BAD_LETTER, and then the reader is a
+ * fresh one of U; look at the refusal. */
 istrolf_new_reader istrolf_reader_fresh(uint8_t letter);
 
 /* One word. Refusals: BAD_STATE, BAD_WORD. */
@@ -118,10 +120,12 @@ istrolf_reading istrolf_reader_read(istrolf_reader reader, const uint16_t *words
  * report of a release was lost, two presses are one. V's reports do not carry M.
  *
  * The first report of a fresh watch teaches it which buttons are down, and tells nothing: a button that is held when the
- * recorder is switched on is no press. So a fresh watch misses at most one press of each button, and never tells one too
- * many. To begin with buttons that are known, send 'D', then 5, and when the reply has come the stream mode again: in
- * prompt mode the box remembers nothing, so no report behind the reply shows an older state. What is pressed and let go
- * before the mode is set is not seen. Do not ask while the box streams: where a button moves shortly before the 5, a
+ * recorder is switched on is no press. So a fresh watch misses at most one press of each button, and tells none too many
+ * where its reader hands out none that was not sent: in S, V, A and B whatever is lost, in U, T and W where each loss leaves
+ * an ISTROLF_BREAK. To begin with buttons that are known, send 'D', then 5, and when the reply has come the stream mode
+ * again: in prompt mode the box remembers nothing, so no report behind the reply shows an older state. D breaks off a report
+ * that is going and drops presses that were remembered and not yet shown; and what is pressed and let go before the mode is
+ * set is not seen. Do not ask while the box streams: where a button moves shortly before the 5, a
  * report behind the reply still shows the state before, and the watch may tell a press that was made long ago. Begin a new
  * watch where the format is changed: V's reports show M up, so M held would look like a press behind them.
  *
@@ -184,9 +188,9 @@ typedef struct {
         uint8_t buttons; /* the buttons now */
     } settings;
     struct {
-        istrolf_pair counter;  /* moved since the last report */
+        istrolf_pair counter;  /* moved since the last latch or format command */
         istrolf_pair position; /* 0 to 4095 */
-        istrolf_pair last;     /* the position last reported */
+        istrolf_pair last;     /* the position at that moment */
     } track;
     struct {
         uint8_t length;   /* bytes of the report or reply that is going, 0 if none is */
@@ -194,7 +198,7 @@ typedef struct {
         uint8_t bytes[5]; /* they, and then zeros */
     } going;
     struct {
-        uint8_t states[8]; /* button states that reports have yet to show, oldest first, and then zeros */
+        uint8_t states[8]; /* button states that no report has shown to its last byte, oldest first, and then zeros */
         uint8_t count;     /* how many they are */
         uint8_t showing;   /* 1 if the report that is going shows the first, and else 0 */
     } memory;
