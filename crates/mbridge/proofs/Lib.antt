@@ -1,4 +1,6 @@
--- What the functions' proofs share: lines in a slice (Filling), what a word gives (Words), and where the program stands (Turns).
+-- What the functions' proofs share: lines in a slice (Filling), what a word gives (Words), where the program stands (Turns); and a whole
+-- recording, report by report (Reports).
 pub mod Filling
 pub mod Words
 pub mod Turns
+pub mod Reports

@@ -144,6 +144,15 @@ fn taken(out: &mut [u8], at: usize, scanner: Scanner, bridge: Bridge, b: u8) -> 
     let scan = scanner.byte(b);
     let next = scan.next;
     let at_it = scan.found;
+    if let Found::Nothing = at_it {
+        return Went {
+            scanner: next,
+            bridge: bridge,
+            used: at,
+            on: !next.ended,
+            well: true,
+        };
+    }
     let put = found(out, at, bridge, at_it);
     let after = put.next;
     Went {
