@@ -1,2 +1,2 @@
--- What the proofs of the parts share.
-pub mod Shown
+-- What the functions' proofs share.
+pub mod Turns

@@ -1,2 +1,2 @@
--- What the program promises of its parts.
+-- What the program is to write.
 pub mod Blocks

@@ -1,73 +1,85 @@
 // msalvage: the salvage of standard input, to standard output.
-ghost use Prim.Native.Nat.{_≤_};
+ghost use Prim.Native.Nat.{_≤_, _<_};
+ghost use mathlib.Core.Path.{_≡_};
+ghost use mathlib.Core.Bool.{true, false};
+ghost use mathlib.Core.List.{[]};
 ghost use lib.ListN.{length, take};
-ghost use Rattle.salvaged.specs.Whole.{enough};
-ghost use Rattle.msalvage.specs.Blocks.{Reads, Shows};
-use libc::STDIN_FILENO;
-use libc::STDOUT_FILENO;
+ghost use Rattle.shell.specs.Outside.{Trace};
+ghost use Rattle.shell.specs.Standing.{Closes, Ends};
+ghost use Rattle.salvaged.specs.Listing.{salvageOf};
+ghost use Rattle.salvaged.specs.Whole.{decides, enough};
+ghost use Rattle.msalvage.specs.Blocks.{salvages, Holds, Left};
 
 // The input so far: how many bytes, whether more is to be read, and whether each read went well.
-struct Got {
+struct Went {
     count: usize,
     on: bool,
     well: bool,
 }
 
-// Whether a read went well; where it failed, why, to standard error.
-fn is_read(got: isize) -> bool {
-    if got < 0 {
-        os::fail(b"msalvage: standard input");
-    }
-    got >= 0
-}
-
 // What a read brings, behind the bytes that are there. Where it brings nothing the input is over or cannot be read.
-fn block(count: usize, input: &mut [u8]) -> Got
-    requires { ⌜ count ≤ length (now input) ⌝ }
-    ensures { λ r. ⌜ Reads count (length (now (input .entry))) (r .count) (r .on) ⌝ }
+fn block(turn: &mut u64, count: usize, input: &mut [u8]) -> Went
+    requires { ⌜ count < length (now input) ⌝ }
+    requires { ⌜ Holds (now turn) (take count (now input)) ⌝ }
+    ensures { λ r. ⌜ Left (now (turn .exit)) (now (input .exit)) r ⌝ }
+    ensures { λ r. ⌜ (r .on ≡ true → count < r .count) ⌝ }
 {
-    let got = libc::read(STDIN_FILENO, &mut input[count..]);
-    let n = io::count(got, &input[count..]);
-    Got {
+    let got = shell::behind(turn, b"msalvage: standard input", input, count);
+    let n = got.count;
+    Went {
         count: count + n,
         on: n != 0,
-        well: is_read(got),
+        well: got.well,
     }
 }
 
 // The blocks, one behind the other, until the input is over or the buffer is full.
-fn blocks(input: &mut [u8]) -> Got
-    ensures { λ r. ⌜ r .count ≤ length (now (input .exit)) ⌝ }
+fn blocks(turn: &mut u64, input: &mut [u8]) -> Went
+    requires { ⌜ Trace (now turn) [] [] [] ⌝ }
+    requires { ⌜ decides ≤ length (now input) ⌝ }
+    ensures { λ r. ⌜ (r .count ≤ length (now (input .exit))) ⌝ }
+    ensures { λ r. ⌜ (r .well ≡ true → Closes salvages (now (turn .exit)) (salvageOf (take (r .count) (now (input .exit)))) []) ⌝ }
+    ensures { λ r. ⌜ (r .well ≡ false → Ends salvages (now (turn .exit)) false) ⌝ }
 {
-    let mut got = Got {
+    let mut went = Went {
         count: 0,
         on: true,
         well: true,
     };
-    while got.on & (got.count < input.len()) {
-        got = block(got.count, input);
+    while went.on & (went.count < input.len()) {
+        went = block(turn, went.count, input);
     }
-    got
+    went
 }
 
-// The salvage of the first bytes, all of it; where it cannot be written, why, to standard error.
-fn show(input: &[u8], count: usize, out: &mut [u8])
-    requires { ⌜ (count ≤ length (now input)) × (enough ≤ length (now out)) ⌝ }
-    ensures { λ _. ⌜ Shows (take count (now (input .entry))) (now (out .exit)) ⌝ }
+// The salvage of bytes, all of it.
+fn show(turn: &mut u64, bytes: &[u8], out: &mut [u8]) -> bool
+    requires { ⌜ enough ≤ length (now out) ⌝ }
+    requires { ⌜ Closes salvages (now turn) (salvageOf (now bytes)) [] ⌝ }
+    ensures { λ r. ⌜ Ends salvages (now (turn .exit)) r ⌝ }
 {
-    let told = salvaged::list(&input[..count], out);
+    let told = salvaged::list(bytes, out);
     let n = told.written;
-    if !io::write_all(STDOUT_FILENO, &out[..n]) {
-        os::fail(b"msalvage: standard output");
-    }
+    shell::show(turn, b"msalvage: standard output", &out[..n])
 }
 
-// Nothing is written before all is read, and nothing where a read failed.
+// All of it: WHAT IS HANDED OUT IS THE SALVAGE OF THE RECORDING. Nothing is written before all is read that matters, and nothing where a read failed.
+fn whole(turn: &mut u64, input: &mut [u8], out: &mut [u8]) -> bool
+    requires { ⌜ Trace (now turn) [] [] [] ⌝ }
+    requires { ⌜ (decides ≤ length (now input)) × (enough ≤ length (now out)) ⌝ }
+    ensures { λ r. ⌜ Ends salvages (now (turn .exit)) r ⌝ }
+{
+    let went = blocks(turn, input);
+    let n = went.count;
+    if went.well {
+        return show(turn, &input[..n], out);
+    }
+    false
+}
+
 fn main() {
+    let mut turn = shell::start();
     let mut input = [0u8; 24588];
     let mut out = [0u8; 163920];
-    let got = blocks(&mut input);
-    if got.well {
-        show(&input, got.count, &mut out);
-    }
+    whole(&mut turn, &mut input, &mut out);
 }

@@ -97,7 +97,7 @@ pub then : {l : Log} {h next : Heard} {slice later : List ℕ} (f : Found) → H
 then f p q = record { fine = q .fine; same = q .same ∙ ap (λ (l : Log). heard l f) (p .same) }
 
 -- where nothing is found nothing is heard
-nothing-heard : (l : Log) → heard l found.Nothing ≡ l
+pub nothing-heard : (l : Log) → heard l found.Nothing ≡ l
 unfolding heard
 nothing-heard l = go (l .alone)
   where
@@ -105,7 +105,7 @@ nothing-heard l = go (l .alone)
     go given.Nothing = refl
     go (given.One i) = refl
 
-told-heard : (fs : List Found) (l : Log) → heardAll l fs ≡ heardAll l (told fs)
+pub told-heard : (fs : List Found) (l : Log) → heardAll l fs ≡ heardAll l (told fs)
 unfolding heardAll
 told-heard [] l = refl
 told-heard (found.Nothing ∷ fs) l = rw (nothing-heard l) (told-heard fs l)

@@ -29,6 +29,10 @@ pub record Account (l : Log) (items : List Item) : Type 0 where
 abbrev pub enough : ℕ
 enough = 40 * (mostWords + 2)
 
+-- the bytes of an input that decide: six for each line, of which there is the format's, one for each word, and one for a word too many
+abbrev pub decides : ℕ
+decides = 6 * (mostWords + 2)
+
 -- the whole text is at the front of the slice, and nothing behind it is touched
 pub record AllThere (input before : List ℕ) (answer : Salvaged) (after : List ℕ) : Type 0 where
   pub whole : answer .whole ≡ true
