@@ -48,7 +48,7 @@ pub other-known : (w : ℕ) → widthKnown (otherWidth w) ≡ true
 other-known w = cases (λ (v : ℕ). widthKnown v ≡ true) (eqb w width) (λ _. refl) (λ _. refl)
 
 -- a line is short
-sixteen-few : (x : ℤ) → Sixteen x → natAbs x < 10 ^ 5
+pub sixteen-few : (x : ℤ) → Sixteen x → natAbs x < 10 ^ 5
 sixteen-few (pos n) h = omega (arith, ltb-false high n (neither (ltZ (pos n) low) (ltb high n) h .1))
 sixteen-few (negsuc n) h = omega (arith, ltb-false high n (neither (ltb high n) (ltZ (pos high) (negsuc n)) h .0))
 
