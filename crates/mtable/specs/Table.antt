@@ -68,7 +68,9 @@ salvageRow salvage = cond salvage (0x73 ∷ 0x61 ∷ 0x6C ∷ 0x76 ∷ 0x61 ∷ 
 
 -- the end, or a fault and its line
 abbrev pub lastRow : ℕ → List ℕ
-lastRow fault = cond (eqb fault 0) (0x65 ∷ 0x6E ∷ 0x64 ∷ commas 7 ++ newline ∷ []) (0x66 ∷ 0x61 ∷ 0x75 ∷ 0x6C ∷ 0x74 ∷ cellOf (pos fault) ++ commas 6 ++ newline ∷ [])
+lastRow fault =
+    cond (eqb fault 0) (0x65 ∷ 0x6E ∷ 0x64 ∷ commas 7 ++ newline ∷ [])
+    (0x66 ∷ 0x61 ∷ 0x75 ∷ 0x6C ∷ 0x74 ∷ cellOf (pos fault) ++ commas 6 ++ newline ∷ [])
 
 -- THE TABLE OF A LISTING, whole
 abbrev pub tableOf : List ℕ → List ℕ

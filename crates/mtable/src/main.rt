@@ -1,5 +1,5 @@
-// mtable: a listing on standard input, as a table on standard output: comma separated, a head line, a first row that says so where the listing is a salvage's, a row
-// for each item, and a last row that tells the end or a fault and its line.
+// mtable: a listing on standard input, as a table on standard output: comma separated, a head line, a first row that says
+// so where the listing is a salvage's, a row for each item, and a last row that tells the end or a fault and its line.
 ghost use Prim.Native.Nat.{ℕ, _+_, _*_, _≤_, _<_};
 ghost use mathlib.Core.Path.{_≡_};
 ghost use mathlib.Core.Bool.{true, false};
