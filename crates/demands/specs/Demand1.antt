@@ -64,7 +64,7 @@ use Rattle.listing.specs.declared.Given.{Given}
 use Rattle.listing.proofs.Answers as listing
 use Rattle.listing.proofs.Refusals as listing-refusals
 use Rattle.listing.proofs.Calls as calls
-use Rattle.text.specs.Promises.{NonePromise, WithPromise, DecimalPromise, NumberPromise, PutPromise, ByteToPromise, DecimalToPromise}
+use Rattle.text.specs.Promises.{NonePromise, WithPromise, DecimalPromise, NumberPromise, PutPromise, ByteToPromise, BytesToPromise, DecimalToPromise}
 use Rattle.text.specs.declared.Text.{Text}
 use Rattle.text.proofs.Answers as text
 use Rattle.yard.specs.Good as yards
@@ -196,7 +196,7 @@ feed-one m input before a b after behind = listing.one-feed m input before
 pub finish-one : (m : Lister) (before : List ℕ) → OneWith (FinishPromise m before)
 finish-one m before a b after behind = listing.one-finish m before
 
--- `Text::none`, `with`, `decimal`, `put`, `byte_to`, `decimal_to`, and `Number::read`
+-- `Text::none`, `with`, `decimal`, `put`, `byte_to`, `bytes_to`, `decimal_to`, and `Number::read`
 pub no-text-one : One NonePromise
 no-text-one a b = text.one-none
 
@@ -214,6 +214,9 @@ put-one t at before a b after behind = text.one-put t at before
 
 pub byte-to-one : (before : List ℕ) (at byte : ℕ) → OneWith (ByteToPromise before at byte)
 byte-to-one before at byte a b after behind = text.one-byte-to before at byte
+
+pub bytes-to-one : (before : List ℕ) (at : ℕ) (bytes : List ℕ) → OneWith (BytesToPromise before at bytes)
+bytes-to-one before at bytes a b after behind = text.one-bytes-to before at bytes
 
 pub decimal-to-one : (before : List ℕ) (at width : ℕ) (x : ℤ) → OneWith (DecimalToPromise before at width x)
 decimal-to-one before at width x a b after behind = text.one-decimal-to before at width x

@@ -31,7 +31,8 @@ use Rattle.driver.proofs.Whole.{allOf, all-at-once}
 use Rattle.driver.proofs.Pieces.{quiet}
 use Rattle.driver.proofs.Calls.{next-kept, call-goes, takes-some, feed-within, last-kept, last-goes, ends-or-less}
 use Rattle.driver.proofs.Nearer.{passed, mostBytes, never-passed, goes-on, stays-ended}
-use Rattle.mbox.specs.Blocks.{box, On, Left}
+use Rattle.mbox.specs.Program.{mbox}
+use Rattle.mbox.specs.Blocks.{On, Left}
 use Rattle.mbox.specs.declared.Went.{Went}
 
 -- bytes, as the slice of a program tells them, and those of a part
@@ -50,14 +51,14 @@ of-rest m bytes at before after a p = rw (rest-is bytes at) at p
 
 -- it begins
 pub begins : (t : ℕ) → Trace t [] [] [] → (m : Driver) → m ≡ fresh → On t (allOf m)
-begins t h m e = standing.reworded box t recordingOf (allOf m) (λ _. []) (λ _. []) (standing.begins box t h) (λ q. rw e (sym (all-at-once q))) (λ _. refl)
+begins t h m e = standing.reworded mbox t recordingOf (allOf m) (λ _. []) (λ _. []) (standing.begins mbox t h) (λ q. rw e (sym (all-at-once q))) (λ _. refl)
 
 -- IN A BLOCK: so many bytes are taken; of the rest and of whatever follows, the driver writes what is still to be written
 pub record Here (t : ℕ) (m : Driver) (bytes : List ℕ) (here : Driver) (at : ℕ) (well : Bool) : Type 0 where
   pub within : at ≤ length bytes
   pub kept : Kept here
   pub stands : well ≡ true → On t (λ q. allOf here (drop at bytes ++ q))
-  pub failed : well ≡ false → Failed box t
+  pub failed : well ≡ false → Failed mbox t
   pub nearer : (here .ended ≡ true) ⊎ (passed m + at ≤ passed here)
 
 pub here-begins : (t : ℕ) (m : Driver) (bytes : List ℕ) → Kept m → On t (λ q. allOf m (bytes ++ q)) → Here t m bytes m 0 true
@@ -69,7 +70,7 @@ left-of bytes at m = (mostLines + 1) * (length bytes - at) + m .owed
 
 -- a call, and what it wrote
 module _ {t t′ : ℕ} {m : Driver} {bytes : List ℕ} {here : Driver} {at : ℕ} {after : List ℕ} {a : Driven} {shown : Bool} (before : List ℕ) (b : Bytes bytes) (h : Here t m bytes here at true)
-    (p : FeedPromise here (drop at bytes) before a after) (w : Handed (box .output) t t′ shown (take (a .written) after)) where
+    (p : FeedPromise here (drop at bytes) before a after) (w : Handed (mbox .output) t t′ shown (take (a .written) after)) where
   rest-bytes : Bytes (drop at bytes)
   rest-bytes = bytes-behind at bytes b
 
@@ -89,8 +90,8 @@ module _ {t t′ : ℕ} {m : Driver} {bytes : List ℕ} {here : Driver} {at : �
       record {
         within = omega (arith, h .within, feed-within here rest before after a p .0, length-drop at bytes);
         kept = next-kept here rest before after a (h .kept) rest-bytes p;
-        stands = standing.writes box t t′ shown (take (a .written) after) before-it behind-it (λ _. []) (h .stands refl) goes w;
-        failed = standing.fails-writing box t t′ shown (take (a .written) after) before-it behind-it (λ _. []) (h .stands refl) goes w;
+        stands = standing.writes mbox t t′ shown (take (a .written) after) before-it behind-it (λ _. []) (h .stands refl) goes w;
+        failed = standing.fails-writing mbox t t′ shown (take (a .written) after) before-it behind-it (λ _. []) (h .stands refl) goes w;
         nearer = ⊎-elim (λ e. inl (stays-ended here rest before after a (h .kept) rest-bytes p e))
             (λ k. ⊎-elim inl (λ l. inr (omega (arith, k, l))) (goes-on here rest before after a (h .kept) rest-bytes p)) (h .nearer);
       }
@@ -134,7 +135,7 @@ module _ {t : ℕ} {m : Driver} {bytes : List ℕ} {here : Driver} {at : ℕ} {w
   leaves =
       record {
         kept = h .kept;
-        stands = λ w. standing.reworded box t (λ q. allOf here (drop at bytes ++ q)) (allOf here) (λ _. []) (λ _. []) (h .stands w)
+        stands = λ w. standing.reworded mbox t (λ q. allOf here (drop at bytes ++ q)) (allOf here) (λ _. []) (λ _. []) (h .stands w)
             (λ q. ap (λ (l : List ℕ). allOf here (l ++ q)) (drop-of-length-le bytes {i = at} (omega (arith, all w)))) (λ _. refl);
         failed = h .failed;
         going = left well (not (here .ended));
@@ -147,16 +148,16 @@ module _ {t : ℕ} {m : Driver} {bytes : List ℕ} {here : Driver} {at : ℕ} {w
       (λ k. omega (arith, k, some, all (left well (not (here .ended)) y), never-passed m first, never-passed here (h .kept))) (h .nearer)
 
 -- a read that brought nothing
-module _ {t t′ : ℕ} {m : Driver} {got : Got} {part : List ℕ} (h : Kept m) (s : On t (allOf m)) (b : Brought (box .input) t t′ got part) where
+module _ {t t′ : ℕ} {m : Driver} {got : Got} {part : List ℕ} (h : Kept m) (s : On t (allOf m)) (b : Brought (mbox .input) t t′ got part) where
   pub behind : got .well ≡ true → On t′ (λ q. allOf m (take (got .count) part ++ q))
-  behind = standing.reads box t t′ got part (allOf m) (λ _. []) s b
+  behind = standing.reads mbox t t′ got part (allOf m) (λ _. []) s b
 
   pub over : 0 < length part → got .count ≡ 0 → Left t′ (record { next = m; on = false; well = got .well })
   over some z =
       record {
         kept = h;
-        stands = λ w. standing.reworded box t′ (λ q. allOf m (take (got .count) part ++ q)) (allOf m) (λ _. []) (λ _. []) (behind w) (λ q. rw z) (λ _. refl);
-        failed = standing.fails-reading box t t′ got part (allOf m) (λ _. []) s b;
+        stands = λ w. standing.reworded mbox t′ (λ q. allOf m (take (got .count) part ++ q)) (allOf m) (λ _. []) (λ _. []) (behind w) (λ q. rw z) (λ _. refl);
+        failed = standing.fails-reading mbox t t′ got part (allOf m) (λ _. []) s b;
         going = λ y. absurd (true≢false (sym y));
         stops = λ n w. inl (b .over w some z);
       }
@@ -177,29 +178,29 @@ falls-off false next here h = omega arith
 -- AT THE END: all is read, and what the driver writes of the end is left
 pub record Last (t : ℕ) (here : Driver) (well : Bool) : Type 0 where
   pub kept : Kept here
-  pub closes : well ≡ true → Closes box t (allOf here []) []
-  pub failed : well ≡ false → Failed box t
+  pub closes : well ≡ true → Closes mbox t (allOf here []) []
+  pub failed : well ≡ false → Failed mbox t
 
 pub last-begins : (t : ℕ) (w : Went) → Left t w → w .on ≡ false → w .well ≡ true → Last t (w .next) true
 last-begins t w l off well =
     record {
       kept = l .kept;
-      closes = λ _. ⊎-elim (standing.over box t (allOf (w .next)) (λ _. []) (l .stands well))
-          (λ e. standing.settled box t (allOf (w .next)) (λ _. []) (allOf (w .next) []) [] (l .stands well) (λ q. quiet q (w .next) (l .kept) e ∙ sym (quiet [] (w .next) (l .kept) e)) (λ _. refl))
+      closes = λ _. ⊎-elim (standing.over mbox t (allOf (w .next)) (λ _. []) (l .stands well))
+          (λ e. standing.settled mbox t (allOf (w .next)) (λ _. []) (allOf (w .next) []) [] (l .stands well) (λ q. quiet q (w .next) (l .kept) e ∙ sym (quiet [] (w .next) (l .kept) e)) (λ _. refl))
           (l .stops off well);
       failed = λ e. absurd (true≢false e);
     }
 
 module _ {t t′ : ℕ} {here : Driver} {after : List ℕ} {a : Driven} {shown : Bool} (before : List ℕ) (h : Last t here true) (p : FinishPromise here before a after)
-    (w : Handed (box .output) t t′ shown (take (a .written) after)) where
+    (w : Handed (mbox .output) t t′ shown (take (a .written) after)) where
   pub last-calls : Last t′ (a .next) shown
   last-calls =
       let bytes = take (a .written) after in
-      let c : Closes box t (bytes ++ allOf (a .next) []) [] = subst (λ (l : List ℕ). Closes box t l []) (last-goes here before after a (h .kept) p) (h .closes refl) in
+      let c : Closes mbox t (bytes ++ allOf (a .next) []) [] = subst (λ (l : List ℕ). Closes mbox t l []) (last-goes here before after a (h .kept) p) (h .closes refl) in
       record {
         kept = last-kept here before after a (h .kept) p;
-        closes = standing.shows box t t′ shown bytes (allOf (a .next) []) [] c w;
-        failed = standing.fails-showing box t t′ shown bytes (allOf (a .next) []) [] c w;
+        closes = standing.shows mbox t t′ shown bytes (allOf (a .next) []) [] c w;
+        failed = standing.fails-showing mbox t t′ shown bytes (allOf (a .next) []) [] c w;
       }
 
   -- and less of the end is left by each
@@ -210,6 +211,6 @@ module _ {t t′ : ℕ} {here : Driver} {after : List ℕ} {a : Driven} {shown :
       (λ _. omega arith)
 
 -- IT ENDS
-pub ends : (t : ℕ) (here : Driver) (well : Bool) → Last t here well → well && not (here .ended) ≡ false → Ends box t well
-ends t here false h e = standing.fails box t (h .failed refl)
-ends t here true h e = standing.ends box t (subst (λ (l : List ℕ). Closes box t l []) (quiet [] here (h .kept) (not-false (here .ended) e)) (h .closes refl))
+pub ends : (t : ℕ) (here : Driver) (well : Bool) → Last t here well → well && not (here .ended) ≡ false → Ends mbox t well
+ends t here false h e = standing.fails mbox t (h .failed refl)
+ends t here true h e = standing.ends mbox t (subst (λ (l : List ℕ). Closes mbox t l []) (quiet [] here (h .kept) (not-false (here .ended) e)) (h .closes refl))

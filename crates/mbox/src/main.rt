@@ -10,7 +10,8 @@ ghost use Rattle.driver.specs.Promises.{enough};
 ghost use Rattle.driver.proofs.Kept.{Kept};
 ghost use Rattle.driver.proofs.Whole.{allOf};
 ghost use Rattle.driver.proofs.Nearer.{passed, mostBytes};
-ghost use Rattle.mbox.specs.Blocks.{box, On, Left};
+ghost use Rattle.mbox.specs.Program.{mbox};
+ghost use Rattle.mbox.specs.Blocks.{On, Left};
 use driver::Driver;
 
 // Where the events stand: the driver, whether more is to be read, and whether each read and write went well.
@@ -84,7 +85,7 @@ fn blocks(turn: &mut u64, input: &mut [u8], out: &mut [u8]) -> Went
 // The end of the input, which only a recording has whose reads and writes all went well; its lines too may stop for room.
 fn end(turn: &mut u64, went: Went, out: &mut [u8]) -> bool
     requires { ⌜ Left (now turn) went × (went .on ≡ false) × (went .well ≡ true) × (enough ≤ length (now out)) ⌝ }
-    ensures { λ r. ⌜ Ends box (now (turn .exit)) r ⌝ }
+    ensures { λ r. ⌜ Ends mbox (now (turn .exit)) r ⌝ }
 {
     let mut here = went.next;
     let mut well = true;
@@ -101,7 +102,7 @@ fn end(turn: &mut u64, went: Went, out: &mut [u8]) -> bool
 fn whole(turn: &mut u64, input: &mut [u8], out: &mut [u8]) -> bool
     requires { ⌜ Trace (now turn) [] [] [] ⌝ }
     requires { ⌜ (enough ≤ length (now out)) × (0 < length (now input)) ⌝ }
-    ensures { λ r. ⌜ Ends box (now (turn .exit)) r ⌝ }
+    ensures { λ r. ⌜ Ends mbox (now (turn .exit)) r ⌝ }
 {
     let went = blocks(turn, input, out);
     if went.well {

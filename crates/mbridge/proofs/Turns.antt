@@ -27,7 +27,8 @@ use Rattle.shell.specs.Outside.{Trace, Brought, Handed}
 use Rattle.shell.specs.Standing.{Stands, Closes, Ends, silent}
 use Rattle.shell.specs.declared.Got.{Got}
 use Rattle.shell.proofs.Laws as standing
-use Rattle.mbridge.specs.Recording.{waiting, bridgeBehind, linesFor, linesFrom, bridgedOf, mbridge}
+use Rattle.mbridge.specs.Recording.{waiting, bridgeBehind, linesFor, linesFrom, bridgedOf}
+use Rattle.mbridge.specs.Program.{mbridge}
 use Rattle.mbridge.specs.Blocks.{most, Puts, Takes, restOf, Midway, Stepped, Steps, Left}
 use Rattle.mbridge.specs.declared.Put.{Put}
 use Rattle.mbridge.specs.declared.Went.{Went}

@@ -13,7 +13,8 @@ use Rattle.listing.proofs.Ended.{Within}
 use Rattle.bridge.specs.Good.{good}
 use Rattle.bridge.specs.declared.Bridge.{Bridge}
 use Rattle.shell.specs.Standing.{Stands, Failed, Ends, silent}
-use Rattle.mbridge.specs.Recording.{bridgeBehind, linesFor, linesFrom, mbridge}
+use Rattle.mbridge.specs.Recording.{bridgeBehind, linesFor, linesFrom}
+use Rattle.mbridge.specs.Program.{mbridge}
 use Rattle.mbridge.specs.declared.Put.{Put}
 use Rattle.mbridge.specs.declared.Went.{Went}
 

@@ -11,7 +11,6 @@ use Rattle.bridge.specs.Splitting.{bytesAll}
 use Rattle.bridge.specs.Line.{given, behind}
 use Rattle.bridge.specs.Promises.{freshOf}
 use Rattle.bridge.specs.declared.Bridge.{Bridge}
-use Rattle.shell.specs.Standing.{Program, program, silent}
 use Rattle.mbridge.specs.Lines.{formatLine, byteLines, badLine, overLine}
 
 -- the bridge before a format has come
@@ -44,7 +43,3 @@ linesFrom b (f ∷ fs) = linesFor b f ++ linesFrom (bridgeBehind b f) fs
 -- of a whole input
 unfoldable pub bridgedOf : List ℕ → List ℕ
 bridgedOf input = linesFrom waiting (recordingOf width input)
-
--- "mbridge": THE RECORDING OF V of its input, and nothing on standard error
-abbrev pub mbridge : Program
-mbridge = program (109 ∷ 98 ∷ 114 ∷ 105 ∷ 100 ∷ 103 ∷ 101 ∷ []) bridgedOf silent

@@ -10,7 +10,7 @@ ghost use Rattle.bridge.specs.Good.{good};
 ghost use Rattle.shell.specs.Outside.{Trace};
 ghost use Rattle.shell.specs.Standing.{Stands, Closes, Ends, silent};
 ghost use Rattle.mbridge.specs.Lines.{numbered, byteLines};
-ghost use Rattle.mbridge.specs.Recording.{mbridge};
+ghost use Rattle.mbridge.specs.Program.{mbridge};
 ghost use Rattle.mbridge.specs.Blocks.{most, Puts, Takes, restOf, Midway, Steps, Ready, Left};
 use bridge::Bridge;
 use listing::Found;
@@ -45,19 +45,6 @@ fn numbered(out: &mut [u8], at: usize, letter: u8, n: u32) -> usize
     let number = Text::byte_to(out, tab, b'\t');
     let newline = Text::decimal_to(out, number, 1, n as i64);
     Text::byte_to(out, newline, b'\n')
-}
-
-// Bytes as they are.
-fn same(out: &mut [u8], at: usize, bytes: &[u8]) -> usize
-    ensures { λ r. ⌜ slice (now (out .exit)) r ≡ filledBy (slice (now (out .entry)) at) (now (bytes .entry)) ⌝ }
-{
-    let mut end = at;
-    let mut i: usize = 0;
-    while i < bytes.len() {
-        end = Text::byte_to(out, end, bytes[i]);
-        i = i + 1;
-    }
-    end
 }
 
 // The lines of bytes.
@@ -96,7 +83,7 @@ fn format(out: &mut [u8], at: usize, bridge: Bridge, letter: u8) -> Put
 {
     let new = Bridge::fresh(letter);
     let next = new.bridge;
-    let end = same(out, at, b"F\tV\n");
+    let end = Text::bytes_to(out, at, b"F\tV\n");
     Put {
         next: next,
         used: end,
@@ -123,7 +110,7 @@ fn found(out: &mut [u8], at: usize, bridge: Bridge, found: Found) -> Put
             }
         },
         Found::Over => {
-            let end = same(out, at, b"E\tover\n");
+            let end = Text::bytes_to(out, at, b"E\tover\n");
             Put {
                 next: bridge,
                 used: end,

@@ -20,7 +20,8 @@ use Rattle.salvaged.specs.Whole.{decides, enough}
 use Rattle.salvaged.specs.declared.Salvaged.{Salvaged}
 use Rattle.salvaged.proofs.Whole.{room-for-all}
 use Rattle.salvaged.proofs.Settles.{settles}
-use Rattle.msalvage.specs.Blocks.{salvages, Holds, Left}
+use Rattle.msalvage.specs.Program.{msalvage}
+use Rattle.msalvage.specs.Blocks.{Holds, Left}
 use Rattle.msalvage.specs.declared.Went.{Went}
 
 -- it begins
@@ -28,14 +29,14 @@ pub begins : (t : ℕ) (input : List ℕ) → Trace t [] [] [] → Left t input 
 begins t input h =
     record {
       within = omega arith;
-      holds = λ _. standing.begins salvages t h;
+      holds = λ _. standing.begins msalvage t h;
       failed = λ e. absurd (true≢false e);
       going = λ _. refl;
       stops = λ e. absurd (true≢false e);
     }
 
 -- a read behind the bytes that are there
-module _ {t t′ : ℕ} {held : ℕ} {got : Got} {before after : List ℕ} (room : held < length before) (s : Holds t (take held before)) (b : Behind (salvages .input) held t t′ got before after) where
+module _ {t t′ : ℕ} {held : ℕ} {got : Got} {before after : List ℕ} (room : held < length before) (s : Holds t (take held before)) (b : Behind (msalvage .input) held t t′ got before after) where
   abbrev in-it : held ≤ length before
   in-it = omega arith
 
@@ -47,10 +48,10 @@ module _ {t t′ : ℕ} {held : ℕ} {got : Got} {before after : List ℕ} (room
       let r = b .brought in-it in
       record {
         within = b .within in-it;
-        holds = λ w. standing.reworded salvages t′ (λ q. salvageOf (take held before ++ (take (got .count) (drop held after) ++ q))) (λ q. salvageOf (take (held + got .count) after ++ q)) (λ _. []) (λ _. [])
-            (standing.reads salvages t t′ got (drop held after) (λ q. salvageOf (take held before ++ q)) (λ _. []) s r w)
+        holds = λ w. standing.reworded msalvage t′ (λ q. salvageOf (take held before ++ (take (got .count) (drop held after) ++ q))) (λ q. salvageOf (take (held + got .count) after ++ q)) (λ _. []) (λ _. [])
+            (standing.reads msalvage t t′ got (drop held after) (λ q. salvageOf (take held before ++ q)) (λ _. []) s r w)
             (λ q. ap salvageOf (sym (append-assoc (take held before) (take (got .count) (drop held after)) q) ∙ ap (λ (l : List ℕ). l ++ q) all)) (λ _. refl);
-        failed = standing.fails-reading salvages t t′ got (drop held after) (λ q. salvageOf (take held before ++ q)) (λ _. []) s r;
+        failed = standing.fails-reading msalvage t t′ got (drop held after) (λ q. salvageOf (take held before ++ q)) (λ _. []) s r;
         going = λ y. brought (got .well) refl (eqb-false (got .count) 0 (not-true (eqb (got .count) 0) y));
         stops = λ n w. r .over w (omega (arith, length-drop held after, b .long)) (eqb-true (got .count) 0 (not-false (eqb (got .count) 0) n));
       }
@@ -66,17 +67,17 @@ falls was false before size after e h w m = rw e (omega arith)
 
 -- ALL IS READ that matters: the input is over, or the buffer is full, and what is not read does not matter
 module _ {t : ℕ} {input : List ℕ} {w : Went} (l : Left t input w) (off : w .on && ltb (w .count) (length input) ≡ false) (room : decides ≤ length input) where
-  pub closes : w .well ≡ true → Closes salvages t (salvageOf (take (w .count) input)) []
+  pub closes : w .well ≡ true → Closes msalvage t (salvageOf (take (w .count) input)) []
   closes well = go (w .on) refl
     where
-      go : (on : Bool) → w .on ≡ on → Closes salvages t (salvageOf (take (w .count) input)) []
+      go : (on : Bool) → w .on ≡ on → Closes msalvage t (salvageOf (take (w .count) input)) []
       go false e =
-          subst (λ (b : List ℕ). Closes salvages t (salvageOf b) []) (append-nil (take (w .count) input))
-          (standing.over salvages t (λ q. salvageOf (take (w .count) input ++ q)) (λ _. []) (l .holds well) (l .stops e well))
+          subst (λ (b : List ℕ). Closes msalvage t (salvageOf b) []) (append-nil (take (w .count) input))
+          (standing.over msalvage t (λ q. salvageOf (take (w .count) input ++ q)) (λ _. []) (l .holds well) (l .stops e well))
       go true e =
           let full : ltb (w .count) (length input) ≡ false = rw e at off in
           let long = length-take-le (w .count) input (l .within) in
-          standing.settled salvages t (λ q. salvageOf (take (w .count) input ++ q)) (λ _. []) (salvageOf (take (w .count) input)) [] (l .holds well)
+          standing.settled msalvage t (λ q. salvageOf (take (w .count) input ++ q)) (λ _. []) (salvageOf (take (w .count) input)) [] (l .holds well)
           (λ q. settles (take (w .count) input) q (omega (arith, long, ltb-false (w .count) (length input) full))) (λ _. refl)
 
 -- all of the salvage is in the buffer

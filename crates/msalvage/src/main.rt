@@ -8,7 +8,8 @@ ghost use Rattle.shell.specs.Outside.{Trace};
 ghost use Rattle.shell.specs.Standing.{Closes, Ends};
 ghost use Rattle.salvaged.specs.Listing.{salvageOf};
 ghost use Rattle.salvaged.specs.Whole.{decides, enough};
-ghost use Rattle.msalvage.specs.Blocks.{salvages, Holds, Left};
+ghost use Rattle.msalvage.specs.Program.{msalvage};
+ghost use Rattle.msalvage.specs.Blocks.{Holds, Left};
 
 // The input so far: how many bytes, whether more is to be read, and whether each read went well.
 struct Went {
@@ -38,8 +39,8 @@ fn blocks(turn: &mut u64, input: &mut [u8]) -> Went
     requires { ⌜ Trace (now turn) [] [] [] ⌝ }
     requires { ⌜ decides ≤ length (now input) ⌝ }
     ensures { λ r. ⌜ (r .count ≤ length (now (input .exit))) ⌝ }
-    ensures { λ r. ⌜ (r .well ≡ true → Closes salvages (now (turn .exit)) (salvageOf (take (r .count) (now (input .exit)))) []) ⌝ }
-    ensures { λ r. ⌜ (r .well ≡ false → Ends salvages (now (turn .exit)) false) ⌝ }
+    ensures { λ r. ⌜ (r .well ≡ true → Closes msalvage (now (turn .exit)) (salvageOf (take (r .count) (now (input .exit)))) []) ⌝ }
+    ensures { λ r. ⌜ (r .well ≡ false → Ends msalvage (now (turn .exit)) false) ⌝ }
 {
     let mut went = Went {
         count: 0,
@@ -55,8 +56,8 @@ fn blocks(turn: &mut u64, input: &mut [u8]) -> Went
 // The salvage of bytes, all of it.
 fn show(turn: &mut u64, bytes: &[u8], out: &mut [u8]) -> bool
     requires { ⌜ enough ≤ length (now out) ⌝ }
-    requires { ⌜ Closes salvages (now turn) (salvageOf (now bytes)) [] ⌝ }
-    ensures { λ r. ⌜ Ends salvages (now (turn .exit)) r ⌝ }
+    requires { ⌜ Closes msalvage (now turn) (salvageOf (now bytes)) [] ⌝ }
+    ensures { λ r. ⌜ Ends msalvage (now (turn .exit)) r ⌝ }
 {
     let told = salvaged::list(bytes, out);
     let n = told.written;
@@ -67,7 +68,7 @@ fn show(turn: &mut u64, bytes: &[u8], out: &mut [u8]) -> bool
 fn whole(turn: &mut u64, input: &mut [u8], out: &mut [u8]) -> bool
     requires { ⌜ Trace (now turn) [] [] [] ⌝ }
     requires { ⌜ (decides ≤ length (now input)) × (enough ≤ length (now out)) ⌝ }
-    ensures { λ r. ⌜ Ends salvages (now (turn .exit)) r ⌝ }
+    ensures { λ r. ⌜ Ends msalvage (now (turn .exit)) r ⌝ }
 {
     let went = blocks(turn, input);
     let n = went.count;

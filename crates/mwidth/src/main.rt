@@ -7,7 +7,6 @@ ghost use mathlib.Core.List.{[]};
 ghost use lib.ListN.{length, take};
 ghost use Rattle.shell.specs.Outside.{Trace, Said};
 ghost use Rattle.shell.specs.Standing.{Stands, Closes, Ends};
-ghost use Rattle.text.specs.Growth.{slice, filledBy};
 ghost use Rattle.readback.specs.Steps.{good};
 ghost use Rattle.readback.specs.Pieces.{longest};
 ghost use Rattle.readback.specs.Held.{Ready, toGo};
@@ -105,28 +104,15 @@ fn blocks(turn: &mut u64, input: &mut [u8], out: &mut [u8]) -> Went
     went
 }
 
-// Bytes to a slice from a place on, and the place behind them.
-fn put(out: &mut [u8], at: usize, bytes: &[u8]) -> usize
-    ensures { λ r. ⌜ slice (now (out .exit)) r ≡ filledBy (slice (now (out .entry)) at) (now (bytes .entry)) ⌝ }
-{
-    let mut to = at;
-    let mut i: usize = 0;
-    while i < bytes.len() {
-        to = Text::byte_to(out, to, bytes[i]);
-        i = i + 1;
-    }
-    to
-}
-
 // A line of the listing that was not rewritten, to standard error.
 fn tell(turn: &mut u64, line: u32, why: &[u8]) -> bool
     requires { ⌜ length (now why) ≤ 50 ⌝ }
     ensures { λ r. ⌜ Said (now (turn .entry)) (now (turn .exit)) r (tellOf line (now (why .entry))) ⌝ }
 {
     let mut bytes = [0u8; 80];
-    let number = put(&mut bytes, 0, b"mwidth: line ");
+    let number = Text::bytes_to(&mut bytes, 0, b"mwidth: line ");
     let behind = Text::decimal_to(&mut bytes, number, 1, line as i64);
-    let n = put(&mut bytes, behind, why);
+    let n = Text::bytes_to(&mut bytes, behind, why);
     shell::say(turn, &bytes[..n])
 }
 

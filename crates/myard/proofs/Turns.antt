@@ -19,7 +19,8 @@ use Rattle.listing.specs.Scanning.{passed, mostBytes}
 use Rattle.listing.proofs.Ended.{byte-over, byte-on, never-passed, none-told}
 use Rattle.myard.specs.Judging.{verdictOn, lineFor, judgementOf}
 use Rattle.myard.specs.Hearing.{verdictFrom, unheard, behindByte, behindBytes, lastOf, saidOf, Holds}
-use Rattle.myard.specs.Blocks.{judges, On, Within, Left}
+use Rattle.myard.specs.Program.{myard}
+use Rattle.myard.specs.Blocks.{On, Within, Left}
 use Rattle.myard.specs.declared.Judge.{Judge}
 use Rattle.myard.specs.declared.Verdict.{Verdict}
 use Rattle.myard.specs.declared.Went.{Went}
@@ -39,7 +40,7 @@ ended-says j q e = ap lineFor (by-found j q ∙ ap (verdictFrom (j .yard) (j .ve
 -- it begins
 pub begins : (t : ℕ) → Trace t [] [] [] → (j : Judge) → j ≡ unheard → On t (saidOf j)
 unfolding judgementOf saidOf
-begins t h j e = standing.reworded judges t judgementOf (saidOf j) (λ _. []) (λ _. []) (standing.begins judges t h) (λ q. rw e (ap lineFor (sym (says q)))) (λ _. refl)
+begins t h j e = standing.reworded myard t judgementOf (saidOf j) (λ _. []) (λ _. []) (standing.begins myard t h) (λ q. rw e (ap lineFor (sym (says q)))) (λ _. refl)
 
 -- bytes bring the scanner on, or end the recording
 stays-ended : (j : Judge) (cs : List ℕ) → j .scanner .ended ≡ true → behindBytes j cs .scanner .ended ≡ true
@@ -56,17 +57,17 @@ brought j (c ∷ cs) w =
     (byte-on (j .scanner) c w)
 
 -- a read
-module _ {t t′ : ℕ} {got : Got} {part : List ℕ} (j : Judge) (h : Within j) (s : On t (saidOf j)) (b : Brought (judges .input) t t′ got part) where
+module _ {t t′ : ℕ} {got : Got} {part : List ℕ} (j : Judge) (h : Within j) (s : On t (saidOf j)) (b : Brought (myard .input) t t′ got part) where
   behind : got .well ≡ true → On t′ (λ q. saidOf j (take (got .count) part ++ q))
-  behind = standing.reads judges t t′ got part (saidOf j) (λ _. []) s b
+  behind = standing.reads myard t t′ got part (saidOf j) (λ _. []) s b
 
   -- that brought nothing
   pub over : 0 < length part → got .count ≡ 0 → Left t′ (record { next = j; on = false; well = got .well })
   over some z =
       record {
         within = λ y. absurd (true≢false (sym y));
-        stands = λ w. standing.reworded judges t′ (λ q. saidOf j (take (got .count) part ++ q)) (saidOf j) (λ _. []) (λ _. []) (behind w) (λ q. rw z) (λ _. refl);
-        failed = standing.fails-reading judges t t′ got part (saidOf j) (λ _. []) s b;
+        stands = λ w. standing.reworded myard t′ (λ q. saidOf j (take (got .count) part ++ q)) (saidOf j) (λ _. []) (λ _. []) (behind w) (λ q. rw z) (λ _. refl);
+        failed = standing.fails-reading myard t t′ got part (saidOf j) (λ _. []) s b;
         going = λ y. absurd (true≢false (sym y));
         stops = λ n w. inl (b .over w some z);
       }
@@ -93,7 +94,7 @@ module _ {t t′ : ℕ} {got : Got} {part : List ℕ} (j : Judge) (h : Within j)
     leaves =
         record {
           within = λ y. on y .1;
-          stands = λ _. standing.reworded judges t′ (λ q. saidOf j (bytes ++ q)) (saidOf next) (λ _. []) (λ _. []) (behind well) (in-two j bytes) (λ _. refl);
+          stands = λ _. standing.reworded myard t′ (λ q. saidOf j (bytes ++ q)) (saidOf next) (λ _. []) (λ _. []) (behind well) (in-two j bytes) (λ _. refl);
           failed = λ e. absurd (true≢false e);
           going = λ _. refl;
           stops = λ e _. inr (not-false (next .scanner .ended) e);
@@ -108,11 +109,11 @@ falls-off true next here h = omega (arith, h refl)
 falls-off false next here h = omega arith
 
 -- all is read
-pub closes : (t : ℕ) (w : Went) → Left t w → w .on ≡ false → w .well ≡ true → Closes judges t (saidOf (w .next) []) []
+pub closes : (t : ℕ) (w : Went) → Left t w → w .on ≡ false → w .well ≡ true → Closes myard t (saidOf (w .next) []) []
 closes t w l off well =
     let s = l .stands well in
-    ⊎-elim (standing.over judges t (saidOf (w .next)) (λ _. []) s)
-    (λ e. standing.settled judges t (saidOf (w .next)) (λ _. []) (saidOf (w .next) []) [] s (λ q. ended-says (w .next) q e ∙ sym (ended-says (w .next) [] e)) (λ _. refl))
+    ⊎-elim (standing.over myard t (saidOf (w .next)) (λ _. []) s)
+    (λ e. standing.settled myard t (saidOf (w .next)) (λ _. []) (saidOf (w .next) []) [] s (λ q. ended-says (w .next) q e ∙ sym (ended-says (w .next) [] e)) (λ _. refl))
     (l .stops off well)
 
 -- the line that is said, all of which the text holds

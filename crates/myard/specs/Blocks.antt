@@ -1,34 +1,20 @@
--- What the program is to write, and where it stands between blocks.
+-- Where the program stands between blocks.
 use Prim.Native.Nat.{ℕ, _≤_}
 use mathlib.Core.Path.{_≡_}
 use mathlib.Core.Bool.{true, false}
 use mathlib.Core.Logic.{_⊎_}
 use mathlib.Core.List.{List, [], _∷_, _++_}
 use Rattle.shell.specs.Outside.{Over}
-use Rattle.shell.specs.Standing.{Program, Stands, Failed}
+use Rattle.shell.specs.Standing.{Stands, Failed}
 use Rattle.listing.specs.Scanning.{mostLines}
-use Rattle.myard.specs.Judging.{judgementOf}
 use Rattle.myard.specs.Hearing.{saidOf}
+use Rattle.myard.specs.Program.{myard}
 use Rattle.myard.specs.declared.Judge.{Judge}
 use Rattle.myard.specs.declared.Went.{Went}
 
--- "myard: standard ", and "input" or "output" behind it
-abbrev standard : List ℕ
-standard = 0x6D ∷ 0x79 ∷ 0x61 ∷ 0x72 ∷ 0x64 ∷ 0x3A ∷ 0x20 ∷ 0x73 ∷ 0x74 ∷ 0x61 ∷ 0x6E ∷ 0x64 ∷ 0x61 ∷ 0x72 ∷ 0x64 ∷ 0x20 ∷ []
-
--- the judgement of a whole recording, and nothing on standard error
-abbrev pub judges : Program
-judges =
-    record {
-      writes = judgementOf;
-      says = λ _. [];
-      input = standard ++ (0x69 ∷ 0x6E ∷ 0x70 ∷ 0x75 ∷ 0x74 ∷ []);
-      output = standard ++ (0x6F ∷ 0x75 ∷ 0x74 ∷ 0x70 ∷ 0x75 ∷ 0x74 ∷ []);
-    }
-
 -- the program reads on, and of whatever follows these bytes are to be written
 abbrev pub On : ℕ → (List ℕ → List ℕ) → Type 0
-On t rest = Stands judges t rest (λ _. [])
+On t rest = Stands myard t rest (λ _. [])
 
 -- no line too many, and a line of five bytes at most
 abbrev pub Within : Judge → Type 0
@@ -38,6 +24,6 @@ Within j = (j .scanner .line ≤ mostLines) × (j .scanner .count ≤ 5)
 pub record Left (t : ℕ) (w : Went) : Type 0 where
   pub within : w .on ≡ true → Within (w .next)
   pub stands : w .well ≡ true → On t (saidOf (w .next))
-  pub failed : w .well ≡ false → Failed judges t
+  pub failed : w .well ≡ false → Failed myard t
   pub going : w .on ≡ true → w .well ≡ true
   pub stops : w .on ≡ false → w .well ≡ true → Over t ⊎ (w .next .scanner .ended ≡ true)

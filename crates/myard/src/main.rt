@@ -8,7 +8,8 @@ ghost use Rattle.shell.specs.Outside.{Trace};
 ghost use Rattle.shell.specs.Standing.{Closes, Ends};
 ghost use Rattle.listing.specs.Scanning.{passed, mostBytes};
 ghost use Rattle.myard.specs.Hearing.{saidOf};
-ghost use Rattle.myard.specs.Blocks.{judges, On, Within, Left};
+ghost use Rattle.myard.specs.Program.{myard};
+ghost use Rattle.myard.specs.Blocks.{On, Within, Left};
 use crate::judging::line_for;
 use listing::Scanner;
 use yard::Yard;
@@ -82,8 +83,8 @@ fn blocks(turn: &mut u64, input: &mut [u8]) -> Went
 
 // What is said at the end.
 fn say(turn: &mut u64, judge: Judge) -> bool
-    requires { ⌜ Closes judges (now turn) (saidOf judge []) [] ⌝ }
-    ensures { λ r. ⌜ Ends judges (now (turn .exit)) r ⌝ }
+    requires { ⌜ Closes myard (now turn) (saidOf judge []) [] ⌝ }
+    ensures { λ r. ⌜ Ends myard (now (turn .exit)) r ⌝ }
 {
     let last = judge.last();
     let verdict = last.verdict;
@@ -97,7 +98,7 @@ fn say(turn: &mut u64, judge: Judge) -> bool
 fn whole(turn: &mut u64, input: &mut [u8]) -> bool
     requires { ⌜ Trace (now turn) [] [] [] ⌝ }
     requires { ⌜ 0 < length (now input) ⌝ }
-    ensures { λ r. ⌜ Ends judges (now (turn .exit)) r ⌝ }
+    ensures { λ r. ⌜ Ends myard (now (turn .exit)) r ⌝ }
 {
     let went = blocks(turn, input);
     if went.well {

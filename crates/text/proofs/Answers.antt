@@ -6,7 +6,7 @@ use mathlib.Core.List.{List}
 use lib.IntN.{ℤ}
 use Rattle.text.specs.Growth.{slice}
 use Rattle.text.proofs.Laws.{put-none}
-use Rattle.text.specs.Promises.{NonePromise, WithPromise, DecimalPromise, NumberPromise, PutPromise, ByteToPromise, DecimalToPromise}
+use Rattle.text.specs.Promises.{NonePromise, WithPromise, DecimalPromise, NumberPromise, PutPromise, ByteToPromise, BytesToPromise, DecimalToPromise}
 use Rattle.text.specs.declared.Number.{Number}
 use Rattle.text.specs.declared.Text.{Text}
 
@@ -36,6 +36,10 @@ same-slice e = (ap (λ (t : Text). t .len) e, ap (λ (t : Text). t .bytes) e)
 pub one-byte-to : (before : List ℕ) (at byte : ℕ) {a b : ℕ} {left right : List ℕ} → ByteToPromise before at byte a left → ByteToPromise before at byte b right
     → (a ≡ b) × (left ≡ right)
 one-byte-to before at byte p q = same-slice (p ∙ sym q)
+
+pub one-bytes-to : (before : List ℕ) (at : ℕ) (bytes : List ℕ) {a b : ℕ} {left right : List ℕ} → BytesToPromise before at bytes a left → BytesToPromise before at bytes b right
+    → (a ≡ b) × (left ≡ right)
+one-bytes-to before at bytes p q = same-slice (p ∙ sym q)
 
 pub one-decimal-to : (before : List ℕ) (at width : ℕ) (x : ℤ) {a b : ℕ} {left right : List ℕ} → DecimalToPromise before at width x a left
     → DecimalToPromise before at width x b right → (a ≡ b) × (left ≡ right)

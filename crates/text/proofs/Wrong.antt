@@ -9,7 +9,7 @@ use lib.IntN.{pos, negsuc}
 use lib.ListN.{getD, replicate}
 use Rattle.text.specs.Growth.{none, grown, textOf, filled, putOf}
 use Rattle.text.specs.Decimals.{digitsOf, sizeIn, placesOf, decimalOf, readable, plusIn, numberIn}
-use Rattle.text.specs.Promises.{NonePromise, WithPromise, DecimalPromise, NumberPromise, PutPromise, ByteToPromise, DecimalToPromise}
+use Rattle.text.specs.Promises.{NonePromise, WithPromise, DecimalPromise, NumberPromise, PutPromise, ByteToPromise, BytesToPromise, DecimalToPromise}
 use Rattle.text.specs.declared.Number.{Number}
 use Rattle.text.specs.declared.Number.the-variants.{None, Is}
 use Rattle.text.specs.declared.Text.{Text}
@@ -80,6 +80,15 @@ byte-behind e = omega (arith, ap (λ (t : Text). t .len) e)
 pub byte-misplaced : ByteToPromise (0 ∷ 0 ∷ []) 0 65 1 (0 ∷ 65 ∷ []) → ⊥
 unfolding filled
 byte-misplaced e = omega (arith, ap (λ (t : Text). getD (t .bytes) 0 0) e)
+
+-- the last of two bytes left out, though there is a place; and two bytes the wrong way round
+pub bytes-left-out : BytesToPromise (0 ∷ 0 ∷ []) 0 (65 ∷ 66 ∷ []) 1 (65 ∷ 0 ∷ []) → ⊥
+unfolding filled
+bytes-left-out e = omega (arith, ap (λ (t : Text). t .len) e)
+
+pub bytes-turned : BytesToPromise (0 ∷ 0 ∷ []) 0 (65 ∷ 66 ∷ []) 2 (66 ∷ 65 ∷ []) → ⊥
+unfolding filled
+bytes-turned e = omega (arith, ap (λ (t : Text). getD (t .bytes) 0 0) e)
 
 -- a decimal that is told and not written; and 5 at width 2 as one digit
 pub decimal-untold : DecimalToPromise (0 ∷ 0 ∷ []) 0 1 (pos 5) 1 (0 ∷ 0 ∷ []) → ⊥

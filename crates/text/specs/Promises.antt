@@ -33,6 +33,10 @@ PutPromise t at before r after = (r ≡ fitsAt t at before) × (after ≡ putOf 
 abbrev pub ByteToPromise : List ℕ → ℕ → ℕ → ℕ → List ℕ → Type 0
 ByteToPromise before at b r after = slice after r ≡ filled (slice before at) b
 
+-- `Text::bytes_to(out, at, bytes)`: bytes to a slice, and the place behind them
+abbrev pub BytesToPromise : List ℕ → ℕ → List ℕ → ℕ → List ℕ → Type 0
+BytesToPromise before at bytes r after = slice after r ≡ filledBy (slice before at) bytes
+
 -- `Text::decimal_to(out, at, width, x)`: the decimal of a number to a slice, and the place behind it
 abbrev pub DecimalToPromise : List ℕ → ℕ → ℕ → ℤ → ℕ → List ℕ → Type 0
 DecimalToPromise before at width x r after = slice after r ≡ filledBy (slice before at) (decimalOf width x)

@@ -3,7 +3,7 @@ ghost use mathlib.Core.Path.{_≡_};
 ghost use Prim.Native.Nat.{_+_, _≤_};
 ghost use lib.ListN.{length};
 ghost use lib.Seq.{paste};
-ghost use Rattle.text.specs.Promises.{NonePromise, WithPromise, ByteToPromise, PutPromise};
+ghost use Rattle.text.specs.Promises.{NonePromise, WithPromise, ByteToPromise, BytesToPromise, PutPromise};
 use crate::Text;
 
 // The first n bytes, to a slice from a place on.
@@ -54,6 +54,19 @@ impl Text {
         }
         out[at] = b;
         at + 1
+    }
+
+    // Bytes to a slice from a place on, and the place behind them; those that find none are left out.
+    pub fn bytes_to(out: &mut [u8], at: usize, bytes: &[u8]) -> usize
+        ensures { λ r. ⌜ BytesToPromise (now (out .entry)) at (now (bytes .entry)) r (now (out .exit)) ⌝ }
+    {
+        let mut to = at;
+        let mut i: usize = 0;
+        while i < bytes.len() {
+            to = Text::byte_to(out, to, bytes[i]);
+            i = i + 1;
+        }
+        to
     }
 
     // To a slice from a place on, and whether there was room.

@@ -8,7 +8,7 @@ use Rattle.mbridge.proofs.format.Tie as tie
 
 returns : tie.Need-returns
 unfolding bridgeBehind linesFor
-returns c = record { next = ap (λ (n : NewBridge). n .bridge) (c .before .before .before .before .before .before .fresh .ensures); lines = c .before .before .same .ensures }
+returns c = record { next = ap (λ (n : NewBridge). n .bridge) (c .before .before .before .before .before .before .fresh .ensures); lines = c .before .before .bytes-to .ensures }
 
 pub format-spec : {M : Type 1} → statement M
 format-spec = tie.close (tie.spec (λ c κs. search needs) (λ c. search needs) (λ c κs. search needs) (λ c. search needs) returns)

@@ -22,7 +22,7 @@ returns-4 c = rw (c .before .before .before .before .before .found3 .given .1) (
 
 returns-5 : tie.Need-returns-5
 unfolding bridgeBehind linesFor
-returns-5 c = rw (c .before .before .before .before .before .enum-told2 .given .1) (record { next = refl; lines = c .before .before .same .ensures })
+returns-5 c = rw (c .before .before .before .before .before .enum-told2 .given .1) (record { next = refl; lines = c .before .before .bytes-to .ensures })
 
 returns-6 : tie.Need-returns-6
 unfolding bridgeBehind linesFor

@@ -10,7 +10,8 @@ use borrow.Author.Tests.{ltb-true}
 use Rattle.numbers.proofs.Tested.{left, right}
 use Rattle.shell.proofs.Laws as standing
 use Rattle.salvaged.specs.Whole.{decides}
-use Rattle.msalvage.specs.Blocks.{salvages, Left}
+use Rattle.msalvage.specs.Program.{msalvage}
+use Rattle.msalvage.specs.Blocks.{Left}
 use Rattle.msalvage.proofs.Turns.{begins, falls, closes}
 use Rattle.msalvage.proofs.blocks.Statement.{statement}
 use Rattle.msalvage.proofs.blocks.Tie as tie
@@ -55,7 +56,7 @@ returns : tie.Need-returns Inv-loop μ-loop
 returns c =
     let l = c .before .before .before .loop in
     let room : decides ≤ length (l .input) = omega (arith, l .inv .1, c .before .before .before .before .before .pre .1) in
-    (l .inv .0 .within, (closes (l .inv .0) (c .if1 .left) room, λ e. standing.fails salvages (l .turn) (l .inv .0 .failed e)))
+    (l .inv .0 .within, (closes (l .inv .0) (c .if1 .left) room, λ e. standing.fails msalvage (l .turn) (l .inv .0 .failed e)))
 
 pub blocks-spec : {M : Type 1} → statement M
 blocks-spec = tie.close (tie.spec Inv-loop μ-loop loop-holds block-requires loop-less loop-again same-length returns)

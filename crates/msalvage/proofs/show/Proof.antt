@@ -7,7 +7,7 @@ use lib.ListN.{take}
 use lib.Seq.{length-take-le}
 use Rattle.shell.specs.Standing.{Closes}
 use Rattle.shell.proofs.Laws as standing
-use Rattle.msalvage.specs.Blocks.{salvages}
+use Rattle.msalvage.specs.Program.{msalvage}
 use Rattle.msalvage.proofs.Turns.{in-buffer, shows}
 use Rattle.msalvage.proofs.show.Statement.{statement}
 use Rattle.msalvage.proofs.show.Tie as tie
@@ -29,8 +29,8 @@ returns c =
     let s = c .before .before .before .before .before .before .before .before .before .before in
     let l = c .before .before .before .before .before .before .list in
     let all = shows (s .args .bytes .now) (s .args .out .now) (l .result) (l .last .1 .0) (l .ensures) (s .pre .0) in
-    standing.last salvages (s .args .turn .now) (c .show .last .0) (c .show .result) (take (l .result .written) (l .last .1 .0))
-    (subst (λ (text : List ℕ). Closes salvages (s .args .turn .now) text []) (sym all) (s .pre .1)) (c .show .ensures)
+    standing.last msalvage (s .args .turn .now) (c .show .last .0) (c .show .result) (take (l .result .written) (l .last .1 .0))
+    (subst (λ (text : List ℕ). Closes msalvage (s .args .turn .now) text []) (sym all) (s .pre .1)) (c .show .ensures)
 
 pub show-spec : {M : Type 1} → statement M
 show-spec =

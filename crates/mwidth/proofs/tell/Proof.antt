@@ -17,9 +17,9 @@ use Rattle.mwidth.proofs.tell.Tie as tie
 array-share-prefix-bytes : tie.Need-array-share-prefix-bytes
 array-share-prefix-bytes c =
     let s = c .before .before .before .before .before .before .before .before .before .before .before .before in
-    let first = c .before .before .before .before .before .before .before .before .put in
+    let first = c .before .before .before .before .before .before .before .before .bytes-to in
     let second = c .before .before .before .before .before .decimal-to in
-    let third = c .before .before .put2 in
+    let third = c .before .before .bytes-to2 in
     words-there _ _ _ _ (first .result) (second .result) (third .result) (s .args .line) _ (s .args .why .now) refl (toZ-pos w64 {n = s .args .line} (omega arith)) (omega arith) (s .pre) (first .ensures) (second .ensures) (third .ensures)
 
 slice-aggregate-say : tie.Need-slice-aggregate-say
@@ -28,9 +28,9 @@ slice-aggregate-say c = sym (length-take-le _ _ (array-share-prefix-bytes (c .be
 returns : tie.Need-returns
 returns c =
     let s = c .before .before .before .before .before .before .before .before .before .before .before .before .before .before in
-    let first = c .before .before .before .before .before .before .before .before .before .before .put in
+    let first = c .before .before .before .before .before .before .before .before .before .before .bytes-to in
     let second = c .before .before .before .before .before .before .before .decimal-to in
-    let third = c .before .before .before .before .put2 in
+    let third = c .before .before .before .before .bytes-to2 in
     let say = c .say in
     subst (λ (l : List _). Said (s .args .turn .now) (say .last .0) (say .result) l)
     (words-are _ _ _ _ (first .result) (second .result) (third .result) (s .args .line) _ (s .args .why .now) refl (toZ-pos w64 {n = s .args .line} (omega arith)) (omega arith) (s .pre) (first .ensures) (second .ensures) (third .ensures))

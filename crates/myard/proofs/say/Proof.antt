@@ -7,7 +7,7 @@ use lib.ListN.{take}
 use lib.Seq.{length-take-le}
 use Rattle.shell.specs.Standing.{Closes}
 use Rattle.shell.proofs.Laws as standing
-use Rattle.myard.specs.Blocks.{judges}
+use Rattle.myard.specs.Program.{myard}
 use Rattle.myard.proofs.Turns.{long-enough, line-said}
 use Rattle.myard.proofs.say.Statement.{statement}
 use Rattle.myard.proofs.say.Tie as tie
@@ -29,8 +29,8 @@ returns c =
     let last = c .before .before .before .before .before .before .last in
     let line = c .before .before .before .before .before .line-for in
     let said = line-said (s .args .judge) (last .result) (line .result) (last .ensures) (line .ensures) in
-    standing.last judges (s .args .turn .now) (c .show .last .0) (c .show .result) (take (line .result .len) (line .result .bytes))
-    (subst (λ (l : List ℕ). Closes judges (s .args .turn .now) l []) (sym said) (s .pre)) (c .show .ensures)
+    standing.last myard (s .args .turn .now) (c .show .last .0) (c .show .result) (take (line .result .len) (line .result .bytes))
+    (subst (λ (l : List ℕ). Closes myard (s .args .turn .now) l []) (sym said) (s .pre)) (c .show .ensures)
 
 pub say-spec : {M : Type 1} → statement M
 say-spec = tie.close (tie.spec (λ c κs. search needs) (λ c κs. search needs) (λ c. search needs) array-share-prefix-bytes slice-aggregate-show-2 (λ c κs. search needs) returns)

@@ -6,10 +6,10 @@ use mathlib.Core.Path.{_≡_, refl, sym, _∙_, ap}
 use mathlib.Core.List.{List, [], _∷_, _++_}
 use lib.ListN.{length, take, getD}
 use lib.Seq.{take-suc, take-all}
 use Rattle.text.specs.Growth.{slice, filled, filledBy}
 use Rattle.text.proofs.Filled.{both-filled}
-use Rattle.mwidth.proofs.put.Statement.{statement}
-use Rattle.mwidth.proofs.put.Tie as tie
+use Rattle.text.proofs.Text.bytes_to.Statement.{statement}
+use Rattle.text.proofs.Text.bytes_to.Tie as tie
 
 abbrev Inv-loop : tie.InvT-loop
 Inv-loop out₀ at bytes to₀ i₀ out to i = (slice out to ≡ filledBy (slice out₀ at) (take i bytes)) × (i ≤ length bytes) × (length out ≡ length out₀)
@@ -57,8 +57,8 @@ returns c =
     let l = c .before .loop in
     l .inv .0 ∙ ap (filledBy (slice (s .args .out .now) (s .args .at))) (take-all (l .i) (s .args .bytes .now) (omega arith))
 
-pub put-spec : {M : Type 1} → statement M
-put-spec =
+pub bytes-to-spec : {M : Type 1} → statement M
+bytes-to-spec =
     tie.close
     (tie.spec
     Inv-loop
