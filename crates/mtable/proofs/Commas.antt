@@ -1,12 +1,12 @@
 -- Commas one behind the other; and the numbers of buttons.
 use Prim.Native.Nat.{ℕ, zero, suc, _+_}
-use mathlib.Core.Path.{_≡_, refl, sym, _∙_, ap}
+use mathlib.Core.Path.{_≡_, refl, _∙_, ap}
 use mathlib.Core.List.{List, [], _∷_, _++_}
 use Rattle.text.specs.Growth.{grown, grownBy}
 use Rattle.text.specs.declared.Text.{Text}
 use Rattle.text.proofs.Laws.{both}
 use Rattle.listing.proofs.Grown.{grown-append}
-use mathlib.Core.Bool.{Bool, true, false, cond, _||_}
+use mathlib.Core.Bool.{Bool, true, false, _||_}
 use lib.Dec.{eqb}
 use lib.IntN.{ℤ, pos, natAbs}
 use lib.ListN.{getD}
@@ -19,7 +19,7 @@ use mir.Syntax.{w32}
 use mir.Val.{ofZ}
 use Rattle.listing.specs.declared.Middle.{Middle}
 use Rattle.listing.specs.declared.Middle.the-variants.{Up, Down, Unknown}
-use Rattle.readback.specs.Items.{counted, middleNumber, numbersOf}
+use Rattle.readback.specs.Items.{counted, middleNumber}
 use Rattle.mtable.specs.Table.{comma, commas, isDown, isUnknown, cellOf, buttonsOf, rowOf}
 use Rattle.mtable.specs.Rows.{Stand, Five}
 

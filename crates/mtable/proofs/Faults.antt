@@ -1,7 +1,7 @@
 -- The last row, and what is told of a fault.
 use Prim.Native.Nat.{ℕ, _+_, _<_, _≤_}
-use mathlib.Core.Path.{_≡_, refl, sym, _∙_, ap, subst}
-use mathlib.Core.Bool.{Bool, true, false, cond, _&&_, true≢false}
+use mathlib.Core.Path.{_≡_, sym, _∙_, ap, subst}
+use mathlib.Core.Bool.{Bool, true, false, cond, _&&_}
 use mathlib.Core.List.{List, [], _∷_, _++_, append-nil}
 use native.Mathlib.Omega.{arith}
 use lib.Dec.{eqb}
@@ -21,8 +21,7 @@ use Rattle.listing.specs.Lines.{newline}
 use Rattle.listing.proofs.Grown.{grown-append}
 use Rattle.readback.specs.Steps.{good}
 use Rattle.readback.specs.Pieces.{faultyLine, back}
-use Rattle.readback.specs.Promises.{refused, finishOf, FinishPromise}
-use Rattle.readback.specs.declared.Readback.{Readback}
+use Rattle.readback.specs.Promises.{finishOf, FinishPromise}
 use Rattle.readback.specs.declared.Back.{Back}
 use Rattle.mtable.specs.Table.{comma, commas, lastRow, ofFault, faultWords}
 use Rattle.mtable.specs.Program.{mtable}

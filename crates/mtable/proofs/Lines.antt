@@ -1,14 +1,14 @@
 -- Rows in a buffer, one after the other.
-use Prim.Native.Nat.{ℕ, zero, suc, _+_, _*_, _<_, _≤_, _^_}
+use Prim.Native.Nat.{ℕ, zero, suc, _+_, _*_, _<_, _≤_}
 use mathlib.Core.Path.{_≡_, refl, sym, _∙_, ap}
-use mathlib.Core.Bool.{Bool, true, false}
-use mathlib.Core.List.{List, [], _∷_, _++_, append-assoc, append-nil}
+use mathlib.Core.Bool.{Bool}
+use mathlib.Core.List.{List, [], _∷_, _++_, append-assoc}
 use native.Mathlib.Omega.{arith}
 use lib.IntN.{ℤ, pos}
-use lib.ListN.{length, take, drop, getD, length-append, length-take}
+use lib.ListN.{length, take, drop, getD, length-append}
 use lib.Seq.{take-at, length-take-le, drop-drop, getD-drop, getD-take}
 use Rattle.text.specs.Growth.{grown, textOf}
-use Rattle.text.specs.Decimals.{plain, decimalOf}
+use Rattle.text.specs.Decimals.{plain}
 use Rattle.text.specs.Promises.{PutPromise}
 use Rattle.text.specs.declared.Text.{Text}
 use Rattle.text.proofs.Digits.{decimal-few}
@@ -20,7 +20,7 @@ use Rattle.listing.proofs.Feeds.{size, put-wrote}
 use Rattle.listing.proofs.Grown.{grown-append}
 use Rattle.readback.specs.Items.{numbersOf, allNumbers, Small}
 use Rattle.readback.proofs.Rewrites.{sixteen-few}
-use Rattle.mtable.specs.Table.{cellOf, buttonsOf, commas, rowOf, rowsOf}
+use Rattle.mtable.specs.Table.{rowOf, rowsOf}
 use Rattle.mtable.specs.Rows.{Five, AllSmall, Among, Written}
 
 -- rows behind others

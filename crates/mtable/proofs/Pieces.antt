@@ -1,14 +1,14 @@
 -- The table of a piece of a listing in front of more: the rows of its items, and then what is written of the rest.
 use Prim.Native.Nat.{ℕ, _+_, _-_, _*_, _<_, _≤_}
 use mathlib.Core.Path.{_≡_, refl, sym, _∙_, ap}
-use mathlib.Core.Bool.{Bool, true, false, not, cond, _&&_}
+use mathlib.Core.Bool.{Bool, true, false, not, _&&_}
 use mathlib.Core.Logic.{⊎-elim}
 use mathlib.Core.List.{List, [], _∷_, _++_, append-assoc, append-nil}
 use native.Mathlib.Omega.{arith}
 use lib.Dec.{eqb}
 use lib.IntN.{ℤ}
 use lib.ListN.{length, take, drop, length-append, length-drop, take-append-drop}
-use borrow.Author.Tests.{eqb-true, eqb-false, eq-eqb, ne-eqb}
+use borrow.Author.Tests.{eqb-true, eqb-false, eq-eqb}
 use Rattle.numbers.proofs.Tested.{right}
 use Rattle.fold.specs.Fold.{Ran, written, places, run}
 use Rattle.fold.proofs.Laws.{over-taken, within}
@@ -19,7 +19,7 @@ use Rattle.listing.specs.declared.Given.{Given}
 use Rattle.listing.specs.declared.Given.the-variants.{Nothing, One}
 use Rattle.readback.specs.Items.{allNumbers, itemIn}
 use Rattle.readback.specs.Steps.{fresh, stepOf, good, said, above}
-use Rattle.readback.specs.Pieces.{cutIn, bytesIn, bodyOf, isWhole, reads, longest, linesOf, itemsAmong, faultAt, faultyLine, Whole}
+use Rattle.readback.specs.Pieces.{cutIn, bodyOf, isWhole, reads, longest, linesOf, itemsAmong, faultAt, faultyLine, Whole}
 use Rattle.readback.specs.Promises.{ReadPromise, FinishPromise}
 use Rattle.readback.specs.Held.{Ready, toGo}
 use Rattle.readback.specs.Whole.{Reading, reading, readingFrom, readingOf}

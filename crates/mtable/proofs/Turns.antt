@@ -2,7 +2,7 @@
 use Prim.Native.Nat.{ℕ, _+_, _-_, _*_, _<_, _≤_}
 use mathlib.Core.Path.{_≡_, refl, sym, _∙_, ap, subst}
 use mathlib.Core.Bool.{Bool, true, false, not, cond, _&&_, true≢false}
-use mathlib.Core.List.{List, [], _++_, append-assoc, append-nil}
+use mathlib.Core.List.{List, [], _++_, append-assoc}
 use native.Mathlib.Omega.{arith}
 use lib.Dec.{eqb}
 use lib.IntN.{ℤ}
@@ -10,7 +10,7 @@ use lib.ListN.{length, take, drop, length-drop}
 use lib.Seq.{length-take-le}
 use borrow.Author.Tests.{eqb-true, eqb-false, ne-eqb}
 use Rattle.numbers.proofs.Tested.{left, right}
-use Rattle.shell.specs.Outside.{Trace, Over, Brought, Handed}
+use Rattle.shell.specs.Outside.{Trace, Brought, Handed}
 use Rattle.shell.specs.Buffer.{Behind, Moved}
 use Rattle.shell.specs.Standing.{Stands, Closes, Failed}
 use Rattle.shell.specs.declared.Got.{Got}

@@ -1,17 +1,17 @@
 -- What a block leaves.
 use Prim.Native.Nat.{ℕ, _+_, _-_, _*_, _<_, _≤_}
 use mathlib.Core.Path.{_≡_, refl, sym, _∙_, ap, subst}
-use mathlib.Core.Bool.{Bool, true, false, cond, _&&_, true≢false}
+use mathlib.Core.Bool.{Bool, true, false, _&&_, true≢false}
 use mathlib.Core.List.{List, [], _++_, append-assoc, append-nil}
 use native.Mathlib.Omega.{arith}
 use lib.Dec.{eqb}
 use lib.ListN.{length, take, drop, length-drop}
 use lib.Seq.{length-take-le}
-use borrow.Author.Tests.{eqb-true, eqb-false, ne-eqb}
+use borrow.Author.Tests.{eqb-true, eqb-false}
 use Rattle.numbers.proofs.Tested.{left, right}
-use Rattle.shell.specs.Outside.{Trace, Over, Brought, Handed}
+use Rattle.shell.specs.Outside.{Trace, Brought, Handed}
 use Rattle.shell.specs.Buffer.{Behind, Moved}
-use Rattle.shell.specs.Standing.{Stands, Closes, Failed}
+use Rattle.shell.specs.Standing.{Stands, Closes}
 use Rattle.shell.specs.declared.Got.{Got}
 use Rattle.shell.proofs.Laws as standing
 use Rattle.shell.proofs.Held.{holds, both}

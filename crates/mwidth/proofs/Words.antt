@@ -16,11 +16,10 @@ use Rattle.text.specs.declared.Text.{Text}
 use Rattle.text.proofs.Digits.{decimal-few}
 use Rattle.text.proofs.Filled.{both-filled, filled-all}
 use Rattle.wire.specs.Numbers.{success}
-use Rattle.listing.specs.Lines.{newline, lengthTo}
-use Rattle.readback.specs.Steps.{stepOf, good}
-use Rattle.readback.specs.Pieces.{cutIn, cutOff, bodyOf, isWhole, longest, faultyLine, back}
+use Rattle.readback.specs.Steps.{good}
+use Rattle.readback.specs.Pieces.{cutIn, cutOff, isWhole, longest, faultyLine, back}
 use Rattle.readback.specs.Rewriting.{rewrites}
-use Rattle.readback.specs.Promises.{refused, finishOf, FinishPromise, RewritePromise}
+use Rattle.readback.specs.Promises.{finishOf, FinishPromise, RewritePromise}
 use Rattle.readback.specs.Held.{Ready}
 use Rattle.readback.specs.declared.Readback.{Readback}
 use Rattle.readback.specs.declared.Rewritten.{Rewritten}

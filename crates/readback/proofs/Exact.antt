@@ -1,40 +1,35 @@
 -- WHAT THE OTHER WIDTH IS: a listing without a fault whose line numbers fit is rewritten, in any calls, to exactly the listing of the same items at the other
 -- width, and back to itself; and no call is refused.
-use Prim.Native.Nat.{ℕ, zero, suc, _+_, _<_, _≤_, _^_}
+use Prim.Native.Nat.{ℕ, zero, suc, _+_}
 use mathlib.Core.Path.{_≡_, refl, sym, _∙_, ap, subst}
 use mathlib.Core.Bool.{Bool, true, false, true≢false}
 use mathlib.Core.Logic.{⊎-elim}
 use mathlib.Core.List.{List, [], _∷_, _++_, append-assoc, append-nil}
 use native.Mathlib.Omega.{arith}
 use lib.Dec.{leb, eqb}
-use lib.ListN.{length, take, drop}
+use lib.ListN.{take, drop}
 use borrow.Author.Tests.{leb-true, le-leb, lt-ltb, eqb-true, eqb-false, eq-eqb}
-use Rattle.fold.specs.Fold.{run}
-use Rattle.fold.proofs.Laws.{over-taken}
 use Rattle.wire.specs.Numbers.{success}
-use Rattle.listing.specs.Items.{itemsIn}
 use Rattle.listing.specs.Scanning.{mostAt, width}
 use Rattle.listing.specs.Printing.{formOf, lineOf, openingOf, allBytes}
 use Rattle.listing.specs.declared.Item.{Item}
 use Rattle.listing.specs.declared.Item.the-variants as item
 use Rattle.readback.specs.Items.{Numbered, Proper}
 use Rattle.readback.specs.Steps.{widthKnown, fresh, openedAt, passedBy, above, good}
-use Rattle.readback.specs.Pieces.{cutIn, faultyLine, reads, linesOf}
+use Rattle.readback.specs.Pieces.{cutIn, faultyLine, reads}
 use Rattle.readback.specs.Rewriting.{otherWidth, fitsAt, rewrites}
 use Rattle.readback.specs.Promises.{RewritePromise}
 use Rattle.readback.specs.Rewrites.{Rewrite, PermittedRewrites, tookBy, wroteBy}
-use Rattle.readback.specs.Whole.{Reading, readingFrom, readingOf, printed, Listed}
+use Rattle.readback.specs.Whole.{readingFrom, readingOf, printed, Listed}
 use Rattle.readback.specs.Other.{otherFrom, otherOf, Fits, rewriterAfter}
 use Rattle.readback.specs.declared.Readback.{Readback}
 use Rattle.readback.specs.declared.Rewritten.{Rewritten}
-use Rattle.readback.proofs.Across.{whole-line}
-use Rattle.readback.proofs.Again.{Printed, accepted}
+use Rattle.readback.proofs.Again.{accepted}
 use Rattle.readback.proofs.AsItWas.{cut-first, line-whole, letter-plain, item-step, first-plain, first-step}
 use Rattle.readback.proofs.Goodness.{known-is, fresh-is-good}
 use Rattle.readback.proofs.Other.{over-call, goes-on, taken-read, faulty-read, front-and-rest, refused-line, calls-good, in-any-calls}
 use Rattle.readback.proofs.Rewrites.{other-known}
-use Rattle.readback.proofs.SameItems.{next-good, next-is, took}
-use Rattle.readback.proofs.Wholes.{cut-wholes, lines-whole}
+use Rattle.readback.proofs.SameItems.{next-good, took}
 
 -- every line is taken
 abbrev AllTaken : Readback → List (List ℕ) → Type 0

@@ -23,12 +23,12 @@ use Rattle.readback.specs.Pieces.{cutIn, bytesIn, isWhole, bodyOf, fault
 use Rattle.readback.specs.Held.{toGo}
 use Rattle.readback.specs.declared.Readback.{Readback}
 use Rattle.readback.proofs.Again.{not-refused}
-use Rattle.readback.proofs.Cuts.{cut-none, cut-line, lines-line, lines-short, lines-long, first-whole, first-body, first-long, same-length-to, not-whole, lines-few}
+use Rattle.readback.proofs.Cuts.{cut-none, cut-line, lines-line, lines-short, lines-long, first-whole, first-body, first-long, same-length-to, not-whole}
 use Rattle.readback.proofs.Goodness.{step-leaves, step-ended, step-first, step-item, few-lines}
 use Rattle.readback.proofs.Loop.{Follows}
 use Rattle.readback.proofs.Short.{long-faulty}
 use Rattle.readback.proofs.Values.{to-within}
-use Rattle.readback.proofs.Wholes.{Wholes, cut-whole, cut-wholes, lines-wholes, lines-front, lines-whole}
+use Rattle.readback.proofs.Wholes.{Wholes, cut-whole, lines-wholes, lines-front, lines-whole}
 
 -- a good line is one more
 pub one-more : (r : Readback) (line : List ℕ) → stepOf r line .good ≡ true → stepOf r line .next .lines ≡ r .lines + 1
@@ -230,9 +230,6 @@ module _ {A X : Type 0} (m : MachineOver (List ℕ) Readback A X) (follows : Fol
     front-and-rest : (q : List ℕ) → piece ++ q ≡ bytesIn ws ++ (d ++ q)
     front-and-rest q =
         ap (λ (l : List ℕ). l ++ q) (sym (take-append-drop t piece)) ∙ append-assoc (take t piece) d q ∙ ap (λ (l : List ℕ). l ++ (d ++ q)) (lines-front piece (length (f .answers)))
-
-    pub cut-rest : (q : List ℕ) → cutIn (piece ++ q) ≡ ws ++ cutIn (d ++ q)
-    cut-rest q = ap cutIn (front-and-rest q) ∙ cut-wholes ws (d ++ q) wholes
 
     pub later-good : good (f .next) ≡ true
     later-good = stays m (λ (r : Readback). good r ≡ true) leaves-good (linesOf piece) r room g

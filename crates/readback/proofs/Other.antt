@@ -14,7 +14,7 @@ use Rattle.fold.proofs.Laws.{written-append, over-taken}
 use Rattle.wire.specs.Numbers.{success}
 use Rattle.listing.specs.Lines.{newline, lengthTo}
 use Rattle.readback.specs.Steps.{fresh, stepOf, good}
-use Rattle.readback.specs.Pieces.{cutIn, bytesIn, isWhole, bodyOf, faultyLine, reads, longest, linesOf, faultAt}
+use Rattle.readback.specs.Pieces.{cutIn, bytesIn, isWhole, bodyOf, faultyLine, reads, longest, linesOf}
 use Rattle.readback.specs.Rewriting.{givenFits, widthBehind, tooWide, Rewriting, rewriting, rewritten, rewrites, counted}
 use Rattle.readback.specs.Promises.{RewritePromise}
 use Rattle.readback.specs.Rewrites.{Rewrite, PermittedRewrites, tookBy, wroteBy}
@@ -47,9 +47,6 @@ module _ (r : Readback) (l : List ℕ) where
 
   pub faulty-read : rewrites .refusal r l ≡ faultyLine → reads .refusal r l ≡ faultyLine
   faulty-read = by-reading (λ n k u. k ≡ faultyLine → n ≡ faultyLine) (λ e. absurd (omega (arith, e))) (λ e. absurd (omega (arith, e))) (λ u _. refl)
-
-  pub taken-fits : rewrites .refusal r l ≡ 0 → givenFits (widthBehind r l) (reads .answer r l) ≡ true
-  taken-fits = by-reading (λ n k u. k ≡ 0 → u ≡ true) (λ _. refl) (λ e. absurd (omega (arith, e))) (λ u e. absurd (omega (arith, e)))
 
   wide-is : rewrites .refusal r l ≡ tooWide → TooWide r l
   wide-is = by-reading (λ n k u. k ≡ tooWide → (n ≡ success) × (u ≡ false)) (λ e. absurd (omega (arith, e))) (λ _. (refl, refl)) (λ u e. absurd (omega (arith, e)))

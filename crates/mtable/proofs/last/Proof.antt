@@ -1,6 +1,6 @@
 -- A fault, an end that is missing, or the end.
 use borrow.Author.Needs.{needs}
-use mathlib.Core.Path.{_≡_, sym, subst}
+use mathlib.Core.Path.{subst}
 use Prim.Native.Nat.{ℕ}
 use Rattle.shell.specs.Standing.{Closes}
 use Rattle.shell.proofs.Laws as standing

@@ -1,7 +1,6 @@
 -- What was read is written, and the rest is held.
 use borrow.Author.Needs.{needs}
 use native.Mathlib.Omega.{arith}
-use Prim.Native.Nat.{_≤_, _+_, _*_}
 use mathlib.Core.Path.{_≡_, sym, subst}
 use mathlib.Core.Bool.{true, not, _&&_}
 use lib.ListN.{length, take}

@@ -1,6 +1,6 @@
 -- `?`, or a digit.
 use borrow.Author.Needs.{needs}
-use mathlib.Core.Path.{_≡_, refl, sym, _∙_, ap}
+use mathlib.Core.Path.{_≡_, sym, _∙_}
 use mathlib.Core.Bool.{true, false}
 use mir.Syntax.{w32}
 use mir.Val.{toZ, ofZ}

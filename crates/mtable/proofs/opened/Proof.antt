@@ -1,8 +1,8 @@
 -- The row has room.
 use borrow.Author.Needs.{needs}
 use native.Mathlib.Omega.{arith}
-use mathlib.Core.Path.{_≡_, refl, sym, _∙_, ap}
-use mathlib.Core.Bool.{true, false}
+use mathlib.Core.Path.{refl, _∙_, ap}
+use mathlib.Core.Bool.{true}
 use borrow.Author.Tests.{not-true, not-false}
 use Rattle.text.specs.Growth.{grownBy}
 use Rattle.mtable.specs.Table.{salvageRow}

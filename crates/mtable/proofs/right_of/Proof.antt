@@ -1,10 +1,4 @@
 -- `right_of`.
-use borrow.Author.Needs.{needs}
-use mathlib.Core.Path.{_≡_, refl}
-use mathlib.Core.Bool.{Bool, true, false}
-use Rattle.listing.specs.declared.Middle.{Middle}
-use Rattle.listing.specs.declared.Middle.the-variants.{Up, Down, Unknown}
-use Rattle.listing.specs.declared.Buttons.{Buttons}
 use Rattle.mtable.proofs.Commas.{right-is}
 use Rattle.mtable.proofs.right_of.Statement.{statement}
 use Rattle.mtable.proofs.right_of.Tie as tie

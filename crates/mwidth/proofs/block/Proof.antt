@@ -2,9 +2,8 @@
 use borrow.Author.Needs.{needs}
 use native.Mathlib.Omega.{arith}
 use Prim.Native.Nat.{_≤_, _<_, _+_}
-use mathlib.Core.Path.{_≡_, sym}
+use mathlib.Core.Path.{sym}
 use mathlib.Core.Bool.{true≢false}
-use lib.ListN.{length}
 use lib.Seq.{length-take-le}
 use Rattle.readback.specs.Pieces.{longest}
 use Rattle.mwidth.proofs.Turns.{over, stands-behind}

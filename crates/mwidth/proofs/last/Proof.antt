@@ -1,7 +1,7 @@
 -- By what was refused.
 use borrow.Author.Needs.{needs}
-use mathlib.Core.Path.{_≡_, sym, subst}
-use mathlib.Core.List.{List, []}
+use mathlib.Core.Path.{subst}
+use mathlib.Core.List.{[]}
 use Rattle.shell.specs.Standing.{Closes}
 use Rattle.shell.proofs.Laws as standing
 use Rattle.mwidth.specs.Told.{isTooWide, isFaulty, isMissing, tellOf}

@@ -1,15 +1,12 @@
 -- The words have room, and are told at once.
 use borrow.Author.Needs.{needs}
 use native.Mathlib.Omega.{arith}
-use Prim.Native.Nat.{_≤_}
-use mathlib.Core.Path.{_≡_, refl, sym, _∙_, ap, subst}
+use mathlib.Core.Path.{refl, sym, subst}
 use mathlib.Core.List.{List}
-use lib.ListN.{length, take}
 use lib.Seq.{length-take-le}
 use mir.Syntax.{w64}
 use mir.Facts.{toZ-pos}
 use Rattle.shell.specs.Outside.{Said}
-use Rattle.mwidth.specs.Told.{tellOf}
 use Rattle.mwidth.proofs.Words.{words-there, words-are}
 use Rattle.mwidth.proofs.tell.Statement.{statement}
 use Rattle.mwidth.proofs.tell.Tie as tie
