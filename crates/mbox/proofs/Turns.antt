@@ -10,11 +10,11 @@ use lib.Seq.{drop-drop}
 use lib.Dec.{ltb, eqb}
 use mir.Syntax.{w8}
 use mir.Val.{Fits}
-use borrow.Author.Tests.{not-true, not-false, eqb-true, eqb-false, ltb-true, ltb-false}
+use borrow.Author.Tests.{not-true, not-false, eqb-false, ltb-true, ltb-false}
 use Rattle.numbers.proofs.Choices.{cases, or-else, neither}
 use Rattle.numbers.proofs.Tested.{left, right}
 use Rattle.fold.proofs.Parts.{rest-is}
-use Rattle.shell.specs.Outside.{Trace, Over, Brought, Handed}
+use Rattle.shell.specs.Outside.{Trace, Brought, Handed}
 use Rattle.shell.specs.Standing.{Closes, Failed, Ends}
 use Rattle.shell.specs.declared.Got.{Got}
 use Rattle.shell.proofs.Laws as standing
@@ -26,7 +26,7 @@ use Rattle.driver.specs.Promises.{enough, FeedPromise, FinishPromise}
 use Rattle.driver.specs.Calls.{owing}
 use Rattle.driver.specs.declared.Driver.{Driver}
 use Rattle.driver.specs.declared.Driven.{Driven}
-use Rattle.driver.proofs.Kept.{Kept, fresh-kept}
+use Rattle.driver.proofs.Kept.{Kept}
 use Rattle.driver.proofs.Whole.{allOf, all-at-once}
 use Rattle.driver.proofs.Pieces.{quiet}
 use Rattle.driver.proofs.Calls.{next-kept, call-goes, takes-some, feed-within, last-kept, last-goes, ends-or-less}

@@ -8,10 +8,9 @@ use lib.Dec.{eqb, ltb}
 use lib.ListN.{length, take, drop, length-append, length-drop}
 use lib.Seq.{take-at, take-add, length-take-le}
 use borrow.Author.Tests.{not-true, not-false, eqb-true, eqb-false, ltb-false}
-use Rattle.numbers.proofs.Choices.{cases}
-use Rattle.shell.specs.Outside.{Trace, Over}
+use Rattle.shell.specs.Outside.{Trace}
 use Rattle.shell.specs.Buffer.{Behind}
-use Rattle.shell.specs.Standing.{Closes, Ends}
+use Rattle.shell.specs.Standing.{Closes}
 use Rattle.shell.specs.declared.Got.{Got}
 use Rattle.shell.proofs.Laws as standing
 use Rattle.salvaged.specs.Listing.{salvageOf}

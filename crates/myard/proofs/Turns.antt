@@ -1,6 +1,6 @@
 -- Where a block and the end leave the program; and by what its loop falls.
 use Prim.Native.Nat.{ℕ, suc, _+_, _-_, _<_, _≤_}
-use mathlib.Core.Path.{_≡_, refl, sym, _∙_, ap, subst}
+use mathlib.Core.Path.{_≡_, refl, sym, _∙_, ap}
 use mathlib.Core.Bool.{Bool, true, false, not, cond, true≢false}
 use mathlib.Core.Logic.{_⊎_, inl, inr, ⊎-elim}
 use mathlib.Core.List.{List, [], _∷_, _++_}
@@ -11,18 +11,17 @@ use borrow.Author.Tests.{not-true, not-false}
 use Rattle.text.specs.Growth.{shown}
 use Rattle.text.specs.declared.Text.{Text}
 use Rattle.text.proofs.Laws.{text-shows, text-long}
-use Rattle.shell.specs.Outside.{Trace, Over, Brought, Handed}
-use Rattle.shell.specs.Standing.{Closes, Ends}
+use Rattle.shell.specs.Outside.{Trace, Brought}
+use Rattle.shell.specs.Standing.{Closes}
 use Rattle.shell.specs.declared.Got.{Got}
 use Rattle.shell.proofs.Laws as standing
 use Rattle.listing.specs.Scanning.{passed, mostBytes}
 use Rattle.listing.proofs.Ended.{byte-over, byte-on, never-passed, none-told}
-use Rattle.myard.specs.Judging.{verdictOn, lineFor, judgementOf}
+use Rattle.myard.specs.Judging.{lineFor, judgementOf}
 use Rattle.myard.specs.Hearing.{verdictFrom, unheard, behindByte, behindBytes, lastOf, saidOf, Holds}
 use Rattle.myard.specs.Program.{myard}
 use Rattle.myard.specs.Blocks.{On, Within, Left}
 use Rattle.myard.specs.declared.Judge.{Judge}
-use Rattle.myard.specs.declared.Verdict.{Verdict}
 use Rattle.myard.specs.declared.Went.{Went}
 use Rattle.myard.proofs.Said.{by-found, says}
 

@@ -21,7 +21,7 @@ use Rattle.listing.specs.declared.Given.the-variants as given
 use Rattle.listing.proofs.Scanned.{allFound}
 use Rattle.listing.proofs.Ended.{Within, byte-over, byte-on, none-told}
 use Rattle.listing.proofs.Viewed.{View, is-over, is-bad, is-format, is-word, Passes, ended, within, behind, passes}
-use Rattle.salvaged.specs.Log.{Log, log, empty, marked, wordHeard, newHeard, heard, heardAll, logOf}
+use Rattle.salvaged.specs.Log.{Log, empty, wordHeard, newHeard, heard, heardAll}
 use Rattle.salvaged.specs.Items.{itemsOf}
 use Rattle.salvaged.specs.Listing.{linesOf, textOf, salvageOf}
 use Rattle.salvaged.specs.Whole.{decides}

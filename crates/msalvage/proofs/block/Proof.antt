@@ -1,7 +1,7 @@
 -- A read goes behind what is there, and stays within the buffer.
 use borrow.Author.Needs.{needs}
 use native.Mathlib.Omega.{arith}
-use Prim.Native.Nat.{_<_, _≤_, _+_, _^_}
+use Prim.Native.Nat.{_<_, _≤_, _^_}
 use mathlib.Core.Path.{_≡_}
 use lib.ListN.{length}
 use borrow.Author.Tests.{not-true, eqb-false}
