@@ -170,11 +170,6 @@ module _ {t t′ : ℕ} {m : Driver} {got : Got} {part : List ℕ} (h : Kept m) 
       go true e = e
       go false e = absurd (n (b .none e))
 
--- by which the loop over blocks falls
-pub falls-off : (on : Bool) (next here : ℕ) → (on ≡ true → next < here) → cond on (suc next) 0 < suc here
-falls-off true next here h = omega (arith, h refl)
-falls-off false next here h = omega arith
-
 -- AT THE END: all is read, and what the driver writes of the end is left
 pub record Last (t : ℕ) (here : Driver) (well : Bool) : Type 0 where
   pub kept : Kept here

@@ -102,11 +102,6 @@ module _ {t t′ : ℕ} {got : Got} {part : List ℕ} (j : Judge) (h : Within j)
     pub falls : not (next .scanner .ended) ≡ true → mostBytes - passed (next .scanner) < mostBytes - passed (j .scanner)
     falls y = let k = on y in omega (arith, k .0, n, length-take-le (got .count) part there, never-passed (j .scanner) h, never-passed (next .scanner) (k .1))
 
--- by which the loop over blocks falls
-pub falls-off : (on : Bool) (next here : ℕ) → (on ≡ true → next < here) → cond on (suc next) 0 < suc here
-falls-off true next here h = omega (arith, h refl)
-falls-off false next here h = omega arith
-
 -- all is read
 pub closes : (t : ℕ) (w : Went) → Left t w → w .on ≡ false → w .well ≡ true → Closes myard t (saidOf (w .next) []) []
 closes t w l off well =

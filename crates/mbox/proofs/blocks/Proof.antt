@@ -8,7 +8,8 @@ use lib.ListN.{length}
 use Rattle.driver.proofs.Kept.{fresh-kept}
 use Rattle.driver.proofs.Nearer.{passed, mostBytes}
 use Rattle.mbox.specs.Blocks.{Left}
-use Rattle.mbox.proofs.Turns.{begins, falls-off}
+use Rattle.shell.proofs.Laws.{falls-off}
+use Rattle.mbox.proofs.Turns.{begins}
 use Rattle.mbox.proofs.blocks.Statement.{statement}
 use Rattle.mbox.proofs.blocks.Tie as tie
 
