@@ -1,11 +1,11 @@
-/* Istrolf for C99 and C++: a serial trackball and the seven formats of the old mice. Reader, watch, encoder, box, lister, yard check, bridge, reader of
+/* Istrolf for C99 and C++: a serial trackball and the seven formats of the old mice. Port, reader, watch, encoder, box, lister, yard check, bridge, reader of
  * listings, reader of replies, salvage, and the Digital VSXXX with its reader. Link libistrolf.a.
  *
  * Calls. Every function takes every argument, ends, and has one answer; each is proved. There is no set-up and no error but the refusals below.
  * Nothing is allocated and nothing is kept between calls, so calls from several threads need no lock.
  *
- * States. A reader, a box, a lister and the like are values that you own: a function ending in _fresh, istrolf_puck_made or istrolf_watch_knowing gives one; each other function
- * takes one by value and gives the next in its answer. Store the next one over the old one and go on. A copy is a state of its own. Members may be read;
+ * States. A reader, a box, a lister and the like are values that you own: a function ending in _fresh, istrolf_port_clearing, istrolf_watch_knowing or
+ * istrolf_puck_made gives one; each other function takes one by value and gives the next in its answer. Store the next one over the old one and go on. A copy is a state of its own. Members may be read;
  * leave the writing to the functions: what they give keeps the rules of its kind. Whatever bytes stand in a state, a call is safe: one that breaks its rules is
  * refused with ISTROLF_BAD_STATE and handed back as it was.
  *
@@ -66,6 +66,63 @@ typedef struct {
     uint8_t buttons;
     int16_t x1, y1, x2, y2;
 } istrolf_report;
+
+/* ---- The port: what a tty hands over in, line words out. The tty marks errors (PARMRK and INPCK set; IGNPAR, IGNBRK,
+ * BRKINT and ISTRIP clear): the byte FF comes as FF FF, a break as FF 00 00, a damaged byte x as FF 00 x. A break and a
+ * damaged byte are ISTROLF_BREAK; so is FF with any other byte behind it, which no tty sends. A mark may be cut at any place.
+ *
+ * Silences. A false one inside a report of U, T or W makes reports that nobody sent; one that is left out does no harm.
+ * Two rules decide everything:
+ * - A silence is that poll(), or a read that was to wait, answered that nothing came. It is never the time between two
+ *   reads: a program that was not run for a while has seen no silence.
+ * - Its length is (t + 2) characters and 50 ms more, where t is the receiver's trigger: how many bytes the receiver holds
+ *   back before it tells of them. 14 is the most that an 8250 has.
+ * Lengths and waits are in units of your own. A length of 0 means that no silence is ever told.
+ *
+ * A silence is told once, when the waits since the last byte make up its length, and again only behind a byte.
+ *
+ * Every port is a good one, and no call is refused. */
+
+typedef struct {
+    uint8_t held;     /* how much of a mark has come: 0 nothing, 1 FF, else FF 00 */
+    uint8_t clears;   /* 0, or bit 7 of every byte is cleared */
+    uint32_t silence; /* how long nothing must come for a silence; 0: none is ever told */
+    uint32_t left;    /* how much of that is left; 0 once the silence was told */
+} istrolf_port;
+
+typedef struct {
+    uint8_t words; /* how many words this tells: 0 or 1 */
+    uint16_t word; /* the word, or 0 */
+    istrolf_port next;
+} istrolf_port_word;
+
+typedef struct {
+    istrolf_port next;
+    size_t taken;   /* bytes taken */
+    size_t written; /* words written */
+} istrolf_port_words;
+
+/* A port on which nothing has come, and the length of its silences. Make it when the tty was set and emptied. */
+istrolf_port istrolf_port_fresh(uint32_t silence);
+
+/* The same for a line of V on a card that cannot do seven data bits: set the tty to eight, and the port clears bit 7 of
+ * every byte, replies among them. Marks are looked for before it does: FF FF is 7F. */
+istrolf_port istrolf_port_clearing(uint32_t silence);
+
+/* A byte as read() gave it. */
+istrolf_port_word istrolf_port_byte(istrolf_port port, uint8_t byte);
+
+/* Bytes as read() gave them. As many places as bytes are room for all. With taken below count there was no room for the
+ * next word: call again with next, raw + taken, count - taken and new room. */
+istrolf_port_words istrolf_port_bytes(istrolf_port port, const uint8_t *raw, size_t count, uint16_t *out, size_t room);
+
+/* A wait in which nothing came: hand in the time that poll() was asked to wait, and only where it answered 0. */
+istrolf_port_word istrolf_port_quiet(istrolf_port port, uint32_t wait);
+
+/* Bytes are known to be lost, however many: a count of the driver's (TIOCGICOUNT) went up. It tells one ISTROLF_BREAK, and a
+ * mark that has come in part goes on. Call it before anything that came behind the loss is handed in, or throw away the words
+ * of what came about that time and call it then. */
+istrolf_port_word istrolf_port_lost(istrolf_port port);
 
 /* ---- The reader: line words in, reports out. */
 
@@ -586,6 +643,12 @@ istrolf_puck_reading istrolf_puck_reader_read(istrolf_puck_reader reader, const 
 #define ISTROLF_BYTES(type, member, size) ISTROLF_IS(sizeof(((istrolf_##type *)0)->member) == size)
 ISTROLF_SIZE(report, 10) ISTROLF_AT(report, buttons, 0) ISTROLF_AT(report, x1, 2) ISTROLF_AT(report, y1, 4)
     ISTROLF_AT(report, x2, 6) ISTROLF_AT(report, y2, 8)
+ISTROLF_SIZE(port, 12) ISTROLF_AT(port, held, 0) ISTROLF_AT(port, clears, 1) ISTROLF_AT(port, silence, 4)
+    ISTROLF_AT(port, left, 8)
+ISTROLF_SIZE(port_word, 16) ISTROLF_AT(port_word, words, 0) ISTROLF_AT(port_word, word, 2)
+    ISTROLF_AT(port_word, next, 4)
+ISTROLF_SIZE(port_words, 32) ISTROLF_AT(port_words, next, 0) ISTROLF_AT(port_words, taken, 16)
+    ISTROLF_AT(port_words, written, 24)
 ISTROLF_SIZE(reader, 8) ISTROLF_AT(reader, format, 0) ISTROLF_AT(reader, kept, 1) ISTROLF_AT(reader, count, 6)
     ISTROLF_AT(reader, awaiting, 7)
 ISTROLF_SIZE(new_reader, 9) ISTROLF_AT(new_reader, refusal, 0) ISTROLF_AT(new_reader, reader, 1)
