@@ -1,4 +1,5 @@
--- Damage on a line, in any number of places: damage that shows (Shown), and words lost wherever they stood (Scarred).
+-- Damage on a line, in any number of places: damage that shows (Shown), words lost wherever they stood (Scarred), and
+-- silences alone that are left out (Fewer), which is none.
 use Prim.Native.Nat.{ℕ}
 use mathlib.Core.Path.{_≡_}
 use mathlib.Core.Bool.{Bool, true}
@@ -24,3 +25,9 @@ pub data Scarred : List ℕ → List ℕ → Type 0 where
   stays : {w : ℕ} {left words : List ℕ} → Scarred left words → Scarred (w ∷ left) (w ∷ words)
   a-break : {left words : List ℕ} → Scarred left words → Scarred (break ∷ left) words
   a-silence : {left words : List ℕ} → Scarred left words → Scarred (silence ∷ left) words
+
+-- `Fewer left words`: words of which silences were left out, any of them.
+pub data Fewer : List ℕ → List ℕ → Type 0 where
+  whole : Fewer [] []
+  stays : {w : ℕ} {left words : List ℕ} → Fewer left words → Fewer (w ∷ left) (w ∷ words)
+  unheard : {left words : List ℕ} → Fewer left words → Fewer left (silence ∷ words)
