@@ -143,7 +143,7 @@ second-five b u h =
       each = bytes-set (set (b .going .bytes) 3 (at 3 bs)) 4 (at 4 bs) (bytes-set (b .going .bytes) 3 (at 3 bs) (h .each) (bytes-below FiveByte (secondOnly p) a 3)) (bytes-below FiveByte (secondOnly p) a 4);
     }
 
-ready-five : (b : BallBox) → FiveBytes (b .going) → FiveBytes (withByteReady b .going)
+pub ready-five : (b : BallBox) → FiveBytes (b .going) → FiveBytes (withByteReady b .going)
 unfolding withByteReady
 ready-five b h =
     let u = eqb (b .settings .format) (letterOf FiveByte) in

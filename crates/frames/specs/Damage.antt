@@ -1,10 +1,11 @@
 -- Damage on a line, in any number of places: damage that shows (Shown), words lost wherever they stood (Scarred), and
--- silences alone that are left out (Fewer), which is none.
+-- silences left out (Fewer, Quieter), which is none.
 use Prim.Native.Nat.{ℕ}
 use mathlib.Core.Path.{_≡_}
 use mathlib.Core.Bool.{Bool, true}
 use mathlib.Core.List.{List, [], _∷_, _++_}
 use Rattle.frames.specs.Words.{break, silence}
+use Rattle.frames.specs.Passages.{Passage, silent}
 
 -- `Shown marked left words`: what is left of words on which all damage shows, in a format with a marked first byte or
 -- without. A word stays; or a silence is left out; or a stretch of any words is lost, with a 256 in its place. The
@@ -31,3 +32,9 @@ pub data Fewer : List ℕ → List ℕ → Type 0 where
   whole : Fewer [] []
   stays : {w : ℕ} {left words : List ℕ} → Fewer left words → Fewer (w ∷ left) (w ∷ words)
   unheard : {left words : List ℕ} → Fewer left words → Fewer left (silence ∷ words)
+
+-- `Quieter left passages`: the same of passages.
+pub data Quieter {K : Type 0} : List (Passage K) → List (Passage K) → Type 0 where
+  whole : Quieter [] []
+  stays : {p : Passage K} {left passages : List (Passage K)} → Quieter left passages → Quieter (p ∷ left) (p ∷ passages)
+  unheard : {left passages : List (Passage K)} → Quieter left passages → Quieter left (silent ∷ passages)
