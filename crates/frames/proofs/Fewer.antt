@@ -1,12 +1,12 @@
 -- A line of which silences were left out: its bytes and breaks stay, so that it is the same passages with fewer silences.
 use Prim.Native.Nat.{ℕ, _<_}
 use mathlib.Core.Path.{_≡_, refl, sym, _∙_, ap}
-use mathlib.Core.Bool.{Bool, true, false}
-use mathlib.Core.List.{List, [], _∷_, _++_, append-assoc, append-nil}
+use mathlib.Core.Bool.{Bool}
+use mathlib.Core.List.{List, [], _∷_, _++_, append-assoc}
 use native.Mathlib.Omega.{arith}
 use lib.ListN.{take}
 use Rattle.frames.specs.Words.{break, silence}
-use Rattle.frames.specs.Passages.{Passage, silent, finished, broken, UnderWay, nothing, first, Unbroken, finishedIn, finishedBy, wordsOf, passageWords, partWords, SoundOf, Sound, SoundPart}
+use Rattle.frames.specs.Passages.{Passage, silent, finished, broken, UnderWay, nothing, first, Unbroken, finishedBy, wordsOf, passageWords, partWords, Sound, SoundPart}
 use Rattle.frames.specs.Frame.{Frame, Fits, Framed, Laws}
 use Rattle.frames.specs.Damage.{Shown, Fewer, Quieter}
 use Rattle.frames.specs.Damage as damage
@@ -56,10 +56,6 @@ all-stay (_ ∷ words) h (damage.unheard f) = absurd (omega (arith, h .0))
 
 -- passages with fewer silences: sound, unbroken and finished as before
 module _ {K : Type 0} where
-  pub quieter-behind : (front : List (Passage K)) {left passages : List (Passage K)} → Quieter left passages → Quieter (front ++ left) (front ++ passages)
-  quieter-behind [] q = q
-  quieter-behind (p ∷ front) q = damage.stays (quieter-behind front q)
-
   pub quieter-unbroken : {left passages : List (Passage K)} → Quieter left passages → Unbroken passages → Unbroken left
   quieter-unbroken damage.whole u = tt
   quieter-unbroken (damage.stays {p = silent} q) u = quieter-unbroken q u

@@ -13,7 +13,7 @@ use Rattle.frames.specs.Words.{silence, lineWords}
 use Rattle.fold.specs.Fold.{written}
 use Rattle.fold.specs.Counting.{Long, longRead, total, unused, asOne, answersOver, stateOver}
 use Rattle.fold.proofs.Counting as fold
-use Rattle.port.specs.Marks.{port, made, cleared, mark, plain, behindMark, byteOf, quietOf}
+use Rattle.port.specs.Marks.{port, opened, cleared, mark, plain, behindMark, byteOf, quietOf}
 use Rattle.port.specs.Line as line
 use Rattle.port.specs.Delivered.{Came, sound, damaged, broken, delivered, lineOf}
 use Rattle.port.specs.Sessions.{wordsOver, waits, sum}
@@ -26,7 +26,7 @@ use Rattle.port.proofs.Loop.{one-each}
 -- what comes back for one word, and then the rest
 abbrev Back : ℕ → ℕ → List ℕ → List ℕ → Type 0
 Back c q raw words =
-    (written line.hears (answersOver line.hears (made c q) raw) ≡ words) × (stateOver line.hears (made c q) raw ≡ made c q)
+    (written line.hears (answersOver line.hears (opened c q) raw) ≡ words) × (stateOver line.hears (opened c q) raw ≡ opened c q)
 
 sound-back : (c q b : ℕ) (rest words : List ℕ) (t : Bool) → eqb b mark ≡ t → Back c q rest words
     → Back c q (cond t (mark ∷ mark ∷ []) (b ∷ []) ++ rest) (cleared c b ∷ words)
@@ -69,12 +69,12 @@ module _ (p : Port) (raw out : List ℕ) where
 
 -- What a tty delivers for what came on the line comes back as its words, all of it, and the port holds no mark.
 pub round-trip : (c q : ℕ) (came : List Came) (out : List ℕ) (a : Words) (x : List ℕ)
-    → BytesPromise (made c q) (delivered came) out a x
+    → BytesPromise (opened c q) (delivered came) out a x
     → length (lineOf c came) ≤ length out
-    → (a .taken ≡ length (delivered came)) × (a .next ≡ made c q) × (x ≡ lineOf c came ++ drop (length (lineOf c came)) out)
+    → (a .taken ≡ length (delivered came)) × (a .next ≡ opened c q) × (x ≡ lineOf c came ++ drop (length (lineOf c came)) out)
 round-trip c q came out a x e h =
     let b = back c q came in
-    let t = all-taken (made c q) (delivered came) out a x e (rw (b .0) h) in
+    let t = all-taken (opened c q) (delivered came) out a x e (rw (b .0) h) in
     (t .0, t .1 ∙ b .1, t .2 ∙ rw (b .0))
 
 -- Bytes in any cut: where the first part was all taken, the two calls join as one.

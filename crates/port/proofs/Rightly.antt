@@ -11,7 +11,7 @@ use lib.Dec.{eqb, leb, ltb}
 use borrow.Author.Tests.{eqb-true, ne-eqb, lt-leb}
 use Rattle.frames.specs.Words.{break}
 use Rattle.frames.specs.Damage.{Fewer, whole, stays, unheard}
-use Rattle.port.specs.Marks.{port, made, cleared, mark, plain, behindMark, byteOf, quietOf, lostOf}
+use Rattle.port.specs.Marks.{port, opened, cleared, mark, plain, behindMark, byteOf, quietOf, lostOf}
 use Rattle.port.specs.Line.{wordsIn}
 use Rattle.port.specs.Delivered.{Came, sound, damaged, broken, deliveredOne, delivered, wordOf}
 use Rattle.port.specs.Sessions.{Event, read, thrown, quiet, lost, wordsOver, portOver, waits, reads, throws, sum, Alike, same, before-the-mark, before-thrown, no-word, later, and-then}
@@ -26,13 +26,13 @@ use Rattle.port.proofs.Laws.{told, over-by, all-taken}
 
 -- what came is told, and the whole length of a silence must be waited again
 sound-told : (c q l b : ℕ) (rest : List Event) (t : Bool) → eqb b mark ≡ t
-    → wordsOver (port 0 c q l) (reads (cond t (mark ∷ mark ∷ []) (b ∷ [])) ++ rest) ≡ cleared c b ∷ wordsOver (made c q) rest
+    → wordsOver (port 0 c q l) (reads (cond t (mark ∷ mark ∷ []) (b ∷ [])) ++ rest) ≡ cleared c b ∷ wordsOver (opened c q) rest
 unfolding wordsOver byteOf plain behindMark
 sound-told c q l b rest true e = rw (eqb-true b mark e)
 sound-told c q l b rest false e = rw e
 
 came-told : (c q l : ℕ) (x : Came) (rest : List Event)
-    → wordsOver (port 0 c q l) (reads (deliveredOne x) ++ rest) ≡ wordOf c x ∷ wordsOver (made c q) rest
+    → wordsOver (port 0 c q l) (reads (deliveredOne x) ++ rest) ≡ wordOf c x ∷ wordsOver (opened c q) rest
 unfolding wordsOver byteOf plain behindMark
 came-told c q l (sound b) rest = sound-told c q l b rest (eqb b mark) refl
 came-told c q l (damaged b) rest = refl
@@ -40,12 +40,12 @@ came-told c q l broken rest = refl
 
 -- and what is thrown away leaves no word, nor a mark
 thrown-sound : (c q l b : ℕ) (rest : List Event) (t : Bool) → eqb b mark ≡ t
-    → wordsOver (port 0 c q l) (throws (cond t (mark ∷ mark ∷ []) (b ∷ [])) ++ rest) ≡ wordsOver (made c q) rest
+    → wordsOver (port 0 c q l) (throws (cond t (mark ∷ mark ∷ []) (b ∷ [])) ++ rest) ≡ wordsOver (opened c q) rest
 unfolding wordsOver byteOf plain behindMark
 thrown-sound c q l b rest true e = refl
 thrown-sound c q l b rest false e = rw e
 
-thrown-one : (c q l : ℕ) (x : Came) (rest : List Event) → wordsOver (port 0 c q l) (throws (deliveredOne x) ++ rest) ≡ wordsOver (made c q) rest
+thrown-one : (c q l : ℕ) (x : Came) (rest : List Event) → wordsOver (port 0 c q l) (throws (deliveredOne x) ++ rest) ≡ wordsOver (opened c q) rest
 unfolding wordsOver byteOf plain behindMark
 thrown-one c q l (sound b) rest = thrown-sound c q l b rest (eqb b mark) refl
 thrown-one c q l (damaged b) rest = refl
@@ -56,14 +56,14 @@ throws-append [] ys = refl
 throws-append (x ∷ xs) ys = ap (λ (l : List Event). thrown x ∷ l) (throws-append xs ys)
 
 about-thrown : (c q l : ℕ) (about : List Came) (rest : List Event)
-    → wordsOver (port 0 c q l) (throws (delivered about) ++ (lost ∷ rest)) ≡ break ∷ wordsOver (made c q) rest
+    → wordsOver (port 0 c q l) (throws (delivered about) ++ (lost ∷ rest)) ≡ break ∷ wordsOver (opened c q) rest
 unfolding wordsOver
 about-thrown c q l [] rest = refl
 about-thrown c q l (x ∷ about) rest =
     rw (throws-append (deliveredOne x) (delivered about), append-assoc (throws (deliveredOne x)) (throws (delivered about)) (lost ∷ rest))
     (thrown-one c q l x (throws (delivered about) ++ (lost ∷ rest)) ∙ about-thrown c q q about rest)
 
-what-told : (c q l : ℕ) (w : What) (rest : List Event) → wordsOver (port 0 c q l) (eventsAt w ++ rest) ≡ wordAt c w ∷ wordsOver (made c q) rest
+what-told : (c q l : ℕ) (w : What) (rest : List Event) → wordsOver (port 0 c q l) (eventsAt w ++ rest) ≡ wordAt c w ∷ wordsOver (opened c q) rest
 unfolding wordsOver
 what-told c q l (came x) rest = came-told c q l x rest
 what-told c q l (missed about) rest = rw (append-assoc (throws (delivered about)) (lost ∷ []) rest) (about-thrown c q l about rest)
@@ -85,7 +85,7 @@ record Holds (c q : ℕ) (p : Port) : Type 0 where
 holds-is : {c q : ℕ} {p : Port} → Holds c q p → p ≡ port 0 c q (p .left)
 holds-is h = rw (← h .held, ← h .clears, ← h .silence)
 
-at-first : (c q : ℕ) → Holds c q (made c q)
+at-first : (c q : ℕ) → Holds c q (opened c q)
 at-first c q = record { held = refl; clears = refl; silence = refl }
 
 wait-holds : (c q l w : ℕ) (t u : Bool) → eqb l 0 ≡ t → ltb w l ≡ u → Holds c q (quietOf (port 0 c q l) w .next)
@@ -114,34 +114,34 @@ told-stood q s (suc n) true u e f h few = rw e (unheard-all (suc n) few)
 told-stood q s (suc n) false true e f h few = rw (e, f) (stays (unheard-all n few))
 told-stood q s (suc n) false false e f h few = rw (e, f) (unheard-all (suc n) few)
 
--- the waits of a port that was just made or restarted, and then the rest
+-- the waits of a port that was just opened or restarted, and then the rest
 waits-told : (c q n : ℕ) (ws : List ℕ) (rest : List Event) (words : List ℕ)
     → (n ≡ 0 → sum ws < q)
-    → Fewer (wordsOver (portOver (made c q) (waits ws)) rest) words
-    → Fewer (wordsOver (made c q) (waits ws ++ rest)) (silent n ++ words)
+    → Fewer (wordsOver (portOver (opened c q) (waits ws)) rest) words
+    → Fewer (wordsOver (opened c q) (waits ws ++ rest)) (silent n ++ words)
 waits-told c q n ws rest words sure few =
-    rw (apart ws (made c q) rest, over-by 0 c q q ws) (told-stood q (sum ws) n (eqb q 0) (leb q (sum ws)) refl refl sure few)
+    rw (apart ws (opened c q) rest, over-by 0 c q q ws) (told-stood q (sum ws) n (eqb q 0) (leb q (sum ws)) refl refl sure few)
 
 hears : (c q : ℕ) (moments : List Moment) (p : Port) → Holds c q p → Sure q moments → Fewer (wordsOver p (eventsOf moments)) (stood c moments)
 unfolding wordsOver
 hears c q [] p h sure = whole
 hears c q (m ∷ moments) p h sure =
     let rest = waits (m .waited) ++ eventsOf moments in
-    let words : wordsOver p (eventsOf (m ∷ moments)) ≡ wordAt c (m .what) ∷ wordsOver (made c q) rest =
+    let words : wordsOver p (eventsOf (m ∷ moments)) ≡ wordAt c (m .what) ∷ wordsOver (opened c q) rest =
     ap (λ (x : Port). wordsOver x (eventsOf (m ∷ moments))) (holds-is h) ∙ what-told c q (p .left) (m .what) rest in
-    let later = hears c q moments (portOver (made c q) (waits (m .waited))) (waits-hold c q (m .waited) (made c q) (at-first c q)) (sure .1) in
+    let later = hears c q moments (portOver (opened c q) (waits (m .waited))) (waits-hold c q (m .waited) (opened c q) (at-first c q)) (sure .1) in
     rw words (stays (waits-told c q (m .silences) (m .waited) (eventsOf moments) (stood c moments) (sure .0) later))
 
 -- The port tells what stood on the line, every byte and every break in its order, and no silence that did not stand there;
 -- it may leave silences out.
-pub heard-rightly : (c q : ℕ) (moments : List Moment) → Sure q moments → Fewer (wordsOver (made c q) (eventsOf moments)) (stood c moments)
-heard-rightly c q moments sure = hears c q moments (made c q) (at-first c q) sure
+pub heard-rightly : (c q : ℕ) (moments : List Moment) → Sure q moments → Fewer (wordsOver (opened c q) (eventsOf moments)) (stood c moments)
+heard-rightly c q moments sure = hears c q moments (opened c q) (at-first c q) sure
 
 -- And so from the opening of the port on.
-pub heard-from-the-start : (c q : ℕ) (a : Arrival) → SureFrom q a → Fewer (wordsOver (made c q) (eventsFrom a)) (stoodFrom c a)
+pub heard-from-the-start : (c q : ℕ) (a : Arrival) → SureFrom q a → Fewer (wordsOver (opened c q) (eventsFrom a)) (stoodFrom c a)
 heard-from-the-start c q a sure =
     waits-told c q (a .silences) (a .waited) (eventsOf (a .moments)) (stood c (a .moments)) (sure .0)
-    (hears c q (a .moments) (portOver (made c q) (waits (a .waited))) (waits-hold c q (a .waited) (made c q) (at-first c q)) (sure .1))
+    (hears c q (a .moments) (portOver (opened c q) (waits (a .waited))) (waits-hold c q (a .waited) (opened c q) (at-first c q)) (sure .1))
 
 -- A lot of bytes gives no more words than bytes, and the words that they give one by one.
 a-word-each : (g : Given) → length (wordsIn g) ≤ 1
@@ -202,8 +202,8 @@ pub nothing-to-throw : (p : Port) (b : ℕ) → byteOf p b .given ≡ Nothing �
 unfolding wordsOver
 nothing-to-throw p b n rest = rw n
 
--- So by any calls of a port that was just made, fresh or clearing.
-pub promised-rightly : (c q : ℕ) {p : Port} → p ≡ made c q → (a : Arrival) → SureFrom q a
+-- So by any calls of a port that was just opened, fresh or clearing.
+pub promised-rightly : (c q : ℕ) {p : Port} → p ≡ opened c q → (a : Arrival) → SureFrom q a
     → {words : List ℕ} → Calls p (eventsFrom a) words
     → Fewer words (stoodFrom c a)
 promised-rightly c q is a sure calls = rw (calls-tell calls, is) (heard-from-the-start c q a sure)

@@ -15,8 +15,8 @@ abbrev pub port : ℕ → ℕ → ℕ → ℕ → Port
 port held clears quiet left = record { held = held; clears = clears; silence = quiet; left = left }
 
 -- nothing has come
-abbrev pub made : ℕ → ℕ → Port
-made clears quiet = port 0 clears quiet quiet
+abbrev pub opened : ℕ → ℕ → Port
+opened clears quiet = port 0 clears quiet quiet
 
 -- a byte of the line: bits 6 to 0 where the port clears bit 7
 unfoldable pub cleared : ℕ → ℕ → ℕ

@@ -4,7 +4,7 @@ use Prim.Native.Nat.{ℕ, _≤_}
 use mathlib.Core.Path.{_≡_}
 use mathlib.Core.List.{List, [], _∷_, _++_}
 use lib.ListN.{length, take}
-use Rattle.port.specs.Marks.{made, byteOf, quietOf, lostOf}
+use Rattle.port.specs.Marks.{opened, byteOf, quietOf, lostOf}
 use Rattle.port.specs.Line.{wordsIn, whole, lineOf}
 use Rattle.port.specs.Sessions.{Event, read, thrown, quiet, lost, reads, throws}
 use Rattle.port.specs.declared.Port.{Port}
@@ -13,11 +13,11 @@ use Rattle.port.specs.declared.Words.{Words}
 
 -- `Port::fresh(silence)`
 abbrev pub FreshPromise : ℕ → Port → Type 0
-FreshPromise silence answer = answer ≡ made 0 silence
+FreshPromise silence answer = answer ≡ opened 0 silence
 
 -- `Port::clearing(silence)`
 abbrev pub ClearingPromise : ℕ → Port → Type 0
-ClearingPromise silence answer = answer ≡ made 1 silence
+ClearingPromise silence answer = answer ≡ opened 1 silence
 
 -- `Port::byte(self, b)`
 abbrev pub BytePromise : Port → ℕ → Heard → Type 0

@@ -2,11 +2,13 @@
 use Prim.Native.Nat.{ℕ}
 use mathlib.Core.Path.{_≡_, sym, _∙_, ap}
 use mathlib.Core.List.{List, [], _∷_, _++_, append-assoc}
+use lib.ListN.{length, drop}
+use lib.Seq.{drop-append-seam}
 use Rattle.frames.specs.Passages.{Passage, silent, finished, broken, UnderWay, Unbroken, Sub, passageWords, partWords}
 use Rattle.frames.proofs.Sub.{sub-all, sub-none, sub-append}
-use Rattle.frames.specs.Damage.{Fewer}
-use Rattle.frames.proofs.Passages.{finished-append, passages-append, sound-right}
-use Rattle.frames.proofs.Fewer.{left-of, quieter-behind, quieter-unbroken, quieter-finished, quieter-sound}
+use Rattle.frames.specs.Damage.{Fewer, Quieter}
+use Rattle.frames.proofs.Passages.{finished-append, passages-append, sound-append, sound-left, sound-right}
+use Rattle.frames.proofs.Fewer.{left-of, quieter-unbroken, quieter-finished, quieter-sound}
 use Rattle.wire.specs.Messages.{Message, messageBytes, HeldBy, SoundIn, SoundEnd, finishedReports, carriedIn}
 use Rattle.wire.specs.declared.Report.{Report}
 use Rattle.wire.specs.declared.Format.{Format}
@@ -38,21 +40,37 @@ follows-on f early later going r before s e (fresh-since a front rest fresh m is
     (followed.fresh-followed f (early ++ later) going s e front (rest ++ later)
     (ap (λ (l : List (Passage Message)). l ++ later) is ∙ append-assoc front (silent ∷ rest) later) m paused (unbroken-then rest later v u) a fresh)
 
--- Behind what it has followed any silences may be left out: it hands out the same reports as if all had been told.
-pub as-if-told : (f : Format) (early later : List (Passage Message)) (going : UnderWay Message) (r : Reader) (before : List Report)
-    → SoundIn f (early ++ later) → SoundEnd f going → Follows f early r before → Unbroken later
-    → {late : List ℕ} → Fewer late (passageWords messageBytes later ++ partWords messageBytes going)
-    → HandsOutBy r (passageWords messageBytes early ++ late) (before ++ finishedReports f later)
-as-if-told f early later going r before s e follows u {late} few =
-    let behind = framed-line f later (sound-right messageBytes (HeldBy f) early later s) in
-    let l = left-of (frameOf f) (laws f) messageBytes going (framed-going f going e) later behind few in
-    let sound = quieter-sound messageBytes (HeldBy f) (quieter-behind early (l .quieter)) s in
+-- What stands behind the passages `early` on a line, as words.
+rest-of : (early later : List (Passage Message)) (going : UnderWay Message) (rest : List ℕ)
+    → passageWords messageBytes (early ++ later) ++ partWords messageBytes going ≡ passageWords messageBytes early ++ rest
+    → passageWords messageBytes later ++ partWords messageBytes going ≡ rest
+rest-of early later going rest is =
+    let w = passageWords messageBytes early in
+    let v = passageWords messageBytes later ++ partWords messageBytes going in
+    let split : passageWords messageBytes (early ++ later) ++ partWords messageBytes going ≡ w ++ v = rw (passages-append messageBytes, append-assoc) in
+    sym (drop-append-seam w v) ∙ (ap (drop (length w)) (sym split ∙ is) ∙ drop-append-seam w rest)
+
+-- Silences may be left out of the line: of the passages `early`, as which the reader has heard `heard`, and of the words
+-- behind them. It hands out the same reports as if all had been told.
+pub as-if-told : (f : Format) (early later : List (Passage Message)) (going : UnderWay Message) → SoundIn f (early ++ later) → SoundEnd f going
+    → Unbroken later
+    → {heard : List (Passage Message)} → Quieter heard early
+    → {r : Reader} {before : List Report} → Follows f heard r before
+    → (rest : List ℕ) → passageWords messageBytes (early ++ later) ++ partWords messageBytes going ≡ passageWords messageBytes early ++ rest
+    → {late : List ℕ} → Fewer late rest
+    → HandsOutBy r (passageWords messageBytes heard ++ late) (before ++ finishedReports f later)
+as-if-told f early later going s e u {heard} quieter {r} {before} follows rest is {late} few =
+    let behind = sound-right messageBytes (HeldBy f) early later s in
+    let told : Fewer late (passageWords messageBytes later ++ partWords messageBytes going) = rw (rest-of early later going rest is) few in
+    let l = left-of (frameOf f) (laws f) messageBytes going (framed-going f going e) later (framed-line f later behind) told in
+    let ahead = quieter-sound messageBytes (HeldBy f) quieter (sound-left messageBytes (HeldBy f) early later s) in
+    let sound = sound-append messageBytes (HeldBy f) heard (l .quiet) ahead (quieter-sound messageBytes (HeldBy f) (l .quieter) behind) in
     let same = ap (λ (x : List Report). before ++ x) (quieter-finished (carriedIn f) (l .quieter)) in
-    let words : passageWords messageBytes (early ++ l .quiet) ++ partWords messageBytes going ≡ passageWords messageBytes early ++ late =
-    ap (λ (x : List ℕ). x ++ partWords messageBytes going) (passages-append messageBytes early (l .quiet))
-    ∙ (append-assoc (passageWords messageBytes early) (passageWords messageBytes (l .quiet)) (partWords messageBytes going)
-    ∙ ap (λ (x : List ℕ). passageWords messageBytes early ++ x) (sym (l .is))) in
-    rw (words, same) at (follows-on f early (l .quiet) going r before sound e follows (quieter-unbroken (l .quieter) u))
+    let words : passageWords messageBytes (heard ++ l .quiet) ++ partWords messageBytes going ≡ passageWords messageBytes heard ++ late =
+    ap (λ (x : List ℕ). x ++ partWords messageBytes going) (passages-append messageBytes heard (l .quiet))
+    ∙ (append-assoc (passageWords messageBytes heard) (passageWords messageBytes (l .quiet)) (partWords messageBytes going)
+    ∙ ap (λ (x : List ℕ). passageWords messageBytes heard ++ x) (sym (l .is))) in
+    rw (words, same) at (follows-on f heard (l .quiet) going r before sound e follows (quieter-unbroken (l .quieter) u))
 
 -- a reader that follows the line hands out the finished reports, or the last of them
 pub followed-some : {f : Format} {passages : List (Passage Message)} {r : Reader} {found : List Report} → Follows f passages r found → Sub found (finishedReports f passages)
