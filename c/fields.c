@@ -66,6 +66,70 @@ static void reader(void) {
     same_reader(a.next, 'U', four, 4, 2);
 }
 
+static void same_port(istrolf_port p, uint8_t held, uint8_t clears, uint32_t silence, uint32_t left) {
+    same("port.held", p.held, held);
+    same("port.clears", p.clears, clears);
+    same("port.silence", p.silence, silence);
+    same("port.left", p.left, left);
+}
+
+static void same_port_word(istrolf_port_word w, uint8_t words, uint16_t word) {
+    same("port_word.words", w.words, words);
+    same("port_word.word", w.word, word);
+}
+
+static void port(void) {
+    same_port(istrolf_port_fresh(70000), 0, 0, 70000, 70000);
+    same_port(istrolf_port_clearing(80000), 0, 1, 80000, 80000);
+
+    /* in: what is held of a mark, whether bit 7 is cleared, the length of a silence and what is left of it; out: the same */
+    const istrolf_port plain = {0, 0, 70000, 60000}, clearing = {0, 9, 70000, 60000}, marked = {1, 9, 70000, 60000}, half = {2, 9, 70000, 60000};
+    istrolf_port_word w = istrolf_port_byte(plain, 0xEC);
+    same_port_word(w, 1, 0xEC);
+    same_port(w.next, 0, 0, 70000, 70000);
+    w = istrolf_port_byte(clearing, 0xEC);
+    same_port_word(w, 1, 0x6C);
+    same_port(w.next, 0, 9, 70000, 70000);
+    w = istrolf_port_byte(clearing, 0xFF);
+    same_port_word(w, 0, 0);
+    same_port(w.next, 1, 9, 70000, 70000);
+    w = istrolf_port_byte(marked, 0xFF);
+    same_port_word(w, 1, 0x7F);
+    same_port(w.next, 0, 9, 70000, 70000);
+    w = istrolf_port_byte(marked, 0);
+    same_port_word(w, 0, 0);
+    same_port(w.next, 2, 9, 70000, 70000);
+    same_port_word(istrolf_port_byte(marked, 1), 1, ISTROLF_BREAK);
+    same_port_word(istrolf_port_byte(half, 0x41), 1, ISTROLF_BREAK);
+    w = istrolf_port_quiet(marked, 59999);
+    same_port_word(w, 0, 0);
+    same_port(w.next, 1, 9, 70000, 1);
+    w = istrolf_port_quiet(marked, 60000);
+    same_port_word(w, 1, ISTROLF_SILENCE);
+    same_port(w.next, 0, 9, 70000, 0);
+    w = istrolf_port_quiet(w.next, 4000000000u);
+    same_port_word(w, 0, 0);
+    same_port(w.next, 0, 9, 70000, 0);
+    w = istrolf_port_lost(half);
+    same_port_word(w, 1, ISTROLF_BREAK);
+    same_port(w.next, 2, 9, 70000, 70000);
+
+    /* five words of twelve bytes, FF at the end; and only three where there is room for three */
+    const uint8_t raw[12] = {0x41, 0xFF, 0xFF, 0xFF, 0, 0, 0xFF, 0, 0x42, 0x43, 0xFF, 0};
+    const uint16_t words[7] = {0x41, 0xFF, ISTROLF_BREAK, ISTROLF_BREAK, 0x43, 705, 706};
+    uint16_t out[7];
+    for (int i = 0; i < 7; i++) out[i] = (uint16_t)(700 + i);
+    istrolf_port_words a = istrolf_port_bytes(plain, raw, 11, out, 7);
+    same("port_words.taken", (long long)a.taken, 11);
+    same("port_words.written", (long long)a.written, 5);
+    same_port(a.next, 1, 0, 70000, 70000);
+    for (int i = 0; i < 7; i++) same("out", out[i], words[i]);
+    a = istrolf_port_bytes(plain, raw, 12, out, 3);
+    same("port_words.taken", (long long)a.taken, 8);
+    same("port_words.written", (long long)a.written, 3);
+    same_port(a.next, 2, 0, 70000, 70000);
+}
+
 static void same_watch(istrolf_watch w, uint8_t known, uint8_t last) {
     same("watch.known", w.known, known);
     same("watch.last", w.last, last);
@@ -707,6 +771,7 @@ static void puck_reader(void) {
 }
 
 int main(void) {
+    port();
     reader();
     watch();
     encoder();

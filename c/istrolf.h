@@ -102,7 +102,8 @@ typedef struct {
     size_t written; /* words written */
 } istrolf_port_words;
 
-/* A port on which nothing has come, and the length of its silences. Make it when the tty was set and emptied. */
+/* A port on which nothing has come, and the length of its silences. Make it when the tty was set and emptied, and a new one
+ * when a format letter goes out. A port that joins a line that is already going may be told istrolf_port_lost first. */
 istrolf_port istrolf_port_fresh(uint32_t silence);
 
 /* The same for a line of V on a card that cannot do seven data bits: set the tty to eight, and the port clears bit 7 of
