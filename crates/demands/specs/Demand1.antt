@@ -39,6 +39,9 @@ use Rattle.reader.specs.declared.Answers.{Answers}
 use Rattle.reader.proofs.Permitted as permitted
 use Rattle.reader.proofs.Refusals as refusals
 use Rattle.reader.proofs.Goodness as goodness
+use Rattle.port.specs.Promises as port
+use Rattle.port.specs.declared.Port.{Port}
+use Rattle.port.proofs.Answers as port-answers
 use Rattle.saves.specs.Promises as watch
 use Rattle.saves.specs.declared.Watch.{Watch}
 use Rattle.saves.proofs.Answers as watch-answers
@@ -162,6 +165,25 @@ read-line-one = permitted.one-read
 
 pub answers-one : (r : Reader) (words : List ℕ) (out : List ℤ) → OneWith (AnswersPromise r words out)
 answers-one = permitted.one-answers
+
+-- `Port::fresh`, `clearing`, `byte`, `quiet`, `lost`, `bytes`
+pub fresh-port-one : (silence : ℕ) → One (port.FreshPromise silence)
+fresh-port-one = port-answers.one-fresh
+
+pub clearing-port-one : (silence : ℕ) → One (port.ClearingPromise silence)
+clearing-port-one = port-answers.one-clearing
+
+pub port-byte-one : (p : Port) (byte : ℕ) → One (port.BytePromise p byte)
+port-byte-one = port-answers.one-byte
+
+pub port-quiet-one : (p : Port) (wait : ℕ) → One (port.QuietPromise p wait)
+port-quiet-one = port-answers.one-quiet
+
+pub port-lost-one : (p : Port) → One (port.LostPromise p)
+port-lost-one = port-answers.one-lost
+
+pub port-bytes-one : (p : Port) (raw before : List ℕ) → OneWith (port.BytesPromise p raw before)
+port-bytes-one = port-answers.one-bytes
 
 -- `Watch::fresh`, `knowing`, `heard`, `over`
 pub fresh-watch-one : One watch.FreshPromise

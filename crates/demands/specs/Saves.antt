@@ -11,7 +11,7 @@ use borrow.Author.Tests.{ne-eqb, lt-leb}
 use Rattle.frames.specs.Words.{lineWords}
 use Rattle.frames.specs.Passages.{Passage, silent, finished, UnderWay, nothing, Unbroken, Sub, passageWords, partWords}
 use Rattle.frames.specs.Frame.{read}
-use Rattle.frames.specs.Damage.{Shown, Scarred}
+use Rattle.frames.specs.Damage.{Shown, Scarred, Fewer, Quieter}
 use Rattle.frames.proofs.Sub.{sub-all, sub-append, sub-more, sub-map}
 use Rattle.frames.proofs.Passages.{passages-append}
 use Rattle.wire.specs.Line.{letterOf, sizeOf, markedOf}
@@ -34,7 +34,7 @@ use Rattle.reader.proofs.Damaged as damaged
 use Rattle.reader.proofs.Framed.{frameOf, stateOf}
 use Rattle.reader.proofs.Scars as scars
 use Rattle.reader.proofs.Shown.{shown-true}
-use Rattle.reader.proofs.Follows.{unbroken-then, front-unbroken, follows-on, followed-some}
+use Rattle.reader.proofs.Follows.{unbroken-then, front-unbroken, follows-on, as-if-told, followed-some}
 use Rattle.ballbox.specs.Presses.{remembered}
 use Rattle.ballbox.specs.Commands.{isStream, asksForReports}
 use Rattle.ballbox.specs.Events.{bytesLeft}
@@ -127,6 +127,21 @@ module _ {f : Format} {b : BallBox} {g : UnderWay Message} (box : Box f b g) (fr
         record {
           since = finishedReports f (o .later);
           hands-out = rw (line, o .is) (follows-on f (passagesOf b g front) (o .later) (goingAfter b g all) r before (o .sound) (o .end) follows (o .unbroken));
+          in-order = press-seen f b g front n back o;
+        }
+
+    -- It does so too where silences are left out. The reader has followed the words of `front` as they were told, with
+    -- silences left out of them (`heard`); and of the words behind, `rest`, any are left out.
+    pub survives-unheard : {heard : List (Passage Message)} → Quieter heard (passagesOf b g front)
+        → {r : Reader} {before : List Report} → Follows f heard r before
+        → (rest : List ℕ) → partWords messageBytes g ++ wordsGiven answers ≡ passageWords messageBytes (passagesOf b g front) ++ rest
+        → {late : List ℕ} → Fewer late rest
+        → ShowsStates f r (passageWords messageBytes heard ++ late) before (remembered (boxAfter b front .memory) ++ (n ∷ []))
+    survives-unheard quieter follows rest is few =
+        let o = outlives in
+        record {
+          since = finishedReports f (o .later);
+          hands-out = as-if-told f (passagesOf b g front) (o .later) (goingAfter b g all) (o .sound) (o .end) (o .unbroken) quieter follows rest (rw (line, o .is) at is) few;
           in-order = press-seen f b g front n back o;
         }
 

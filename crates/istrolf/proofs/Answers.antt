@@ -7,6 +7,9 @@ use Rattle.wire.specs.Encoder as wire
 use Rattle.wire.specs.declared.Report.{Report}
 use Rattle.ballbox.specs.declared.Event.{Event}
 use Rattle.replies.specs.declared.Asked.{Asked}
+use Rattle.port.specs.declared.Port.{Port}
+use Rattle.port.specs.declared.Words.{Words}
+use Rattle.port.proofs.Answers as port
 use Rattle.saves.specs.declared.Watch.{Watch}
 use Rattle.saves.specs.declared.Told.{Told}
 use Rattle.saves.specs.declared.Watched.{Watched}
@@ -15,7 +18,8 @@ use Rattle.istrolf.specs.Listers as listers
 use Rattle.istrolf.specs.Bridges as bridges
 use Rattle.istrolf.specs.Told as told
 use Rattle.istrolf.specs.Readbacks as readbacks
-use Rattle.istrolf.specs.Promises.{FreshReaderPromise, ReaderStepPromise, ReadPromise, EncodePromise, FreshBoxPromise, BoxStepPromise, FreshListerPromise, FeedPromise, FinishPromise, FreshYardPromise, YardStepPromise, YardCheckPromise, FreshBridgePromise, ConvertPromise, PickPromise, SalvagePromise, FreshToldPromise, TellPromise, ToldStepPromise, ToldReadPromise, FreshReadbackPromise, ReadbackReadPromise, ReadbackFinishPromise, ReadbackRewritePromise, MadePuckPromise, PuckStepPromise, FreshPuckReaderPromise, PuckReaderStepPromise, PuckReadPromise, FreshWatchPromise, KnowingWatchPromise, WatchHeardPromise, WatchOverPromise}
+use Rattle.istrolf.specs.Promises.{FreshReaderPromise, ReaderStepPromise, ReadPromise, EncodePromise, FreshBoxPromise, BoxStepPromise, FreshListerPromise, FeedPromise, FinishPromise, FreshYardPromise, YardStepPromise, YardCheckPromise, FreshBridgePromise, ConvertPromise, PickPromise, SalvagePromise, FreshToldPromise, TellPromise, ToldStepPromise, ToldReadPromise, FreshReadbackPromise, ReadbackReadPromise, ReadbackFinishPromise, ReadbackRewritePromise, MadePuckPromise, PuckStepPromise, FreshPuckReaderPromise, PuckReaderStepPromise, PuckReadPromise, FreshPortPromise, ClearingPortPromise, PortBytePromise, PortBytesPromise, PortQuietPromise, PortLostPromise, FreshWatchPromise, KnowingWatchPromise, WatchHeardPromise, WatchOverPromise}
+use Rattle.istrolf.specs.declared.PortWord.{PortWord}
 use Rattle.istrolf.specs.declared.HeldReader.{HeldReader}
 use Rattle.istrolf.specs.declared.FreshReader.{FreshReader}
 use Rattle.istrolf.specs.declared.ReadWord.{ReadWord}
@@ -157,6 +161,25 @@ pub one-puck-read : (r : PuckReader) (words : List ℕ) (out : List ℤ) (a b : 
 one-puck-read r words out a b x y e f =
     let q = e ∙ sym f in
     (λ i. (record { refusal = q i .refusal; next = q i .next; taken = q i .taken; reports = q i .reports; dropped = q i .dropped }), ap (λ (l : Long PuckReader ℤ). l .out) q)
+
+pub one-fresh-port : (silence : ℕ) (a b : Port) → FreshPortPromise silence a → FreshPortPromise silence b → a ≡ b
+one-fresh-port silence a b e f = e ∙ sym f
+
+pub one-clearing-port : (silence : ℕ) (a b : Port) → ClearingPortPromise silence a → ClearingPortPromise silence b → a ≡ b
+one-clearing-port silence a b e f = e ∙ sym f
+
+pub one-port-byte : (p : Port) (byte : ℕ) (a b : PortWord) → PortBytePromise p byte a → PortBytePromise p byte b → a ≡ b
+one-port-byte p byte a b e f = e ∙ sym f
+
+pub one-port-bytes : (p : Port) (raw out : List ℕ) (a b : Words) (x y : List ℕ) → PortBytesPromise p raw out a x → PortBytesPromise p raw out b y
+    → (a ≡ b) × (x ≡ y)
+one-port-bytes = port.one-bytes
+
+pub one-port-quiet : (p : Port) (wait : ℕ) (a b : PortWord) → PortQuietPromise p wait a → PortQuietPromise p wait b → a ≡ b
+one-port-quiet p wait a b e f = e ∙ sym f
+
+pub one-port-lost : (p : Port) (a b : PortWord) → PortLostPromise p a → PortLostPromise p b → a ≡ b
+one-port-lost p a b e f = e ∙ sym f
 
 pub one-fresh-watch : (a b : Watch) → FreshWatchPromise a → FreshWatchPromise b → a ≡ b
 one-fresh-watch a b e f = e ∙ sym f

@@ -1,4 +1,5 @@
 pub mod Marks
+pub mod Ports
 pub mod Readers
 pub mod Boxes
 pub mod Listers

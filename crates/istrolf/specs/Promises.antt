@@ -7,6 +7,10 @@ use lib.IntN.{ℤ}
 use Rattle.wire.specs.Encoder as wire
 use Rattle.wire.specs.declared.Report.{Report}
 use Rattle.reader.specs.Promises as reader
+use Rattle.port.specs.Marks.{byteOf, quietOf, lostOf}
+use Rattle.port.specs.Promises as port
+use Rattle.port.specs.declared.Port.{Port}
+use Rattle.port.specs.declared.Words.{Words}
 use Rattle.saves.specs.Promises as saves
 use Rattle.saves.specs.declared.Watch.{Watch}
 use Rattle.saves.specs.declared.Told.{Told}
@@ -30,6 +34,7 @@ use Rattle.puckreader.specs.Promises as puckreader
 use Rattle.puckreader.specs.declared.PuckReader.{PuckReader}
 use Rattle.readback.specs.Steps as steps
 use Rattle.readback.specs.Promises as readback
+use Rattle.istrolf.specs.Ports as ports
 use Rattle.istrolf.specs.Readers as readers
 use Rattle.istrolf.specs.Boxes as boxes
 use Rattle.istrolf.specs.Listers as listers
@@ -38,6 +43,7 @@ use Rattle.istrolf.specs.Salvages as salvages
 use Rattle.istrolf.specs.Told as told
 use Rattle.istrolf.specs.Pucks as pucks
 use Rattle.istrolf.specs.Readbacks as readbacks
+use Rattle.istrolf.specs.declared.PortWord.{PortWord}
 use Rattle.istrolf.specs.declared.HeldReader.{HeldReader}
 use Rattle.istrolf.specs.declared.FreshReader.{FreshReader}
 use Rattle.istrolf.specs.declared.ReadWord.{ReadWord}
@@ -236,6 +242,30 @@ readbackRewriteOf h input out =
 
 abbrev pub ReadbackRewritePromise : HeldReadback → List ℕ → List ℕ → RewrittenLines → List ℕ → Type 0
 ReadbackRewritePromise h input before answer after = readbacks.rewriting answer after ≡ readbackRewriteOf h input before
+
+-- `istrolf_port_fresh(silence)`
+abbrev pub FreshPortPromise : ℕ → Port → Type 0
+FreshPortPromise silence answer = port.FreshPromise silence answer
+
+-- `istrolf_port_clearing(silence)`
+abbrev pub ClearingPortPromise : ℕ → Port → Type 0
+ClearingPortPromise silence answer = port.ClearingPromise silence answer
+
+-- `istrolf_port_byte(port, byte)`
+abbrev pub PortBytePromise : Port → ℕ → PortWord → Type 0
+PortBytePromise p b answer = answer ≡ ports.packed (byteOf p b)
+
+-- `istrolf_port_bytes(port, raw, out)`
+abbrev pub PortBytesPromise : Port → List ℕ → List ℕ → Words → List ℕ → Type 0
+PortBytesPromise p raw before answer after = port.BytesPromise p raw before answer after
+
+-- `istrolf_port_quiet(port, wait)`
+abbrev pub PortQuietPromise : Port → ℕ → PortWord → Type 0
+PortQuietPromise p wait answer = answer ≡ ports.packed (quietOf p wait)
+
+-- `istrolf_port_lost(port)`
+abbrev pub PortLostPromise : Port → PortWord → Type 0
+PortLostPromise p answer = answer ≡ ports.packed (lostOf p)
 
 -- `istrolf_watch_fresh()`
 abbrev pub FreshWatchPromise : Watch → Type 0

@@ -3,6 +3,7 @@ use ballbox::Going;
 use ballbox::Settings;
 use ballbox::Sums;
 use ballbox::Track;
+use port::Port;
 use puck::Testing;
 use puckreader::PuckReader;
 use replies::Came;
@@ -13,6 +14,7 @@ mod boxes;
 mod bridges;
 mod encoder;
 mod listers;
+mod ports;
 mod pucks;
 mod readbacks;
 mod readers;
@@ -58,6 +60,14 @@ pub struct ReadWords {
     pub taken: usize,
     pub reports: usize,
     pub dropped: usize,
+}
+
+// What a byte, a wait or a loss gives back to the port: how many words it tells, 0 or 1, the word, 0 where there is none, and the port.
+#[repr(C)]
+pub struct PortWord {
+    pub words: u8,
+    pub word: u16,
+    pub next: Port,
 }
 
 // What the encoder answers: 0 or a refusal, and how many bytes it wrote.
