@@ -91,4 +91,5 @@ module _ {f : Format} {b : BallBox} {a : Stepped} {events : List Event} {answers
   every-report as-stood certain unbroken =
       let s = asked-sound f (a .next) nothing events (run .asked) (set-box run) in
       let few = rw as-stood at (promised-rightly c q just-opened arrival certain (calls-alike alike calls)) in
-      as-if-told f [] (sent a events) (stillGoing a events) (s .0) (s .1) unbroken whole (ready-unbroken tt) (wordsGiven answers) (sym (demand3.as-sent run)) few
+      let all = sym (demand3.as-sent run) in
+      as-if-told f [] (sent a events) (stillGoing a events) (s .0) (s .1) unbroken whole (ready-unbroken tt) (wordsGiven answers) all few

@@ -139,9 +139,11 @@ module _ {f : Format} {b : BallBox} {g : UnderWay Message} (box : Box f b g) (fr
         → ShowsStates f r (passageWords messageBytes heard ++ late) before (remembered (boxAfter b front .memory) ++ (n ∷ []))
     survives-unheard quieter follows rest is few =
         let o = outlives in
+        let early = passagesOf b g front in
+        let split = rw (line, o .is) at is in
         record {
           since = finishedReports f (o .later);
-          hands-out = as-if-told f (passagesOf b g front) (o .later) (goingAfter b g all) (o .sound) (o .end) (o .unbroken) quieter follows rest (rw (line, o .is) at is) few;
+          hands-out = as-if-told f early (o .later) (goingAfter b g all) (o .sound) (o .end) (o .unbroken) quieter follows rest split few;
           in-order = press-seen f b g front n back o;
         }
 
