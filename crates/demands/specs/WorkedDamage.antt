@@ -33,23 +33,23 @@ use Rattle.demands.specs.Worked.{slots, setTo}
 use Rattle.demands.specs.DamageShown.{true-where-damage-shows, stays-behind-a-silence}
 
 -- T, with no button down at any time: two reports, a silence, and a third
-abbrev moves : List Event
+abbrev pub moves : List Event
 moves = Motion (pos 2) (minus 24) ∷ slots 3 (Motion (pos 1) (pos 0) ∷ slots 4 (Motion (pos 1) (pos 0) ∷ slots 3 []))
 
-abbrev far : Report
+abbrev pub far : Report
 far = report 0 (pos 2) (minus 24)
 
-abbrev near : Report
+abbrev pub near : Report
 near = report 0 (pos 1) (pos 0)
 
 -- what nobody did
-abbrev false-press : Report
+abbrev pub false-press : Report
 false-press = report 2 (minus 24) (pos 0)
 
-abbrev words : List ℕ
+abbrev pub words : List ℕ
 words = 0x00 ∷ 0x02 ∷ 0xE8 ∷ 0x00 ∷ 0x01 ∷ 0x00 ∷ 257 ∷ 0x00 ∷ 0x01 ∷ 0x00 ∷ []
 
-run : (events : List Event) → onlyAsks events ≡ true → Run ThreeByte freshBox (setTo ThreeByte) events (answersTo (setTo ThreeByte .next) events)
+pub run : (events : List Event) → onlyAsks events ≡ true → Run ThreeByte freshBox (setTo ThreeByte) events (answersTo (setTo ThreeByte .next) events)
 unfolding computing
 run events asked =
     record { good = refl; awake = refl; set = answer-permitted freshBox (Host (letterOf ThreeByte)); asked = asked; permitted = answers-permitted (setTo ThreeByte .next) events }

@@ -1,5 +1,5 @@
--- From the pin to the save, worked out in T with no button down at any time, and in V with the first stop bit as bit 7;
--- and for each thing that is asked of the program a run that lacks it: then M goes down.
+-- From the pin to the save, worked out in T with no button down at any time (the moves of WorkedDamage), and in V with the
+-- first stop bit as bit 7; and for each thing that is asked of the program a run that lacks it: then M goes down.
 use Prim.Native.Nat.{ℕ, _<_}
 use mathlib.Core.Path.{_≡_, refl}
 use mathlib.Core.List.{List, [], _∷_, _++_}
@@ -9,9 +9,6 @@ use Rattle.numbers.specs.Signed.{minus}
 use Rattle.numbers.specs.Bits.{number, bit, bits}
 use Rattle.wire.specs.Line.{letterOf}
 use Rattle.wire.specs.Reading.{report}
-use Rattle.wire.specs.Messages.{finishedReports}
-use Rattle.wire.specs.declared.Report.{Report}
-use Rattle.wire.specs.declared.Format.{Format}
 use Rattle.wire.specs.declared.Format.the-variants.{Microsoft, ThreeByte}
 use Rattle.port.specs.Marks.{opened, cleared, plain, behindMark, byteOf, quietOf}
 use Rattle.port.specs.Delivered.{sound, damaged, broken}
@@ -28,47 +25,13 @@ use Rattle.reader.proofs.DamagedRuns.{AnsweredBy, computed-by}
 use Rattle.ballbox.specs.Box.{freshBox}
 use Rattle.ballbox.specs.declared.Event as box
 use Rattle.ballbox.specs.declared.Event.the-variants.{Motion, Host}
-use Rattle.history.specs.Runs.{wordsGiven, answersTo}
+use Rattle.history.specs.Runs.{answersTo}
 use Rattle.history.proofs.Permitted.{answer-permitted, answers-permitted}
 use Rattle.demands.specs.Computing.{computing}
-use Rattle.demands.specs.Demand3.{Run, sent, from-then-on}
+use Rattle.demands.specs.Demand3.{Run, from-then-on}
 use Rattle.demands.specs.Worked.{slots, setTo}
+use Rattle.demands.specs.WorkedDamage.{moves, far, near, false-press, words, run}
 use Rattle.demands.specs.Pin.{from-the-pin-to-the-report}
-
-abbrev moves : List box.Event
-moves = Motion (pos 2) (minus 24) ∷ slots 3 (Motion (pos 1) (pos 0) ∷ slots 4 (Motion (pos 1) (pos 0) ∷ slots 3 []))
-
-abbrev far : Report
-far = report 0 (pos 2) (minus 24)
-
-abbrev near : Report
-near = report 0 (pos 1) (pos 0)
-
--- what nobody did
-abbrev false-press : Report
-false-press = report 2 (minus 24) (pos 0)
-
-abbrev words : List ℕ
-words = 0x00 ∷ 0x02 ∷ 0xE8 ∷ 0x00 ∷ 0x01 ∷ 0x00 ∷ 257 ∷ 0x00 ∷ 0x01 ∷ 0x00 ∷ []
-
-abbrev RunOf : Format → List box.Event → Type 0
-RunOf f events = Run f freshBox (setTo f) events (answersTo (setTo f .next) events)
-
-run-T : RunOf ThreeByte moves
-unfolding computing
-run-T =
-    record {
-      good = refl;
-      awake = refl;
-      set = answer-permitted freshBox (Host (letterOf ThreeByte));
-      asked = refl;
-      permitted = answers-permitted (setTo ThreeByte .next) moves;
-    }
-
-pub moves-send : (wordsGiven (answersTo (setTo ThreeByte .next) moves) ≡ words)
-    × (finishedReports ThreeByte (sent (setTo ThreeByte) moves) ≡ far ∷ near ∷ near ∷ [])
-unfolding computing
-moves-send = (refl, refl)
 
 -- A silence is 100 long. 00 is lost, and 02 is thrown away with it; E8 comes damaged; a break comes in; then a silence
 -- stands, and the last report comes sound.
@@ -117,7 +80,7 @@ calls = rw is-told at (calls-are (opened 0 100) (eventsFrom coming))
 
 pub true-in-T : TrueBy (ready (letterOf ThreeByte)) told (far ∷ near ∷ near ∷ [])
 unfolding computing
-true-in-T = from-the-pin-to-the-report run-T from-then-on 0 100 refl coming (λ _. sure) same calls comes is-ready
+true-in-T = from-the-pin-to-the-report (run moves refl) from-then-on 0 100 refl coming (λ _. sure) same calls comes is-ready
 
 pub told-answers : AnsweredBy (ready (letterOf ThreeByte)) told
     (Nothing ∷ Nothing ∷ Dropped 1 ∷ Dropped 1 ∷ Nothing ∷ Dropped 1 ∷ Nothing ∷ Nothing ∷ Nothing ∷ answer.Report near ∷ [])
@@ -128,7 +91,7 @@ told-answers = computed-by (ready (letterOf ThreeByte)) _ _ refl
 abbrev east : List box.Event
 east = Motion (pos 3) (pos 0) ∷ slots 3 []
 
-run-V : RunOf Microsoft east
+run-V : Run Microsoft freshBox (setTo Microsoft) east (answersTo (setTo Microsoft .next) east)
 unfolding computing
 run-V =
     record {
