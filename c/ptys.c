@@ -3,6 +3,7 @@
  *     ptys SERIAL SAMPLES              the program of serial.c, and the folder of samples
  *     ptys SERIAL SAMPLES PROGRAM ..   the same box, and a recorder that has the tty as its standard input and is called with
  *                                      the format and the tenths of a second of a silence behind its own arguments
+ *     ptys wire                        two pseudo terminals wired together, until Ctrl-C: their names on standard output
  * A pseudo terminal doubles FF and makes no other mark: breaks and damaged bytes are put in by hand, on one that marks
  * nothing. Status: 0 where all went as it must, 1 where something did not, 3 where there are no pseudo terminals. */
 #define _GNU_SOURCE /* posix_openpt, ptsname */
@@ -617,9 +618,32 @@ static void tried(char format) {
     exit(0);
 }
 
+/* ---- A wire between two, for trials by hand. */
+
+static void passed_on(const pty *from, const pty *to) {
+    uint8_t bytes[256];
+    const ssize_t n = read(from->master, bytes, sizeof bytes);
+    must(n > 0, "read");
+    give(to, bytes, (size_t)n);
+}
+
+static void wire(void) {
+    pty a = opened(), b = opened();
+    set(&a, 0), set(&b, 0); /* no echo, before a program sets them */
+    printf("%s\n%s\n", a.name, b.name);
+    must(fflush(stdout) == 0, "standard output");
+    for (;;) {
+        struct pollfd f[2] = {{a.master, POLLIN, 0}, {b.master, POLLIN, 0}};
+        must(poll(f, 2, -1) > 0, "poll");
+        if (f[0].revents) passed_on(&a, &b);
+        if (f[1].revents) passed_on(&b, &a);
+    }
+}
+
 int main(int argc, char **argv) {
+    if (argc == 2 && strcmp(argv[1], "wire") == 0) wire();
     int failed = 0, status;
-    if (argc < 3) return fputs("usage: ptys SERIAL SAMPLES [PROGRAM ..]\n", stderr), 2;
+    if (argc < 3) return fputs("usage: ptys SERIAL SAMPLES [PROGRAM ..]\n       ptys wire\n", stderr), 2;
     serial = argv[1], samples = argv[2];
     recorder = argc > 3 ? argv + 3 : NULL;
     const int master = posix_openpt(O_RDWR | O_NOCTTY);
