@@ -1,9 +1,9 @@
 /* The port tried on pseudo terminals: a box at one end, a recorder at the other, and what is recorded compared with the
  * library's own answer over the box's words.
  *     ptys SERIAL SAMPLES              the program of serial.c, and the folder of samples
- *     ptys SERIAL SAMPLES PROGRAM ..   the same box, and a recorder that has the tty as its standard input and is called with
- *                                      the format and the tenths of a second of a silence behind its own arguments
- *     ptys wire                        two pseudo terminals wired together, until Ctrl-C: their names on standard output
+ *     ptys SERIAL SAMPLES PROGRAM ..   the same box, and a recorder whose standard input is the tty: the format and
+ *                                      the tenths of a second of a silence come behind its own arguments
+ *     ptys wire                        two pseudo terminals wired together, until Ctrl-C: prints their names
  * A pseudo terminal doubles FF and makes no other mark: breaks and damaged bytes are put in by hand, on one that marks
  * nothing. Status: 0 where all went as it must, 1 where something did not, 3 where there are no pseudo terminals. */
 #define _GNU_SOURCE /* posix_openpt, ptsname */
@@ -82,15 +82,18 @@ static page recording(const words *w) {
     p.length = (size_t)sprintf(p.text, "F\t%c\n", letter);
     for (size_t i = 0; i < w->count; i++) {
         const unsigned word = w->at[i];
-        if (word < 256) p.length += (size_t)sprintf(p.text + p.length, "B\t%u\n", word);
-        else p.length += (size_t)sprintf(p.text + p.length, word == ISTROLF_SILENCE ? "Q\n" : "X\n");
+        if (word < 256)
+            p.length += (size_t)sprintf(p.text + p.length, "B\t%u\n", word);
+        else
+            p.length += (size_t)sprintf(p.text + p.length, word == ISTROLF_SILENCE ? "Q\n" : "X\n");
     }
     return p;
 }
 
 /* The reports of words, five numbers each, and at last the bytes dropped. */
 static size_t reports(const words *w, int16_t *out) {
-    const istrolf_reading a = istrolf_reader_read(istrolf_reader_fresh((uint8_t)letter).reader, w->at, w->count, out, MOST_WORDS);
+    const istrolf_reading a =
+        istrolf_reader_read(istrolf_reader_fresh((uint8_t)letter).reader, w->at, w->count, out, MOST_WORDS);
     if (a.refusal || a.taken != w->count) fail("the reader refused words");
     out[5 * a.reports] = (int16_t)a.dropped;
     return 5 * a.reports + 1;
@@ -140,8 +143,8 @@ static void give(const pty *p, const uint8_t *bytes, size_t count) {
 static void taken(const pty *p) {
     struct pollfd f = {p->slave, POLLIN, 0};
     for (long i = 0; poll(&f, 1, 0) != 0; i++) {
-        if (i > 100 * PATIENCE_MS) fail("bytes are not read");
-        usleep(10);
+        if (i > 5 * PATIENCE_MS) fail("bytes are not read");
+        usleep(i < 100 ? 10 : 200);
     }
 }
 
@@ -219,7 +222,8 @@ static void is_whole(const program *p, page expected) {
     size_t i = 0;
     while (i < got.length && i < expected.length && got.text[i] == expected.text[i]) i++;
     if (got.length != expected.length || i < got.length) {
-        fail("%zu bytes written, %zu expected, different at byte %zu: '%.12s'", got.length, expected.length, i, got.text + i);
+        fail("%zu bytes written, %zu expected, different at byte %zu: '%.12s'", got.length, expected.length, i,
+             got.text + i);
     }
     free(got.text), free(said.text), free(expected.text);
     must(fclose(p->out) == 0 && fclose(p->err) == 0, "fclose");
@@ -233,7 +237,7 @@ static program recorded(pty *p, int plain) {
     char *other[32];
     size_t n = 0;
     name[0] = letter;
-    set(p, !plain);
+    if (plain || recorder != NULL) set(p, !plain); /* else it is as the system makes it, with echo */
     if (recorder == NULL) return started(plain ? as_is : own, p->slave);
     while (recorder[n] != NULL && n < 29) other[n] = recorder[n], n++;
     snprintf(tenths, sizeof tenths, "%d", plain ? 99 : 1);
@@ -246,21 +250,26 @@ static program recorded(pty *p, int plain) {
 typedef struct {
     FILE *events;
     istrolf_box box;
-    words own;                    /* all that the box puts on the line */
-    words told;                   /* what a recorder makes of it: a silence for each rest */
-    uint8_t sent[BURSTS][400];    /* the bytes between two rests */
+    words own;                 /* all that the box puts on the line */
+    words told;                /* what a recorder makes of it: a silence for each rest */
+    uint8_t sent[BURSTS][400]; /* the bytes between two rests */
     size_t counts[BURSTS];
 } play;
+
+static void sent(play *p, int burst) {
+    const istrolf_stepped s = istrolf_box_send(p->box);
+    p->box = s.next;
+    add(&p->own, s.word);
+    if (s.word > 255) return;
+    add(&p->told, s.word);
+    p->sent[burst][p->counts[burst]++] = (uint8_t)s.word;
+}
 
 static void slots(play *p, int burst, int count) {
     fprintf(p->events, "S\t%d\n", count);
     for (int i = 0; i < count; i++) {
-        const istrolf_stepped s = istrolf_box_send(istrolf_box_latch(p->box).next);
-        p->box = s.next;
-        add(&p->own, s.word);
-        if (s.word > 255) continue;
-        add(&p->told, s.word);
-        p->sent[burst][p->counts[burst]++] = (uint8_t)s.word;
+        p->box = istrolf_box_latch(p->box).next;
+        sent(p, burst);
     }
 }
 
@@ -276,6 +285,7 @@ static void burst(play *p, int number) {
             fprintf(p->events, "N\t%d\n", buttons);
             p->box = istrolf_box_buttons(p->box, (uint8_t)buttons).next;
         }
+        if (below(3) == 0) fputs("S\n", p->events), sent(p, number); /* nothing is latched by this */
         slots(p, number, below(9));
     }
     slots(p, number, 60);
@@ -294,7 +304,7 @@ static void played(play *p) {
     must(fflush(p->events) == 0 && lseek(fileno(p->events), 0, SEEK_SET) == 0, "events");
 }
 
-/* The wire: a burst is handed on whole when it has come, and the next when the recorder has told the silence behind it. */
+/* The wire: a burst is handed on when all of it has come, and the next when the recorder has told the silence. */
 static void wired(const play *p, const pty *from, const pty *to, const program *r) {
     uint8_t bytes[400];
     words so_far = {{0}, 0};
@@ -330,6 +340,8 @@ static void from_box_to_recorder(void) {
     waited(&r, 4);
     program b = started(argv, fileno(p.events));
     wired(&p, &from, &to, &r);
+    struct pollfd f = {to.master, POLLIN, 0};
+    if (poll(&f, 1, 0) != 0) fail("the recorder sends something");
     is_whole(&r, recording(&p.told));
     const int status = ended(&b);
     const page got = written(b.out), expected = recording(&p.own);
@@ -352,12 +364,14 @@ static size_t marked(uint8_t *raw, words *w, int word, int x) {
 
 /* A report or two, with every neighbourhood of marks that there is, and others by chance. */
 static size_t message(uint8_t *raw, words *w) {
-    static const int hard[][2] = {{255, 0}, {255, 0}, {256, 255}, {255, 0}, {256, 0}, {0, 0}, {256, 0}, {256, 65}, {0, 0}, {255, 0}, {0, 0}, {256, 255}};
+    static const int hard[][2] = {{255, 0}, {255, 0},  {256, 255}, {255, 0}, {256, 0}, {0, 0},
+                                  {256, 0}, {256, 65}, {0, 0},     {255, 0}, {0, 0},   {256, 255}};
     size_t n = 0;
     w->count = 0;
     for (size_t i = 0; i < sizeof hard / sizeof *hard; i++) n += marked(raw + n, w, hard[i][0], hard[i][1]);
     for (int i = 0; i < 20; i++) {
-        istrolf_report r = {(uint8_t)below(8), (int16_t)(letter == 'A' ? below(4096) : below(255) - 127), (int16_t)below(127), 0, 0};
+        istrolf_report r = {(uint8_t)below(8), (int16_t)(letter == 'A' ? below(4096) : below(255) - 127),
+                            (int16_t)below(127), 0, 0};
         uint8_t bytes[5];
         const istrolf_encoding e = istrolf_encode((uint8_t)letter, r, bytes, 5);
         if (e.refusal) fail("a report was refused");
@@ -391,6 +405,13 @@ static void marks_cut(void) {
 
 /* ---- The watch. */
 
+/* The line of a report, and how long it is. */
+static size_t report_line(char *text, istrolf_report r) {
+    const char middle = letter == 'V' ? '?' : r.buttons & 2 ? 'M' : '-';
+    return (size_t)sprintf(text, "R\t%c%c%c\t%d\t%d\n", r.buttons & 4 ? 'L' : '-', middle, r.buttons & 1 ? 'R' : '-',
+                           r.x1 + r.x2, r.y1 + r.y2);
+}
+
 static page watched(const words *w) {
     istrolf_reader reader = istrolf_reader_fresh((uint8_t)letter).reader;
     istrolf_watch watch = istrolf_watch_fresh();
@@ -403,14 +424,14 @@ static page watched(const words *w) {
         if (a.dropped) p.length += (size_t)sprintf(p.text + p.length, "D\t%d\n", a.dropped);
         if (!a.reports) continue;
         const istrolf_changes c = istrolf_watch_heard(watch, a.report);
-        const int b = a.report.buttons;
         watch = c.next;
-        p.length += (size_t)sprintf(p.text + p.length, "R\t%c%c%c\t%d\t%d\n", b & 4 ? 'L' : '-', letter == 'V' ? '?' : b & 2 ? 'M' : '-', b & 1 ? 'R' : '-', a.report.x1 + a.report.x2, a.report.y1 + a.report.y2);
+        p.length += report_line(p.text + p.length, a.report);
         for (int k = 0; k < 3; k++) {
             if (c.down & 4 >> k) presses[k]++, p.length += (size_t)sprintf(p.text + p.length, "P\t%c\n", "LMR"[k]);
         }
     }
-    p.length += (size_t)sprintf(p.text + p.length, "reports\t%u\npresses\tL\t%u\tM\t%u\tR\t%u\ndropped\t%u\n", count, presses[0], presses[1], presses[2], dropped);
+    p.length += (size_t)sprintf(p.text + p.length, "reports\t%u\npresses\tL\t%u\tM\t%u\tR\t%u\ndropped\t%u\n", count,
+                                presses[0], presses[1], presses[2], dropped);
     return p;
 }
 
@@ -422,7 +443,8 @@ static void watch(void) {
     trial = "watch";
     played(&p);
     w.count = 0, add(&w, ISTROLF_SILENCE);
-    for (int i = 0; i < BURSTS; i++) for (size_t n = 0; n < p.counts[i]; n++) add(&w, p.sent[i][n]);
+    for (int i = 0; i < BURSTS; i++)
+        for (size_t n = 0; n < p.counts[i]; n++) add(&w, p.sent[i][n]);
     for (int i = 0; i < 4; i++) add(&w, 32);
     for (size_t i = 1; i < w.count; i++) bytes[i - 1] = (uint8_t)w.at[i];
     pty t = opened();
@@ -438,7 +460,7 @@ static void watch(void) {
 
 /* ---- A box and its host. */
 
-/* A byte of the host comes when a report is latched and none of it has gone: X; and a question in a rest is answered. */
+/* A byte of the host comes when a report is latched and none of it has gone: X. A question in a rest is answered. */
 static void host(void) {
     trial = "host";
     pty t = opened();
@@ -496,18 +518,21 @@ static void eighth_bit(void) {
     trial = "eighth bit";
     played(&p);
     pty from = opened(), to = opened();
-    char *box[] = {serial, "box", "-8", "-b", "9600", from.name, NULL}, *record[] = {serial, "record", "-8", "-q", "0", to.name, "V", NULL};
+    char *box[] = {serial, "box", "-8", "-b", "9600", from.name, NULL},
+         *record[] = {serial, "record", "-8", "-q", "0", to.name, "V", NULL};
     program r = started(record, to.slave), b = started(box, fileno(p.events));
     words w = {{0}, 0};
     size_t n = 0;
     waited(&r, 4);
-    for (int i = 0; i < BURSTS; i++) for (size_t k = 0; k < p.counts[i]; k++) add(&w, p.sent[i][k]);
+    for (int i = 0; i < BURSTS; i++)
+        for (size_t k = 0; k < p.counts[i]; k++) add(&w, p.sent[i][k]);
     while (n < w.count) {
         const ssize_t k = read(from.master, bytes + n, w.count - n);
         must(k > 0, "read");
         n += (size_t)k;
     }
-    for (size_t i = 0; i < n; i++) if (bytes[i] < 128) fail("the eighth bit is not sent");
+    for (size_t i = 0; i < n; i++)
+        if (bytes[i] < 128) fail("the eighth bit is not sent");
     give(&to, bytes, n), taken(&to);
     const page expected = recording(&w);
     waited(&r, expected.length);
@@ -521,7 +546,8 @@ static void eighth_bit(void) {
 static void said(const program *p, int status, const char *what) {
     const int got = ended(p);
     const page e = written(p->err);
-    if (got != status || strstr(e.text, what) == NULL) fail("status %d and not %d, or not '%s': %s", got, status, what, e.text);
+    if (got != status || strstr(e.text, what) == NULL)
+        fail("status %d and not %d, or not '%s': %s", got, status, what, e.text);
     free(e.text);
 }
 
@@ -611,10 +637,12 @@ static void tried(char format) {
     host();
     if (format == 'V') eighth_bit();
     if (format == 'U') hung_up();
+    if (format == 'B') full(998997, 0, 999000);
     if (format == 'T') full(998996, 1, 999001);
     if (format == 'W') full(999997, 0, 999999);
     if (format == 'S') bad_calls();
-    if (format == 'A') as_sampled("slow"), as_sampled("tap"), as_sampled("disaster"), as_sampled("break"), as_sampled("latch");
+    if (format == 'A')
+        as_sampled("slow"), as_sampled("tap"), as_sampled("disaster"), as_sampled("break"), as_sampled("latch");
     exit(0);
 }
 
@@ -647,7 +675,8 @@ int main(int argc, char **argv) {
     serial = argv[1], samples = argv[2];
     recorder = argc > 3 ? argv + 3 : NULL;
     const int master = posix_openpt(O_RDWR | O_NOCTTY);
-    if (master < 0 || grantpt(master) < 0 || unlockpt(master) < 0 || ptsname(master) == NULL) return perror("ptys: no pseudo terminals"), 3;
+    if (master < 0 || grantpt(master) < 0 || unlockpt(master) < 0 || ptsname(master) == NULL)
+        return perror("ptys: no pseudo terminals"), 3;
     must(close(master) == 0, "close");
     for (const char *f = "SVABUTW"; *f; f++) {
         const pid_t id = fork();

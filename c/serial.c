@@ -6,8 +6,8 @@
  *     serial box    [-b BAUD] [-8] [-a] TTY < EVENTS           a box on the line in real time, and its own recording
  *
  * Build: cc -std=c99 -I c c/serial.c target/staticlib/libistrolf.a -o serial
- * Status: 0 ended by Ctrl-C or by the end of the events; 1 the line hung up or something failed; 2 called wrongly, or the
- * port is not to be had with these settings; 3 the recording is full. docs/PORT.md tells the rest. */
+ * Status: 0 ended by Ctrl-C or by the end of the events; 1 the line hung up or something failed; 2 called wrongly,
+ * or the port is not to be had with these settings; 3 the recording is full. docs/PORT.md tells the rest. */
 #define _GNU_SOURCE /* ppoll */
 #include "istrolf.h"
 #include <errno.h>
@@ -59,6 +59,8 @@ static int misused(const char *what, const char *about) {
     return MISUSED;
 }
 
+static int not_so(const char *what, const char *about) { return misused(what, about), 0; }
+
 /* A number as a recording has it: no plus, no leading zero, no minus zero, nothing behind it. */
 static int is_number(const char *text, long least, long most, long *number) {
     char again[24];
@@ -75,12 +77,12 @@ static int is_number(const char *text, long least, long most, long *number) {
 typedef struct {
     char letter;
     long baud;
-    int bits;     /* data bits */
-    int odd;      /* 1: a bit of odd parity behind them */
-    int clears;   /* 1: V on eight data bits */
-    int as_is;    /* 1: the settings are left as they are */
-    int is_box;   /* 1: this end sends two stop bits; a recorder takes one stop bit, and so two as well */
-    long quiet;   /* a silence in milliseconds, or -1 */
+    int bits;   /* data bits */
+    int odd;    /* 1: a bit of odd parity behind them */
+    int clears; /* 1: V on eight data bits */
+    int as_is;  /* 1: the settings are left as they are */
+    int is_box; /* 1: this end sends two stop bits; a recorder takes one stop bit, and so two as well */
+    long quiet; /* a silence in milliseconds, or -1 */
 } line;
 
 static speed_t speed(long baud) {
@@ -157,7 +159,8 @@ static void hurry(int fd) {
     struct serial_struct s;
     if (ioctl(fd, TIOCGSERIAL, &s) < 0) return;
     s.flags |= (int)ASYNC_LOW_LATENCY;
-    if (ioctl(fd, TIOCSSERIAL, &s) < 0) wrong(0, "it would not be set to low latency; that is slower and no worse", errno);
+    if (ioctl(fd, TIOCSSERIAL, &s) < 0)
+        wrong(0, "it would not be set to low latency; that is slower and no worse", errno);
 }
 
 /* The port, open, ours alone and set; -1 where it is not, and what is wrong was said. */
@@ -204,7 +207,7 @@ static uint32_t held_back(void) {
     return trigger > 0 ? (uint32_t)trigger : 14;
 }
 
-/* A silence in microseconds: longer than a receiver holds bytes back, and 50 ms for an adapter's timer and the system. */
+/* A silence in microseconds: longer than a receiver holds bytes back, and 50 ms for an adapter and the system. */
 static int silence_of(const line *l, uint32_t *silence) {
     const uint32_t time = character(l);
     *silence = l->quiet < 0 ? (held_back() + 2) * time + 50000 : (uint32_t)l->quiet * 1000;
@@ -242,7 +245,7 @@ static int waited(ear *e, uint32_t wait, uint16_t *words) {
     return w.words;
 }
 
-/* Bytes are missing here, or in what is still to be read: one break stands for all of it, until nothing more is there. */
+/* Bytes are missing here or in what is still to be read: a break for each lot, until nothing more is there. */
 static int missed(ear *e, long lost, uint16_t *words) {
     struct pollfd p = {e->fd, POLLIN, 0};
     const istrolf_port_word w = istrolf_port_lost(e->port);
@@ -385,7 +388,7 @@ static void pass(sender *s) {
     s->next.tv_nsec += (long)s->time * 1000;
     s->next.tv_sec += s->next.tv_nsec / 1000000000;
     s->next.tv_nsec %= 1000000000;
-    while (!stopped && clock_nanosleep(CLOCK_MONOTONIC, TIMER_ABSTIME, &s->next, NULL) == EINTR) {}
+    while (!stopped && clock_nanosleep(CLOCK_MONOTONIC, TIMER_ABSTIME, &s->next, NULL) == EINTR) continue;
 }
 
 static int put_byte(const sender *s, uint8_t byte) {
@@ -474,7 +477,7 @@ static int event(sender *s, char *text) {
     return MISUSED;
 }
 
-/* The next line of standard input, without its end; 0 at the end of the input. A line that is too long becomes empty. */
+/* The next line of standard input, without its end; 0 at the end of the input. A line too long becomes empty. */
 static int next_line(char *text, int room) {
     if (fgets(text, room, stdin) == NULL) return 0;
     const size_t length = strlen(text);
@@ -496,7 +499,8 @@ static int no_event(long number, int status) {
 }
 
 static int box(int fd, const line *l) {
-    sender s = {fd, istrolf_box_host(istrolf_box_fresh(), (uint8_t)l->letter).next, l->clears ? 128 : 0, character(l), {0, 0}};
+    const istrolf_box fresh = istrolf_box_host(istrolf_box_fresh(), (uint8_t)l->letter).next;
+    sender s = {fd, fresh, l->clears ? 128 : 0, character(l), {0, 0}};
     char text[20];
     long number = 1;
     printf("F\t%c\n", l->letter);
@@ -522,12 +526,12 @@ static int are_taken(int argc, char **argv, line *l) {
     while ((c = getopt(argc, argv, l->is_box ? "+:b:8a" : "+:b:8aq:")) != -1) {
         const char option[] = {(char)optopt, 0};
         if (c == 'b' && (!is_number(optarg, 300, 9600, &l->baud) || speed(l->baud) == B0))
-            return misused("no such baud:", optarg), 0;
-        if (c == 'q' && !is_number(optarg, 0, 60000, &l->quiet)) return misused("no such time:", optarg), 0;
+            return not_so("no such baud:", optarg);
+        if (c == 'q' && !is_number(optarg, 0, 60000, &l->quiet)) return not_so("no such time:", optarg);
         if (c == '8') l->clears = 1;
         if (c == 'a') l->as_is = 1;
-        if (c == ':') return misused("nothing stands behind the option", option), 0;
-        if (c == '?') return misused("no such option:", option), 0;
+        if (c == ':') return not_so("nothing stands behind the option", option);
+        if (c == '?') return not_so("no such option:", option);
     }
     return 1;
 }
@@ -535,15 +539,15 @@ static int are_taken(int argc, char **argv, line *l) {
 /* The format: of a recorder its argument, of a box the first line of its events. */
 static int is_known(int argc, char **argv, line *l) {
     static char text[20] = "";
-    if (argc == 0) return misused("no tty is named", ""), 0;
+    if (argc == 0) return not_so("no tty is named", "");
     tty = argv[0];
-    if (argc < 2 && !l->is_box) return misused("no format is named", ""), 0;
-    if (argc > (l->is_box ? 1 : 2)) return misused("this is too much:", argv[l->is_box ? 1 : 2]), 0;
+    if (argc < 2 && !l->is_box) return not_so("no format is named", "");
+    if (argc > (l->is_box ? 1 : 2)) return not_so("this is too much:", argv[l->is_box ? 1 : 2]);
     if (l->is_box && (!next_line(text, sizeof text) || strncmp(text, "F\t", 2) != 0 || !is_letter(text + 2)))
-        return printf("E\t1\n"), misused("the first line of the events must name the format, as F, a tab and U:", text), 0;
-    if (!l->is_box && !is_letter(argv[1])) return misused("no such format:", argv[1]), 0;
+        return not_so("the first line of the events must be the format, as F, a tab and U:", text);
+    if (!l->is_box && !is_letter(argv[1])) return not_so("no such format:", argv[1]);
     l->letter = l->is_box ? text[2] : argv[1][0];
-    if (l->clears && l->letter != 'V') return misused("-8 is for V alone", ""), 0;
+    if (l->clears && l->letter != 'V') return not_so("-8 is for V alone", "");
     settle(l);
     return 1;
 }
