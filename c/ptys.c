@@ -510,6 +510,27 @@ static void as_sampled(const char *name) {
     closed(t);
 }
 
+/* ---- A port that was set before: nothing is left to be set, which a pseudo terminal tells as an error. */
+
+static FILE *short_events(const char *text) {
+    FILE *f = tmpfile();
+    must(f != NULL && fputs(text, f) >= 0 && fflush(f) == 0 && lseek(fileno(f), 0, SEEK_SET) == 0, "tmpfile");
+    return f;
+}
+
+static void set_again(void) {
+    char text[] = "F\tU\nS\t1\n";
+    trial = "set again";
+    text[2] = letter;
+    pty t = opened();
+    char *argv[] = {serial, "box", t.name, NULL};
+    for (int i = 0; i < 2; i++) {
+        program b = started(argv, fileno(short_events(text)));
+        if (ended(&b) != 0) fail("%s", written(b.err).text);
+    }
+    closed(t);
+}
+
 /* ---- Seven bits on a port of eight. */
 
 static void eighth_bit(void) {
@@ -588,8 +609,7 @@ static void full(size_t first, size_t then, size_t lines) {
 
 static void refused(const char *what, const char *input, char **argv) {
     trial = what;
-    FILE *f = tmpfile();
-    must(f != NULL && fputs(input, f) >= 0 && fflush(f) == 0 && lseek(fileno(f), 0, SEEK_SET) == 0, "tmpfile");
+    FILE *f = short_events(input);
     program p = started(argv, fileno(f));
     said(&p, 2, what);
     must(fclose(f) == 0, "fclose");
@@ -635,6 +655,7 @@ static void tried(char format) {
     if (recorder != NULL) exit(0);
     watch();
     host();
+    set_again();
     if (format == 'V') eighth_bit();
     if (format == 'U') hung_up();
     if (format == 'B') full(998997, 0, 999000);
