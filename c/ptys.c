@@ -3,6 +3,7 @@
  *     ptys SERIAL SAMPLES              the program of serial.c, and the folder of samples
  *     ptys SERIAL SAMPLES PROGRAM ..   the same box, and a recorder whose standard input is the tty: the format and
  *                                      the tenths of a second of a silence come behind its own arguments
+ *     ptys SERIAL SAMPLES -s RECORD    the same box, and the script record
  *     ptys wire                        two pseudo terminals wired together, until Ctrl-C: prints their names
  * A pseudo terminal doubles FF and makes no other mark: breaks and damaged bytes are put in by hand, on one that marks
  * nothing. Status: 0 where all went as it must, 1 where something did not, 3 where there are no pseudo terminals. */
@@ -16,6 +17,7 @@
 #include <stdio.h>
 #include <stdlib.h>
 #include <string.h>
+#include <sys/file.h>
 #include <sys/stat.h>
 #include <sys/wait.h>
 #include <termios.h>
@@ -27,6 +29,7 @@ enum { MOST_WORDS = 40000, BURSTS = 8, PATIENCE_MS = 20000 };
 static char *serial;    /* the program of serial.c */
 static char *samples;   /* the folder of samples */
 static char **recorder; /* another recorder, or NULL */
+static char *script;    /* the script record, or NULL */
 static char letter;     /* the format that is tried */
 static const char *trial = "";
 
@@ -218,7 +221,7 @@ static void is_whole(const program *p, page expected) {
     must(kill(p->id, SIGINT) == 0, "kill");
     const int status = ended(p);
     const page got = written(p->out), said = written(p->err);
-    if (status != (recorder == NULL ? 0 : 128 + SIGINT)) fail("status %d; %s", status, said.text);
+    if (status != (recorder == NULL || script != NULL ? 0 : 128 + SIGINT)) fail("status %d; %s", status, said.text);
     size_t i = 0;
     while (i < got.length && i < expected.length && got.text[i] == expected.text[i]) i++;
     if (got.length != expected.length || i < got.length) {
@@ -233,10 +236,12 @@ static void is_whole(const program *p, page expected) {
 static program recorded(pty *p, int plain) {
     static char name[2], tenths[4];
     char *own[] = {serial, "record", "-b", "9600", p->name, name, NULL};
+    char *own_script[] = {script, "-b", "9600", p->name, name, NULL};
     char *as_is[] = {serial, "record", "-aq0", p->name, name, NULL};
     char *other[32];
     size_t n = 0;
     name[0] = letter;
+    if (script != NULL) return started(own_script, p->slave);
     if (plain || recorder != NULL) set(p, !plain); /* else it is as the system makes it, with echo */
     if (recorder == NULL) return started(plain ? as_is : own, p->slave);
     while (recorder[n] != NULL && n < 29) other[n] = recorder[n], n++;
@@ -645,12 +650,36 @@ static void bad_calls(void) {
     closed(p);
 }
 
+#define SCRIPT_REFUSED(what, ...) refused(what, "", (char *[]){script, __VA_ARGS__, NULL})
+
+static void script_calls(void) {
+    pty p = opened();
+    refused("no tty is named", "", (char *[]){script, NULL});
+    SCRIPT_REFUSED("no format is named", p.name);
+    SCRIPT_REFUSED("there is no format 'X'", p.name, "X");
+    SCRIPT_REFUSED("there is no format ''", p.name, "");
+    SCRIPT_REFUSED("4 names are given, and it takes 3 at most", p.name, "U", "a", "b");
+    SCRIPT_REFUSED("there is no baud '1201'", "-b", "1201", p.name, "U");
+    SCRIPT_REFUSED("nothing stands behind the option -b", "-b");
+    SCRIPT_REFUSED("there is no option -x", "-x", p.name, "U");
+    SCRIPT_REFUSED("-8 is for V alone", "-8", p.name, "U");
+    SCRIPT_REFUSED("there is no tty '/dev/no-such-tty'", "/dev/no-such-tty", "U");
+    SCRIPT_REFUSED("'/dev/null' is no tty", "/dev/null", "U");
+    SCRIPT_REFUSED("is no tty", samples, "U");
+    SCRIPT_REFUSED("is there already, and is not written over", p.name, "U", serial);
+    must(flock(p.slave, LOCK_EX) == 0, "flock");
+    SCRIPT_REFUSED("is used by another program", p.name, "U");
+    closed(p);
+}
+
 /* ---- All of them, a format beside the other. */
 
 static void tried(char format) {
     letter = format;
     seed = 2463534242u + (uint32_t)format;
     from_box_to_recorder();
+    if (script != NULL && format == 'S') script_calls();
+    if (script != NULL) exit(0);
     marks_cut();
     if (recorder != NULL) exit(0);
     watch();
@@ -692,9 +721,10 @@ static void wire(void) {
 int main(int argc, char **argv) {
     if (argc == 2 && strcmp(argv[1], "wire") == 0) wire();
     int failed = 0, status;
-    if (argc < 3) return fputs("usage: ptys SERIAL SAMPLES [PROGRAM ..]\n       ptys wire\n", stderr), 2;
+    if (argc < 3) return fputs("usage: ptys SERIAL SAMPLES [PROGRAM .. | -s RECORD]\n       ptys wire\n", stderr), 2;
     serial = argv[1], samples = argv[2];
     recorder = argc > 3 ? argv + 3 : NULL;
+    script = argc == 5 && strcmp(argv[3], "-s") == 0 ? argv[4] : NULL;
     const int master = posix_openpt(O_RDWR | O_NOCTTY);
     if (master < 0 || grantpt(master) < 0 || unlockpt(master) < 0 || ptsname(master) == NULL)
         return perror("ptys: no pseudo terminals"), 3;
