@@ -37,7 +37,8 @@ static const char usage[] =
     "-8      in V: eight data bits, for a port that cannot do seven\n"
     "-q      how long nothing must come for a silence, in milliseconds; 0: none is ever told\n"
     "-a      leave the settings of the port as they are\n"
-    "        serial record /dev/ttyS1 U > recording\n";
+    "An example, for a ball box in its five byte format on the second port:\n"
+    "        serial record /dev/ttyS1 U > monday\n";
 
 static volatile sig_atomic_t stopped;
 
@@ -111,7 +112,8 @@ static uint32_t character(const line *l) {
 
 static struct termios wanted(const line *l, struct termios t) {
     cfmakeraw(&t); /* no echo: a box takes its own bytes for commands */
-    t.c_iflag &= ~(tcflag_t)(IGNBRK | BRKINT | IGNPAR | PARMRK | INPCK | ISTRIP | IXON | IXOFF | IXANY);
+    t.c_iflag &=
+        ~(tcflag_t)(IGNBRK | BRKINT | IGNPAR | PARMRK | INPCK | ISTRIP | IUCLC | IXON | IXOFF | IXANY | IMAXBEL);
     /* INPCK in every format: without it a byte with a wrong stop bit comes as a sound one. A box looks at no parity. */
     t.c_iflag |= l->is_box ? IGNBRK : PARMRK | INPCK;
     t.c_cflag &= ~(tcflag_t)(CSIZE | PARENB | PARODD | CSTOPB | CRTSCTS | HUPCL);
@@ -210,10 +212,13 @@ static uint32_t held_back(void) {
 
 /* A silence in microseconds: longer than a receiver holds bytes back, and 50 ms for an adapter and the system. */
 static int silence_of(const line *l, uint32_t *silence) {
-    const uint32_t time = character(l);
-    *silence = l->quiet < 0 ? (held_back() + 2) * time + 50000 : (uint32_t)l->quiet * 1000;
+    const uint32_t time = character(l), sure = (held_back() + 2) * time + 50000;
+    char text[100];
+    *silence = l->quiet < 0 ? sure : (uint32_t)l->quiet * 1000;
     if (*silence > 0 && *silence < 2 * time) return wrong(0, "a silence of less than two characters is none (-q)", 0);
-    return 1;
+    if (*silence == 0 || *silence >= sure) return 1;
+    snprintf(text, sizeof text, "below %u ms (-q) a silence may be told that was none", sure / 1000 + 1);
+    return wrong(1, text, 0);
 }
 
 /* ---- Words from the line. */
