@@ -5,9 +5,10 @@ use mathlib.Core.Bool.{Bool, true, false, cond, true≢false}
 use mathlib.Core.Logic.{inl, inr}
 use mathlib.Core.List.{List, [], _++_, append-assoc, append-nil}
 use native.Mathlib.Omega.{arith}
-use lib.ListN.{take, drop, take-append-drop}
-use Rattle.shell.specs.Outside.{Trace, Over, Complains, Failing, Brought, Handed, Said}
-use Rattle.shell.specs.Standing.{Program, Stands, Closes, Settled, Fronts, Done, Failed, Tells, unread, unwritten, unsaid, Ends}
+use lib.ListN.{length, take, drop, take-append-drop}
+use lib.Seq.{take-length}
+use Rattle.shell.specs.Outside.{Trace, Over, Complains, Failing, heardIn, Brought, Listened, Handed, Said}
+use Rattle.shell.specs.Standing.{Program, Stands, Closes, Settled, Fronts, Done, Failed, Tells, unread, unwritten, unsaid, Ends, Left, Leaves}
 use Rattle.shell.specs.declared.Got.{Got}
 
 -- bytes, of which the first so many were handed out
@@ -46,23 +47,39 @@ module _ (p : Program) where
         tells = λ q. s .tells q ∙ f q;
       }
 
+  -- bytes more, or a wait, stand behind what was read
+  further : (t t′ : ℕ) (rest told : List ℕ → List ℕ) (s : Stands p t rest told) (heard : List ℕ) → Trace t′ (s .ins ++ heard) (s .outs) []
+      → Stands p t′ (λ q. rest (heard ++ q)) (λ q. told (heard ++ q))
+  further t t′ rest told s heard traced =
+      record {
+        ins = s .ins ++ heard;
+        outs = s .outs;
+        traced = traced;
+        so = λ q. ap (p .writes) (append-assoc (s .ins) heard q) ∙ s .so (heard ++ q);
+        tells = λ q. ap (p .says) (append-assoc (s .ins) heard q) ∙ s .tells (heard ++ q);
+      }
+
+  -- a read that failed
+  unheard : (t t′ : ℕ) (rest told : List ℕ → List ℕ) (s : Stands p t rest told) → Failing (p .input) t′ (s .ins) (s .outs) [] → Failed p t′
+  unheard t t′ rest told s f =
+      record { ins = s .ins; outs = s .outs; errs = f .more; traced = f .traced; front = inr (rest, s .so); told = unread (f .told) }
+
   -- a read
   module _ (t t′ : ℕ) (got : Got) (part : List ℕ) (rest told : List ℕ → List ℕ) (s : Stands p t rest told) (b : Brought (p .input) t t′ got part) where
     pub reads : got .well ≡ true → Stands p t′ (λ q. rest (take (got .count) part ++ q)) (λ q. told (take (got .count) part ++ q))
-    reads w =
-        let bytes = take (got .count) part in
-        record {
-          ins = s .ins ++ bytes;
-          outs = s .outs;
-          traced = b .reads w (s .ins) (s .outs) [] (s .traced);
-          so = λ q. ap (p .writes) (append-assoc (s .ins) bytes q) ∙ s .so (bytes ++ q);
-          tells = λ q. ap (p .says) (append-assoc (s .ins) bytes q) ∙ s .tells (bytes ++ q);
-        }
+    reads w = further t t′ rest told s (take (got .count) part) (b .reads w (s .ins) (s .outs) [] (s .traced))
 
     pub fails-reading : got .well ≡ false → Failed p t′
-    fails-reading w =
-        let f = b .fails w (s .ins) (s .outs) [] (s .traced) in
-        record { ins = s .ins; outs = s .outs; errs = f .more; traced = f .traced; front = inr (rest, s .so); told = unread (f .told) }
+    fails-reading w = unheard t t′ rest told s (b .fails w (s .ins) (s .outs) [] (s .traced))
+
+  -- a read of a tty
+  module _ (t t′ : ℕ) (got : Got) (part : List ℕ) (rest told : List ℕ → List ℕ) (s : Stands p t rest told) (b : Listened (p .input) t t′ got part) where
+    pub hears : got .well ≡ true → 0 < length part
+        → Stands p t′ (λ q. rest (heardIn (take (got .count) part) ++ q)) (λ q. told (heardIn (take (got .count) part) ++ q))
+    hears w some = further t t′ rest told s (heardIn (take (got .count) part)) (b .reads w some (s .ins) (s .outs) [] (s .traced))
+
+    pub fails-hearing : got .well ≡ false → Failed p t′
+    fails-hearing w = unheard t t′ rest told s (b .fails w (s .ins) (s .outs) [] (s .traced))
 
   -- a write of what is to be written next
   module _ (t t′ : ℕ) (well : Bool) (bytes : List ℕ) (rest later told : List ℕ → List ℕ) (s : Stands p t rest told) (e : (q : List ℕ) → rest q ≡ bytes ++ later q)
@@ -189,3 +206,44 @@ module _ (p : Program) where
           told = unsaid (f .0) (ap (take (f .0)) (sym (c .tells)));
         };
       }
+
+  -- a program that listens ends: nothing is left to be written, and this was told
+  pub leaves : (t t′ : ℕ) (rest told : List ℕ → List ℕ) (well : Bool) → Stands p t rest told → rest [] ≡ [] → Said t t′ well (told []) → Left p t′
+  leaves t t′ rest told well s none h = go well refl
+    where
+      whole : s .ins ++ [] ≡ s .ins
+      whole = append-nil (s .ins)
+
+      says : p .says (s .ins) ≡ told []
+      says = ap (p .says) (sym whole) ∙ s .tells []
+
+      all : s .outs ≡ p .writes (s .ins)
+      all = sym (ap (p .writes) (sym whole) ∙ s .so [] ∙ ap (λ (l : List ℕ). s .outs ++ l) none ∙ append-nil (s .outs))
+
+      told-all : take (length (told [])) (p .says (s .ins)) ≡ told []
+      told-all = ap (take (length (told []))) says ∙ take-length (told [])
+
+      go : (w : Bool) → well ≡ w → Left p t′
+      go true e =
+          record {
+            ins = s .ins;
+            outs = s .outs;
+            count = length (told []);
+            traced = subst (Trace t′ (s .ins) (s .outs)) (sym told-all) (h .says e (s .ins) (s .outs) [] (s .traced));
+            all = all;
+          }
+      go false e =
+          let f = h .fails e (s .ins) (s .outs) [] (s .traced) in
+          record {
+            ins = s .ins;
+            outs = s .outs;
+            count = f .0;
+            traced = subst (Trace t′ (s .ins) (s .outs)) (ap (take (f .0)) (sym says)) (f .1);
+            all = all;
+          }
+
+  pub left : (t : ℕ) → Left p t → Leaves p t true
+  left t l = record { left = λ _. l; failed = λ w. absurd (true≢false w) }
+
+  pub breaks-off : (t : ℕ) → Failed p t → Leaves p t false
+  breaks-off t f = record { left = λ w. absurd (true≢false (sym w)); failed = λ _. f }

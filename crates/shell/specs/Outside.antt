@@ -38,6 +38,22 @@ pub record Brought (name : List ℕ) (t t′ : ℕ) (got : Got) (part : List ℕ
   pub none : got .well ≡ false → got .count ≡ 0
   pub fails : got .well ≡ false → (ins outs errs : List ℕ) → Trace t ins outs errs → Failing name t′ ins outs errs
 
+-- A WAIT: the system, asked, said that nothing came. It stands among what was read of a tty, and is no byte.
+abbrev pub wait : ℕ
+wait = 256
+
+-- what a read of a tty tells: the bytes that it brought, or a wait where it brought none
+abbrev pub heardIn : List ℕ → List ℕ
+heardIn [] = wait ∷ []
+heardIn (b ∷ bytes) = b ∷ bytes
+
+-- A READ OF A TTY that answers an empty read after a tenth of a second: what it told stands behind what was read before.
+pub record Listened (name : List ℕ) (t t′ : ℕ) (got : Got) (part : List ℕ) : Type 0 where
+  pub reads : got .well ≡ true → 0 < length part → (ins outs errs : List ℕ) → Trace t ins outs errs
+      → Trace t′ (ins ++ heardIn (take (got .count) part)) outs errs
+  pub none : got .well ≡ false → got .count ≡ 0
+  pub fails : got .well ≡ false → (ins outs errs : List ℕ) → Trace t ins outs errs → Failing name t′ ins outs errs
+
 -- A WRITE: the bytes stand behind what was handed out before, or a front of them where it failed.
 pub record Handed (name : List ℕ) (t t′ : ℕ) (well : Bool) (bytes : List ℕ) : Type 0 where
   pub writes : well ≡ true → (ins outs errs : List ℕ) → Trace t ins outs errs → Trace t′ ins (outs ++ bytes) errs

@@ -87,3 +87,17 @@ pub record Failed (p : Program) (t : ℕ) : Type 0 where
 pub record Ends (p : Program) (t : ℕ) (well : Bool) : Type 0 where
   pub done : well ≡ true → Done p t
   pub failed : well ≡ false → Failed p t
+
+-- A PROGRAM THAT LISTENS HAS ENDED: what was handed out is what it is to write of all that was heard, and standard error has what it is to
+-- tell of that, or a front of it where that fails
+pub record Left (p : Program) (t : ℕ) : Type 0 where
+  pub ins : List ℕ
+  pub outs : List ℕ
+  pub count : ℕ
+  pub traced : Trace t ins outs (take count (p .says ins))
+  pub all : outs ≡ p .writes ins
+
+-- HOW A PROGRAM THAT LISTENS ENDS: so, or something failed
+pub record Leaves (p : Program) (t : ℕ) (well : Bool) : Type 0 where
+  pub left : well ≡ true → Left p t
+  pub failed : well ≡ false → Failed p t

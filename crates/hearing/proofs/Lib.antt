@@ -1,0 +1,2 @@
+-- A machine that hears bytes one by one.
+pub mod Steps

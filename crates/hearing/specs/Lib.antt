@@ -1,0 +1,6 @@
+-- How a program that listens is called (Called), whether the line is gone (Clock), what was heard as events of the port (Events), and a
+-- machine that hears it (Steps).
+pub mod Called
+pub mod Clock
+pub mod Events
+pub mod Steps
