@@ -5,16 +5,20 @@ use mathlib.Core.Bool.{Bool, true, false, not, true≢false}
 use mathlib.Core.List.{List, [], _∷_, _++_}
 use native.Mathlib.Omega.{arith}
 use lib.ListN.{length, take}
+use lib.Seq.{take-length}
+use lib.Dec.{eqb}
+use Rattle.numbers.proofs.Choices.{cases}
 use borrow.Author.Tests.{ne-eqb, eq-eqb}
 use Rattle.frames.specs.Words.{silence}
 use Rattle.port.specs.Sessions.{wordsOver}
-use Rattle.shell.specs.Outside.{heardIn, Listened, Handed, Said}
-use Rattle.shell.specs.Standing.{Program, Stands, Left}
+use Rattle.text.specs.Growth.{slice, filledBy}
+use Rattle.shell.specs.Outside.{Trace, heardIn, Listened, Handed, Said}
+use Rattle.shell.specs.Standing.{Program, Stands, Failed, Left}
 use Rattle.shell.specs.declared.Got.{Got}
 use Rattle.shell.proofs.Laws as standing
 use Rattle.hearing.specs.Steps.{Far}
-use Rattle.hearing.proofs.Steps.{all-goes, all-says}
-use Rattle.mrecord.specs.Recording.{linesOf, fullAtSilence, full, gone, endOf, rest, told, named}
+use Rattle.hearing.proofs.Steps.{stands, all-goes, all-says}
+use Rattle.mrecord.specs.Recording.{lineOf, linesOf, fullAtSilence, full, gone, endOf, rest, told, firstLine, firstLines, fresh, named, mrecord}
 use Rattle.mrecord.specs.Turns.{Here, Goes, Hands}
 use Rattle.mrecord.specs.declared.Tape.{Tape}
 use Rattle.mrecord.specs.declared.Taped.{Taped}
@@ -55,16 +59,41 @@ turned t t′ tape tape′ got part heard before after i at b w some e f all roo
     (λ q. ap (λ (l : List ℕ). told tape (l ++ q)) e ∙ all-says rest told 9 tape heard before i at tape′ after f all room q)
 
 -- and where it is
-pub hands : (t t′ : ℕ) (here : Taped) (out : List ℕ) (came on well : Bool) → Handed (named heardIn heardIn .output) t t′ well (take (here .at) out)
+pub hands : (t t′ : ℕ) (here : Taped) (out : List ℕ) (came on well : Bool) → (on ≡ true → well ≡ true)
+    → Handed (named heardIn heardIn .output) t t′ well (take (here .at) out)
     → Hands t here out t′ (record { tape = here .tape; came = came; on = on; well = well })
-hands t t′ here out came on well h writes says s =
+hands t t′ here out came on well y h writes says s =
     let p = named writes says in
     let bytes = take (here .at) out in
     let tape = here .tape in
     record {
       stands = standing.writes p t t′ well bytes (λ q. bytes ++ rest tape q) (rest tape) (told tape) s (λ q. refl) h;
       failed = standing.fails-writing p t t′ well bytes (λ q. bytes ++ rest tape q) (rest tape) (told tape) s (λ q. refl) h;
+      goes-on = y;
     }
+
+-- the first lines, which are short
+pub short : (letter begins : ℕ) → length (firstLines letter begins) ≤ 6
+unfolding lineOf
+short letter begins = cases (λ (l : List ℕ). length (firstLine letter ++ l) ≤ 6) (eqb begins 0) (λ _. omega arith) (λ _. omega arith)
+
+module _ (letter tenths begins t t′ n : ℕ) (before after : List ℕ) (well : Bool) (traced : Trace t [] [] []) (so : slice after n ≡ filledBy (slice before 0) (firstLines letter begins))
+    (room : 9 ≤ length before) (h : Handed (named heardIn heardIn .output) t t′ well (take n after)) where
+  text : take n after ≡ firstLines letter begins
+  text = stands before after (firstLines letter begins) n so (omega (arith, short letter begins))
+
+  fits : (q : List ℕ) → firstLines letter begins ++ rest (fresh tenths begins) q ≡ take n after ++ rest (fresh tenths begins) q
+  fits q = ap (λ (l : List ℕ). l ++ rest (fresh tenths begins) q) (sym text)
+
+  pub opened : well ≡ true → Stands (mrecord letter tenths begins) t′ (rest (fresh tenths begins)) (told (fresh tenths begins))
+  opened =
+      let p = mrecord letter tenths begins in
+      standing.writes p t t′ well (take n after) (p .writes) (rest (fresh tenths begins)) (p .says) (standing.begins p t traced) fits h
+
+  pub not-opened : well ≡ false → Failed (mrecord letter tenths begins) t′
+  not-opened =
+      let p = mrecord letter tenths begins in
+      standing.fails-writing p t t′ well (take n after) (p .writes) (rest (fresh tenths begins)) (p .says) (standing.begins p t traced) fits h
 
 -- nothing more is heard
 pub gone-told : (tape : Tape) → (tape .left ≡ 0 → ⊥) → gone ≡ told tape []
@@ -83,3 +112,8 @@ pub ends : (t t′ : ℕ) (tape : Tape) (well : Bool) (words : List ℕ) → wor
     → (p : Program) → Stands p t (rest tape) (told tape) → Left p t′
 unfolding wordsOver linesOf
 ends t t′ tape well words e h p s = standing.leaves p t t′ (rest tape) (told tape) well s refl (subst (Said t t′ well) e h)
+
+-- what a wrong call says
+pub refused : (t t′ : ℕ) (well : Bool) (words : List ℕ) → Trace t [] [] [] → Said t t′ well words → (n : ℕ) × Trace t′ [] [] (take n words)
+refused t t′ true words traced h = (length words, subst (Trace t′ [] []) (sym (take-length words)) (h .says refl [] [] [] traced))
+refused t t′ false words traced h = h .fails refl [] [] [] traced

@@ -1,7 +1,7 @@
 -- A wrong call, and how the program ends.
 use Prim.Native.Nat.{ℕ}
 use mathlib.Core.Path.{_≡_}
-use mathlib.Core.Bool.{Bool, true, false, cond, _&&_, not}
+use mathlib.Core.Bool.{Bool, true, false, cond, _||_, not}
 use mathlib.Core.List.{List, [], _∷_}
 use lib.Dec.{eqb}
 use lib.ListN.{take}
@@ -19,9 +19,9 @@ wrongTenths = 109 ∷ 114 ∷ 101 ∷ 99 ∷ 111 ∷ 114 ∷ 100 ∷ 58 ∷ 32 �
 abbrev pub wrongEnd : List ℕ
 wrongEnd = 109 ∷ 114 ∷ 101 ∷ 99 ∷ 111 ∷ 114 ∷ 100 ∷ 58 ∷ 32 ∷ 98 ∷ 101 ∷ 104 ∷ 105 ∷ 110 ∷ 100 ∷ 32 ∷ 84 ∷ 69 ∷ 78 ∷ 84 ∷ 72 ∷ 83 ∷ 32 ∷ 115 ∷ 116 ∷ 97 ∷ 110 ∷ 100 ∷ 115 ∷ 32 ∷ 81 ∷ 32 ∷ 111 ∷ 114 ∷ 32 ∷ 110 ∷ 111 ∷ 116 ∷ 104 ∷ 105 ∷ 110 ∷ 103 ∷ 10 ∷ []
 
--- a letter or a number of tenths that is 0, or a third word above 1, is wrong
-unfoldable pub isRight : ℕ → ℕ → ℕ → Bool
-isRight letter tenths begins = not (eqb letter 0) && not (eqb tenths 0) && not (eqb begins 2)
+-- a letter or a number of tenths that is 0, or a third word that is 2, is wrong
+abbrev pub isRight : ℕ → ℕ → ℕ → Bool
+isRight letter tenths begins = not ((eqb letter 0 || eqb tenths 0) || eqb begins 2)
 
 unfoldable pub refusalOf : ℕ → ℕ → List ℕ
 refusalOf letter tenths = cond (eqb letter 0) wrongLetter (cond (eqb tenths 0) wrongTenths wrongEnd)

@@ -14,6 +14,7 @@ use Rattle.mrecord.specs.declared.Went.{Went}
 pub record Here (p : Program) (t : ℕ) (w : Went) : Type 0 where
   pub stands : w .well ≡ true → Stands p t (rest (w .tape)) (told (w .tape))
   pub failed : w .well ≡ false → Failed p t
+  pub goes-on : w .on ≡ true → w .well ≡ true
 
 -- from where a tape stands on, whatever was to be written
 abbrev pub Goes : ℕ → Tape → ℕ → Went → Type 0

@@ -11,7 +11,7 @@ ghost use Rattle.shell.specs.Outside.{Trace, Said, wait};
 ghost use Rattle.shell.specs.Standing.{Program, Stands, Left, Leaves};
 ghost use Rattle.hearing.specs.Events.{eventOf};
 ghost use Rattle.hearing.specs.Steps.{Step, Far};
-ghost use Rattle.mrecord.specs.Recording.{lineOf, behindLine, rest, told, firstLine, firstLines, mrecord};
+ghost use Rattle.mrecord.specs.Recording.{lineOf, behindLine, rest, told, firstLine, firstLines, fresh, mrecord};
 ghost use Rattle.mrecord.specs.Turns.{Hands, Goes};
 ghost use Rattle.mrecord.specs.Refusals.{refusalOf, Ended};
 use hearing::Clock;
@@ -83,10 +83,7 @@ fn tell(tape: Tape, heard: Heard, out: &mut [u8], at: usize) -> Taped
     ensures { λ r. ⌜ ((h : ℕ) → heard ≡ stepOf (tape .port) (eventOf h) → Step rest told 9 tape h (now (out .entry)) at (r .tape) (now (out .exit)) (r .at)) ⌝ }
 {
     if tape.left == 0 {
-        return Taped {
-            tape: tape,
-            at: at,
-        };
+        return Taped { tape: tape, at: at };
     }
     let next = heard.next;
     let given = heard.given;
@@ -127,10 +124,7 @@ fn byte(tape: Tape, b: u8, out: &mut [u8], at: usize) -> Taped
 fn bytes(tape: Tape, came: &[u8], out: &mut [u8]) -> Taped
     ensures { λ r. ⌜ Far rest told 9 tape (now (came .entry)) (now (out .entry)) (length (now (came .entry))) (r .tape) (now (out .exit)) (r .at) ⌝ }
 {
-    let mut here = Taped {
-        tape: tape,
-        at: 0,
-    };
+    let mut here = Taped { tape: tape, at: 0 };
     let mut i: usize = 0;
     while i < came.len() {
         here = byte(here.tape, came[i], out, here.at);
@@ -255,8 +249,34 @@ fn end(turn: &mut u64, tape: Tape)
     shell::say(turn, b"mrecord: the recording is full\n");
 }
 
+// A tape on which the first lines stand.
+fn fresh(tenths: u8, begins: u8) -> Tape
+    ensures { λ r. ⌜ r ≡ fresh tenths begins ⌝ }
+{
+    let port = Port::fresh(tenths as u32);
+    if begins == 0 {
+        return Tape {
+            port: port,
+            left: 999_998,
+            last: 0,
+        };
+    }
+    Tape {
+        port: port,
+        left: 999_997,
+        last: 0,
+    }
+}
+
 // WHAT IS HANDED OUT IS THE RECORDING OF WHAT WAS HEARD.
-fn record(turn: &mut u64, letter: u8, tenths: u8, begins: u8, input: &mut [u8], out: &mut [u8]) -> bool
+fn recorded(
+    turn: &mut u64,
+    letter: u8,
+    tenths: u8,
+    begins: u8,
+    input: &mut [u8],
+    out: &mut [u8],
+) -> bool
     requires { ⌜ (0 < length (now input)) × (9 * length (now input) ≤ length (now out)) × Trace (now turn) [] [] [] ⌝ }
     ensures { λ r. ⌜ Leaves (mrecord letter tenths begins) (now (turn .exit)) r ⌝ }
 {
@@ -264,16 +284,7 @@ fn record(turn: &mut u64, letter: u8, tenths: u8, begins: u8, input: &mut [u8], 
     if !shell::show(turn, b"mrecord: standard output", &out[..n]) {
         return false;
     }
-    let port = Port::fresh(tenths as u32);
-    let mut left: u32 = 999_998;
-    if begins != 0 {
-        left = 999_997;
-    }
-    let tape = Tape {
-        port: port,
-        left: left,
-        last: 0,
-    };
+    let tape = fresh(tenths, begins);
     let went = turns(turn, tape, input, out);
     if !went.well {
         return false;
@@ -296,7 +307,14 @@ fn refuse(turn: &mut u64, letter: u8, tenths: u8) -> bool
 }
 
 // The recording, or what is wrong. A letter or a number of tenths that is 0 is wrong, and so is a third word that is 2.
-fn whole(turn: &mut u64, letter: u8, tenths: u8, begins: u8, input: &mut [u8], out: &mut [u8]) -> bool
+fn whole(
+    turn: &mut u64,
+    letter: u8,
+    tenths: u8,
+    begins: u8,
+    input: &mut [u8],
+    out: &mut [u8],
+) -> bool
     requires { ⌜ (0 < length (now input)) × (9 * length (now input) ≤ length (now out)) × Trace (now turn) [] [] [] ⌝ }
     ensures { λ r. ⌜ Ended letter tenths begins (now (turn .exit)) r ⌝ }
 {
@@ -304,7 +322,7 @@ fn whole(turn: &mut u64, letter: u8, tenths: u8, begins: u8, input: &mut [u8], o
         refuse(turn, letter, tenths);
         return false;
     }
-    record(turn, letter, tenths, begins, input, out)
+    recorded(turn, letter, tenths, begins, input, out)
 }
 
 // The third word: 0 where there is none, 1 for Q, 2 for any other, and where there are more words.
@@ -324,20 +342,27 @@ fn third(count: usize, word: &[u8]) -> u8 {
     2
 }
 
+// The second word: one tenth where there is none.
+fn second(count: usize, word: &[u8]) -> u8 {
+    if count < 3 {
+        return 1;
+    }
+    hearing::tenths_in(word)
+}
+
 fn main() {
     let mut turn = shell::start();
     let mut input = [0u8; 512];
     let mut out = [0u8; 4608];
-    let mut word = [0u8; 8];
-    let mut n = os::arg(1, &mut word);
-    let letter = hearing::letter_in(&word[..n]);
+    let mut first_word = [0u8; 8];
+    let mut second_word = [0u8; 8];
+    let mut third_word = [0u8; 8];
     let count = os::arg_count();
-    let mut tenths: u8 = 1;
-    if count > 2 {
-        n = os::arg(2, &mut word);
-        tenths = hearing::tenths_in(&word[..n]);
-    }
-    n = os::arg(3, &mut word);
-    let begins = third(count, &word[..n]);
+    let first_size = os::arg(1, &mut first_word);
+    let second_size = os::arg(2, &mut second_word);
+    let third_size = os::arg(3, &mut third_word);
+    let letter = hearing::letter_in(&first_word[..first_size]);
+    let tenths = second(count, &second_word[..second_size]);
+    let begins = third(count, &third_word[..third_size]);
     whole(&mut turn, letter, tenths, begins, &mut input, &mut out);
 }

@@ -49,10 +49,7 @@ fn year_of(since: u32) -> Day
         year = year + 1;
         length = year_days(year);
     }
-    Day {
-        of: year,
-        day: day,
-    }
+    Day { of: year, day: day }
 }
 
 // The month of a day of a year, and which of its days that is, from 1 on.
@@ -118,7 +115,12 @@ pub(crate) fn noted(left: u32, last: i64, now: i64) -> i64 {
     }
     let second = second_of(now);
     let mut out = [0u8; 64];
-    let n = note_to(&mut out, 999_999 - left, (second / 86400) as u32, (second % 86400) as u32);
+    let n = note_to(
+        &mut out,
+        999_999 - left,
+        (second / 86400) as u32,
+        (second % 86400) as u32,
+    );
     if n <= 64 {
         shell::note(&out[..n]);
     }

@@ -22,6 +22,7 @@ returns c =
     λ writes says s. record {
       stands = λ w. absurd (true≢false (sym w));
       failed = λ _. standing.fails-hearing (named writes says) (a .turn .now) (h .last .0) (h .result) (h .last .1 .1 .0) (rest (a .tape)) (told (a .tape)) s (h .ensures .1) (off _ (c .if1 .taken));
+      goes-on = λ y. absurd (true≢false (sym y));
     }
 
 shown-requires : tie.Need-shown-requires

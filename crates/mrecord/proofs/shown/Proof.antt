@@ -2,6 +2,7 @@
 use borrow.Author.Needs.{needs}
 use mathlib.Core.Path.{sym}
 use lib.Seq.{length-take-le}
+use Rattle.numbers.proofs.Tested.{left}
 use Rattle.mrecord.proofs.Handing.{hands}
 use Rattle.mrecord.proofs.shown.Statement.{statement}
 use Rattle.mrecord.proofs.shown.Tie as tie
@@ -13,7 +14,7 @@ returns : tie.Need-returns
 returns c =
     let a = c .before .before .before .before .before .before .before .args in
     let s = c .before .show in
-    hands (a .turn .now) (s .last .0) (a .here) (a .out .now) (a .came) _ (s .result) (s .ensures)
+    hands (a .turn .now) (s .last .0) (a .here) (a .out .now) (a .came) _ (s .result) (left _ _) (s .ensures)
 
 pub shown-spec : {M : Type 1} → statement M
 shown-spec =
