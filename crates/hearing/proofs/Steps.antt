@@ -6,10 +6,17 @@ use native.Mathlib.Omega.{arith}
 use native.Mathlib.Numerals.{add-one}
 use lib.ListN.{length, take, drop, getD, length-append, drop-of-length-le}
 use lib.Seq.{drop-cons, take-at}
-use Rattle.text.specs.Growth.{slice, filledBy}
+use Rattle.text.specs.Growth.{slice, filled, filledBy}
 use Rattle.text.specs.declared.Text.{Text}
 use Rattle.text.proofs.Filled.{both-filled, filled-all}
 use Rattle.hearing.specs.Steps.{Step, Far}
+
+-- bytes one behind the other in a slice
+pub then-one : (t u v : Text) (l : List ℕ) (b : ℕ) → u ≡ filledBy t l → v ≡ filled u b → v ≡ filledBy t (l ++ b ∷ [])
+then-one t u v l b e f = f ∙ ap (λ (s : Text). filled s b) e ∙ both-filled t l (b ∷ [])
+
+pub then-more : (t u v : Text) (l k : List ℕ) → u ≡ filledBy t l → v ≡ filledBy u k → v ≡ filledBy t (l ++ k)
+then-more t u v l k e f = f ∙ ap (λ (s : Text). filledBy s k) e ∙ both-filled t l k
 
 -- text that has room stands at the front
 module _ (before after text : List ℕ) (behind : ℕ) (so : slice after behind ≡ filledBy (slice before 0) text) (room : length text ≤ length before) where

@@ -46,13 +46,6 @@ few-line w h =
     (λ _. cases (λ (l : List ℕ). length l ≤ 9) (eqb w silence) (λ _. omega arith)
     (λ _. omega (arith, decimal-few plain 4 (pos w) (omega arith) (omega arith), length-append (decimalOf plain (pos w)) (10 ∷ []))))
 
--- bytes one behind the other in a slice
-pub then-one : (t u v : Text) (l : List ℕ) (b : ℕ) → u ≡ filledBy t l → v ≡ filled u b → v ≡ filledBy t (l ++ b ∷ [])
-then-one t u v l b e f = f ∙ ap (λ (s : Text). filled s b) e ∙ both-filled t l (b ∷ [])
-
-pub then-more : (t u v : Text) (l k : List ℕ) → u ≡ filledBy t l → v ≡ filledBy u k → v ≡ filledBy t (l ++ k)
-then-more t u v l k e f = f ∙ ap (λ (s : Text). filledBy s k) e ∙ both-filled t l k
-
 -- no line is left
 full-lines : (left : ℕ) (words : List ℕ) → left ≡ 0 → linesOf left words ≡ []
 unfolding linesOf

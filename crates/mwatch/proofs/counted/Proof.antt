@@ -1,0 +1,22 @@
+-- More, or full.
+use borrow.Author.Needs.{needs}
+use borrow.Author.Tests.{lt-ltb, le-ltb}
+use Rattle.mwatch.specs.Watching.{counted}
+use Rattle.mwatch.proofs.counted.Statement.{statement}
+use Rattle.mwatch.proofs.counted.Tie as tie
+
+returns : tie.Need-returns
+unfolding counted
+returns c = rw (lt-ltb _ _ (c .if1 .taken))
+
+returns-2 : tie.Need-returns-2
+unfolding counted
+returns-2 c = rw (le-ltb _ _ (c .if1 .left))
+
+pub counted-spec : {M : Type 1} → statement M
+counted-spec =
+    tie.close
+    (tie.spec
+    (λ c. search needs)
+    returns
+    returns-2)
