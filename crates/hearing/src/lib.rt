@@ -1,10 +1,8 @@
-// What the programs that listen to a serial line share: how they are called, bytes in a slice, and whether the line is gone.
+// What the programs that listen to a serial line share: how they are called, and whether the line is gone.
 ghost use mathlib.Core.Path.{_≡_};
-ghost use Rattle.text.specs.Growth.{slice, filledBy};
 ghost use Rattle.hearing.specs.Called.{letterIn, smallIn, tenthsIn};
 ghost use Rattle.hearing.specs.Clock.{turnedOf};
 use text::Number;
-use text::Text;
 
 // The letter of a format, if a word is one; else 0.
 pub fn letter_in(word: &[u8]) -> u8
@@ -42,19 +40,6 @@ pub fn tenths_in(word: &[u8]) -> u8
         Number::None => 0,
         Number::Is(x) => small(x),
     }
-}
-
-// Bytes to a slice at a place, and the place behind them, as far as there are places.
-pub fn text_to(out: &mut [u8], at: usize, bytes: &[u8]) -> usize
-    ensures { λ r. ⌜ slice (now (out .exit)) r ≡ filledBy (slice (now (out .entry)) at) (now (bytes .entry)) ⌝ }
-{
-    let mut behind = at;
-    let mut i: usize = 0;
-    while i < bytes.len() {
-        behind = Text::byte_to(out, behind, bytes[i]);
-        i = i + 1;
-    }
-    behind
 }
 
 // The reads in a row that brought nothing, and whether the line is gone.

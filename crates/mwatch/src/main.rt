@@ -410,7 +410,7 @@ fn turns(turn: &mut u64, sight: Sight, input: &mut [u8], out: &mut [u8]) -> Went
 fn part_to(out: &mut [u8], at: usize, words: &[u8], count: u32) -> usize
     ensures { λ r. ⌜ slice (now (out .exit)) r ≡ filledBy (slice (now (out .entry)) at) (now (words .entry) ++ decimalOf plain (pos count)) ⌝ }
 {
-    let behind = hearing::text_to(out, at, words);
+    let behind = Text::bytes_to(out, at, words);
     Text::decimal_to(out, behind, 1, count as i64)
 }
 

@@ -13,7 +13,7 @@ use Rattle.mwatch.proofs.part_to.Tie as tie
 returns : tie.Need-returns
 returns c =
     let a = c .before .before .before .before .before .before .before .before .before .before .args in
-    let t = c .before .before .before .before .before .before .text-to in
+    let t = c .before .before .before .before .before .before .bytes-to in
     let n = c .before .before .decimal-to in
     let d = rw (toZ-pos w64 {n = a .count} (omega arith)) at (n .ensures) in
     then-more (slice (a .out .now) (a .at)) (slice (t .last .0) (t .result)) (slice (n .last .0) (n .result)) (a .words .now) (decimalOf plain (pos (a .count))) (t .ensures) d
