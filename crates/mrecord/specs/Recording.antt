@@ -8,7 +8,7 @@ use Rattle.frames.specs.Words.{break, silence}
 use Rattle.text.specs.Decimals.{plain, decimalOf}
 use Rattle.port.specs.Marks.{made}
 use Rattle.port.specs.Sessions.{wordsOver}
-use Rattle.shell.specs.Standing.{Program}
+use Rattle.shell.specs.Standing.{Program, program}
 use Rattle.hearing.specs.Events.{eventsOf}
 use Rattle.mrecord.specs.declared.Tape.{Tape}
 
@@ -63,13 +63,7 @@ fresh tenths begins = record { port = made 0 tenths; left = cond (eqb begins 0) 
 
 -- a program that calls its input and output so
 abbrev pub named : (List ℕ → List ℕ) → (List ℕ → List ℕ) → Program
-named writes says =
-    record {
-      writes = writes;
-      says = says;
-      input = 109 ∷ 114 ∷ 101 ∷ 99 ∷ 111 ∷ 114 ∷ 100 ∷ 58 ∷ 32 ∷ 115 ∷ 116 ∷ 97 ∷ 110 ∷ 100 ∷ 97 ∷ 114 ∷ 100 ∷ 32 ∷ 105 ∷ 110 ∷ 112 ∷ 117 ∷ 116 ∷ [];
-      output = 109 ∷ 114 ∷ 101 ∷ 99 ∷ 111 ∷ 114 ∷ 100 ∷ 58 ∷ 32 ∷ 115 ∷ 116 ∷ 97 ∷ 110 ∷ 100 ∷ 97 ∷ 114 ∷ 100 ∷ 32 ∷ 111 ∷ 117 ∷ 116 ∷ 112 ∷ 117 ∷ 116 ∷ [];
-    }
+named writes says = program (109 ∷ 114 ∷ 101 ∷ 99 ∷ 111 ∷ 114 ∷ 100 ∷ []) writes says
 
 -- THE RECORDING OF WHAT IT HEARS. A silence is so many tenths of a second; the recording begins with a silence where `begins` is not 0
 abbrev pub mrecord : ℕ → ℕ → ℕ → Program

@@ -16,7 +16,7 @@ use Rattle.reader.specs.declared.Answer.the-variants as answer
 use Rattle.saves.specs.State.{unaware}
 use Rattle.saves.specs.Rules.{heardOf}
 use Rattle.saves.specs.declared.Watch.{Watch}
-use Rattle.shell.specs.Standing.{Program}
+use Rattle.shell.specs.Standing.{Program, program}
 use Rattle.hearing.specs.Events.{eventsOf}
 use Rattle.mwatch.specs.declared.Look.{Look}
 use Rattle.mwatch.specs.declared.Sight.{Sight}
@@ -131,13 +131,7 @@ fresh letter tenths = record { port = made 0 tenths; look = look (freshOf letter
 
 -- a program that calls its input and output so
 abbrev pub named : (List ℕ → List ℕ) → (List ℕ → List ℕ) → Program
-named writes says =
-    record {
-      writes = writes;
-      says = says;
-      input = 109 ∷ 119 ∷ 97 ∷ 116 ∷ 99 ∷ 104 ∷ 58 ∷ 32 ∷ 115 ∷ 116 ∷ 97 ∷ 110 ∷ 100 ∷ 97 ∷ 114 ∷ 100 ∷ 32 ∷ 105 ∷ 110 ∷ 112 ∷ 117 ∷ 116 ∷ [];
-      output = 109 ∷ 119 ∷ 97 ∷ 116 ∷ 99 ∷ 104 ∷ 58 ∷ 32 ∷ 115 ∷ 116 ∷ 97 ∷ 110 ∷ 100 ∷ 97 ∷ 114 ∷ 100 ∷ 32 ∷ 111 ∷ 117 ∷ 116 ∷ 112 ∷ 117 ∷ 116 ∷ [];
-    }
+named writes says = program (109 ∷ 119 ∷ 97 ∷ 116 ∷ 99 ∷ 104 ∷ []) writes says
 
 -- WHAT A FRESH READER AND A FRESH WATCH BEHIND IT TELL OF WHAT IS HEARD. A silence is so many tenths of a second.
 abbrev pub mwatch : ℕ → ℕ → Program
