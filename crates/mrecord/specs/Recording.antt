@@ -6,10 +6,11 @@ use lib.Dec.{eqb, ltb}
 use lib.IntN.{pos}
 use Rattle.frames.specs.Words.{break, silence}
 use Rattle.text.specs.Decimals.{plain, decimalOf}
-use Rattle.port.specs.Marks.{made}
+use Rattle.port.specs.Marks.{opened}
 use Rattle.port.specs.Sessions.{wordsOver}
 use Rattle.shell.specs.Standing.{Program, program}
 use Rattle.hearing.specs.Events.{eventsOf}
+use Rattle.hearing.specs.Words.{lineGone}
 use Rattle.mrecord.specs.declared.Tape.{Tape}
 
 -- "`B` decimal byte, `X` (256), `Q` (257)"
@@ -25,15 +26,27 @@ unfoldable pub linesOf : ℕ → List ℕ → List ℕ
 linesOf left [] = []
 linesOf left (w ∷ words) = cond (eqb left 0) [] (lineOf w ++ linesOf (behindLine (left - 1) w) words)
 
--- "mrecord: the recording is full, at a silence"; "mrecord: the recording is full"; "mrecord: the line is gone"
+-- "mrecord: ", "the recording is full", ", at a silence"
+abbrev pub name : List ℕ
+name = 109 ∷ 114 ∷ 101 ∷ 99 ∷ 111 ∷ 114 ∷ 100 ∷ []
+
+abbrev pub speaks : List ℕ → List ℕ
+speaks words = name ++ 58 ∷ 32 ∷ words
+
+abbrev isFull : List ℕ
+isFull = 116 ∷ 104 ∷ 101 ∷ 32 ∷ 114 ∷ 101 ∷ 99 ∷ 111 ∷ 114 ∷ 100 ∷ 105 ∷ 110 ∷ 103 ∷ 32 ∷ 105 ∷ 115 ∷ 32 ∷ 102 ∷ 117 ∷ 108 ∷ 108 ∷ []
+
+abbrev atSilence : List ℕ
+atSilence = 44 ∷ 32 ∷ 97 ∷ 116 ∷ 32 ∷ 97 ∷ 32 ∷ 115 ∷ 105 ∷ 108 ∷ 101 ∷ 110 ∷ 99 ∷ 101 ∷ 10 ∷ []
+
 abbrev pub fullAtSilence : List ℕ
-fullAtSilence = 109 ∷ 114 ∷ 101 ∷ 99 ∷ 111 ∷ 114 ∷ 100 ∷ 58 ∷ 32 ∷ 116 ∷ 104 ∷ 101 ∷ 32 ∷ 114 ∷ 101 ∷ 99 ∷ 111 ∷ 114 ∷ 100 ∷ 105 ∷ 110 ∷ 103 ∷ 32 ∷ 105 ∷ 115 ∷ 32 ∷ 102 ∷ 117 ∷ 108 ∷ 108 ∷ 44 ∷ 32 ∷ 97 ∷ 116 ∷ 32 ∷ 97 ∷ 32 ∷ 115 ∷ 105 ∷ 108 ∷ 101 ∷ 110 ∷ 99 ∷ 101 ∷ 10 ∷ []
+fullAtSilence = speaks (isFull ++ atSilence)
 
 abbrev pub full : List ℕ
-full = 109 ∷ 114 ∷ 101 ∷ 99 ∷ 111 ∷ 114 ∷ 100 ∷ 58 ∷ 32 ∷ 116 ∷ 104 ∷ 101 ∷ 32 ∷ 114 ∷ 101 ∷ 99 ∷ 111 ∷ 114 ∷ 100 ∷ 105 ∷ 110 ∷ 103 ∷ 32 ∷ 105 ∷ 115 ∷ 32 ∷ 102 ∷ 117 ∷ 108 ∷ 108 ∷ 10 ∷ []
+full = speaks (isFull ++ 10 ∷ [])
 
 abbrev pub gone : List ℕ
-gone = 109 ∷ 114 ∷ 101 ∷ 99 ∷ 111 ∷ 114 ∷ 100 ∷ 58 ∷ 32 ∷ 116 ∷ 104 ∷ 101 ∷ 32 ∷ 108 ∷ 105 ∷ 110 ∷ 101 ∷ 32 ∷ 105 ∷ 115 ∷ 32 ∷ 103 ∷ 111 ∷ 110 ∷ 101 ∷ 10 ∷ []
+gone = speaks (lineGone ++ 10 ∷ [])
 
 -- what is told where it ends behind these words, of which the last was written before them: no line is left, or else the line is gone
 abbrev pub fullBehind : ℕ → List ℕ
@@ -59,11 +72,11 @@ firstLines letter begins = firstLine letter ++ cond (eqb begins 0) [] (lineOf si
 
 -- a tape of 999,999 lines on which those stand
 abbrev pub fresh : ℕ → ℕ → Tape
-fresh tenths begins = record { port = made 0 tenths; left = cond (eqb begins 0) 999998 999997; last = 0 }
+fresh tenths begins = record { port = opened 0 tenths; left = cond (eqb begins 0) 999998 999997; last = 0 }
 
--- a program that calls its input and output so
+-- a program of this name
 abbrev pub named : (List ℕ → List ℕ) → (List ℕ → List ℕ) → Program
-named writes says = program (109 ∷ 114 ∷ 101 ∷ 99 ∷ 111 ∷ 114 ∷ 100 ∷ []) writes says
+named = program name
 
 -- THE RECORDING OF WHAT IT HEARS. A silence is so many tenths of a second; the recording begins with a silence where `begins` is not 0
 abbrev pub mrecord : ℕ → ℕ → ℕ → Program

@@ -181,6 +181,27 @@ fn listen(turn: &mut u64, tape: Tape, input: &mut [u8], out: &mut [u8]) -> Went
     shown(turn, here, true, out)
 }
 
+// How many bytes a read may bring: no more than lines are left, so that none is read that finds no line.
+fn most(left: u32, room: usize) -> usize
+    requires { ⌜ 0 < room ⌝ }
+    ensures { λ r. ⌜ (0 < r) × (r ≤ room) ⌝ }
+{
+    let lines = left as usize;
+    if (lines == 0) | (lines > room) {
+        return room;
+    }
+    lines
+}
+
+// A turn that reads so many at most.
+fn next_turn(turn: &mut u64, tape: Tape, input: &mut [u8], out: &mut [u8]) -> Went
+    requires { ⌜ (0 < length (now input)) × (9 * length (now input) ≤ length (now out)) ⌝ }
+    ensures { λ r. ⌜ Goes (now (turn .entry)) tape (now (turn .exit)) r ⌝ }
+{
+    let count = most(tape.left, input.len());
+    listen(turn, tape, &mut input[..count], out)
+}
+
 // Turn after turn, until the recording is full, the line is gone or something failed; and once a second a note.
 fn turns(turn: &mut u64, tape: Tape, input: &mut [u8], out: &mut [u8]) -> Went
     requires { ⌜ (0 < length (now input)) × (9 * length (now input) ≤ length (now out)) ⌝ }
@@ -200,7 +221,7 @@ fn turns(turn: &mut u64, tape: Tape, input: &mut [u8], out: &mut [u8]) -> Went
     let mut noted: i64 = 0;
     let mut left = TURNS;
     while went.on & !clock.gone & (left > 0) {
-        went = listen(turn, went.tape, input, out);
+        went = next_turn(turn, went.tape, input, out);
         let now = shell::seconds();
         clock = clock.turned(went.came, now == since);
         if clock.empty < 2 {

@@ -6,7 +6,7 @@ use lib.Dec.{eqb, ltb}
 use lib.IntN.{ℤ, pos, _+ℤ_}
 use Rattle.text.specs.Decimals.{plain, decimalOf}
 use Rattle.wire.specs.declared.Report.{Report}
-use Rattle.port.specs.Marks.{made}
+use Rattle.port.specs.Marks.{opened}
 use Rattle.port.specs.Sessions.{wordsOver}
 use Rattle.reader.specs.Promises.{freshOf, stepOf}
 use Rattle.reader.specs.declared.Reader.{Reader}
@@ -18,6 +18,7 @@ use Rattle.saves.specs.Rules.{heardOf}
 use Rattle.saves.specs.declared.Watch.{Watch}
 use Rattle.shell.specs.Standing.{Program, program}
 use Rattle.hearing.specs.Events.{eventsOf}
+use Rattle.hearing.specs.Words.{lineGone}
 use Rattle.mwatch.specs.declared.Look.{Look}
 use Rattle.mwatch.specs.declared.Sight.{Sight}
 
@@ -87,7 +88,8 @@ lookBy l next (answer.Dropped k) = look next (l .watch) (l .reports) (l .presses
 abbrev pub textBy : Look → Answer → List ℕ
 textBy l answer.Nothing = []
 textBy l (answer.Report p) =
-    reportLine (l .reader .format) (counted (l .reports) 1) (p .buttons) (p .x1 +ℤ p .x2) (p .y1 +ℤ p .y2) ++ pressLines (l .presses) (heardOf (l .watch) p .down)
+    let line = reportLine (l .reader .format) (counted (l .reports) 1) (p .buttons) (p .x1 +ℤ p .x2) (p .y1 +ℤ p .y2) in
+    line ++ pressLines (l .presses) (heardOf (l .watch) p .down)
 textBy l (answer.Dropped k) = droppedLine (counted (l .dropped) k) k
 
 abbrev pub lookAfter : Look → Read → Look
@@ -103,8 +105,17 @@ lookOf l [] = l
 lookOf l (w ∷ words) = lookOf (lookAfter l (stepOf (l .reader) w)) words
 
 -- "mwatch: the line is gone: reports 12, presses 1, bytes dropped 3"
+abbrev pub name : List ℕ
+name = 109 ∷ 119 ∷ 97 ∷ 116 ∷ 99 ∷ 104 ∷ []
+
+abbrev pub speaks : List ℕ → List ℕ
+speaks words = name ++ 58 ∷ 32 ∷ words
+
+abbrev reports : List ℕ
+reports = 58 ∷ 32 ∷ 114 ∷ 101 ∷ 112 ∷ 111 ∷ 114 ∷ 116 ∷ 115 ∷ 32 ∷ []
+
 abbrev pub gone1 : List ℕ
-gone1 = 109 ∷ 119 ∷ 97 ∷ 116 ∷ 99 ∷ 104 ∷ 58 ∷ 32 ∷ 116 ∷ 104 ∷ 101 ∷ 32 ∷ 108 ∷ 105 ∷ 110 ∷ 101 ∷ 32 ∷ 105 ∷ 115 ∷ 32 ∷ 103 ∷ 111 ∷ 110 ∷ 101 ∷ 58 ∷ 32 ∷ 114 ∷ 101 ∷ 112 ∷ 111 ∷ 114 ∷ 116 ∷ 115 ∷ 32 ∷ []
+gone1 = speaks (lineGone ++ reports)
 
 abbrev pub gone2 : List ℕ
 gone2 = 44 ∷ 32 ∷ 112 ∷ 114 ∷ 101 ∷ 115 ∷ 115 ∷ 101 ∷ 115 ∷ 32 ∷ []
@@ -127,11 +138,11 @@ told s heard = goneWords (lookOf (s .look) (wordsOver (s .port) (eventsOf heard)
 
 -- nothing has come
 abbrev pub fresh : ℕ → ℕ → Sight
-fresh letter tenths = record { port = made 0 tenths; look = look (freshOf letter .reader) unaware 0 0 0 }
+fresh letter tenths = record { port = opened 0 tenths; look = look (freshOf letter .reader) unaware 0 0 0 }
 
--- a program that calls its input and output so
+-- a program of this name
 abbrev pub named : (List ℕ → List ℕ) → (List ℕ → List ℕ) → Program
-named writes says = program (109 ∷ 119 ∷ 97 ∷ 116 ∷ 99 ∷ 104 ∷ []) writes says
+named = program name
 
 -- WHAT A FRESH READER AND A FRESH WATCH BEHIND IT TELL OF WHAT IS HEARD. A silence is so many tenths of a second.
 abbrev pub mwatch : ℕ → ℕ → Program

@@ -26,8 +26,8 @@ loop-holds c = (
   refl,
 )
 
-listen-requires : tie.Need-listen-requires Inv-loop μ-loop
-listen-requires c κs =
+next-turn-requires : tie.Need-next-turn-requires Inv-loop μ-loop
+next-turn-requires c κs =
     let l = c .before .before .before .before .before .before .loop in
     let s = c .before .before .before .before .before .before .before .before .before in
     (omega (arith, l .inv .1, s .pre .0), omega (arith, l .inv .1, l .inv .2, s .pre .1))
@@ -41,7 +41,7 @@ loop-less c = let l = c .before .before .before .before .before .before .before 
 loop-again : tie.Need-loop-again Inv-loop μ-loop
 loop-again c =
     let l = c .before .before .before .before .before .before .before .before .before .before .before .before .before .before .before .before .before .loop in
-    let n = c .before .before .before .before .before .before .before .before .before .before .listen in
+    let n = c .before .before .before .before .before .before .before .before .before .before .next-turn in
     let on = left (l .went .on) (not (l .clock .gone)) (left (l .went .on && not (l .clock .gone)) (ltb 0 (l .left)) (c .before .before .before .before .before .before .before .before .before .before .before .before .before .before .if1 .taken)) in
     let same-input : length (n .last .1 .1 .0) ≡ length (l .input) = search needs in
     let same-out : length (n .last .1 .1 .1 .0) ≡ length (l .out) = search needs in (
@@ -66,7 +66,7 @@ turns-spec =
     Inv-loop
     μ-loop
     loop-holds
-    listen-requires
+    next-turn-requires
     (λ c κs. search needs)
     (λ c κs. search needs)
     (λ c κs. search needs)
