@@ -187,7 +187,10 @@ fn most(left: u32, room: usize) -> usize
     ensures { λ r. ⌜ (0 < r) × (r ≤ room) ⌝ }
 {
     let lines = left as usize;
-    if (lines == 0) | (lines > room) {
+    if lines == 0 {
+        return room;
+    }
+    if lines > room {
         return room;
     }
     lines
