@@ -2,6 +2,7 @@
 use Rattle.numbers.specs.Bits.{bit, bits, number}
 use Rattle.numbers.specs.Signed.{signed, twos, untwos, held, excess}
 use Rattle.fold.specs.Fold.{run}
+use Rattle.fold.specs.Calls.{sum, line, call}
 use Rattle.wire.specs.Line.{namedBy, sizeBy, markedBy, known}
 use Rattle.wire.specs.Table.{bytesV, rowsV}
 use Rattle.wire.specs.Places.{like, fitsFirst, fitsLater, fitsAt, fitsBy}
@@ -13,9 +14,8 @@ use Rattle.reader.specs.Promises as promises
 use Rattle.bridge.specs.Remembered.{sinceBase, movement, oneMore, countedBy, noted, goodBase}
 use Rattle.bridge.specs.Splitting.{countOf, split, becomes}
 use Rattle.bridge.specs.Good.{good}
-use Rattle.bridge.specs.Line.{lineOf}
-use Rattle.bridge.specs.Promises.{freshOf, convertOf}
+use Rattle.bridge.specs.Promises.{freshOf}
 
 unfoldable pub computing : Unit {0}
-unfolding freshOf promises.freshOf convertOf lineOf run droppedAmong good reader.good reader.placed goodBase wordOf byteOf keep start stray lose breakOf silenceOf dropping entered namedBy sizeBy markedBy known fitsBy fitsAt fitsFirst fitsLater like reportBy readS readV readA readT readU bytesV rowsV movement sinceBase oneMore countedBy noted countOf split becomes held excess signed twos untwos number bits bit
+unfolding freshOf promises.freshOf call line sum run droppedAmong good reader.good reader.placed goodBase wordOf byteOf keep start stray lose breakOf silenceOf dropping entered namedBy sizeBy markedBy known fitsBy fitsAt fitsFirst fitsLater like reportBy readS readV readA readT readU bytesV rowsV movement sinceBase oneMore countedBy noted countOf split becomes held excess signed twos untwos number bits bit
 computing = tt

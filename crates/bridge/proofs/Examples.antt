@@ -9,8 +9,9 @@ use Rattle.wire.specs.Reading.{report}
 use Rattle.reader.specs.State.{ready}
 use Rattle.bridge.specs.Remembered.{none, noBase, baseAt}
 use Rattle.bridge.specs.Splitting.{becomes}
-use Rattle.bridge.specs.Line.{whole}
-use Rattle.bridge.specs.Promises.{withNone, convertOf}
+use Rattle.fold.specs.Calls.{call}
+use Rattle.bridge.specs.Line.{whole, converts}
+use Rattle.bridge.specs.Promises.{withNone}
 use Rattle.bridge.specs.declared.Past.{Past}
 use Rattle.bridge.specs.declared.Bridge.{Bridge}
 use Rattle.bridge.proofs.Computing.{computing}
@@ -45,13 +46,13 @@ a-edge = refl
 abbrev pressedOnce : Bridge
 pressedOnce = record { reader = ready 0x54; past = record { base = noBase; middle = true; presses = 1 } }
 
-pub line-T : convertOf (withNone (ready 0x54)) (2 ∷ 0x80 ∷ 0 ∷ []) (replicate 7 9)
+pub line-T : call converts (withNone (ready 0x54)) (2 ∷ 0x80 ∷ 0 ∷ []) (replicate 7 9)
     ≡ whole (record { refusal = 0; next = pressedOnce; taken = 3; reports = 1; sent = 2; dropped = 0 }) (0x42 ∷ 0x01 ∷ 0 ∷ 0x43 ∷ 0x3F ∷ 0 ∷ 9 ∷ [])
 unfolding computing
 line-T = refl
 
 -- with five places it stops before the word that completes the report, and nothing is written
-pub line-T-stops : convertOf (withNone (ready 0x54)) (2 ∷ 0x80 ∷ 0 ∷ []) (replicate 5 9)
+pub line-T-stops : call converts (withNone (ready 0x54)) (2 ∷ 0x80 ∷ 0 ∷ []) (replicate 5 9)
     ≡ whole (record { refusal = 0; next = withNone (record { format = 0x54; kept = 2 ∷ 0x80 ∷ 0 ∷ 0 ∷ 0 ∷ []; count = 2; awaiting = false }); taken = 2; reports = 0; sent = 0; dropped = 0 }) (replicate 5 9)
 unfolding computing
 line-T-stops = refl

@@ -10,17 +10,19 @@ use Rattle.reader.proofs.Word.{word-format}
 use Rattle.reader.proofs.Goodness as reader-goodness
 use Rattle.bridge.specs.Remembered.{noBase, goodBase}
 use Rattle.bridge.specs.Good.{good}
-use Rattle.bridge.specs.Line.{Long, bridges, lineOf}
-use Rattle.bridge.specs.Promises.{FreshPromise, ConvertPromise, freshOf, convertOf}
+use Rattle.fold.specs.Calls.{line, call}
+use Rattle.fold.proofs.Calls.{call-line}
+use Rattle.bridge.specs.Line.{Long, bridges, converts}
+use Rattle.bridge.specs.Promises.{FreshPromise, ConvertPromise, freshOf}
 use Rattle.bridge.specs.declared.Bridge.{Bridge}
 use Rattle.bridge.specs.declared.NewBridge.{NewBridge}
 use Rattle.bridge.specs.declared.Converted.{Converted}
 use Rattle.bridge.proofs.Keeps.{word-keeps}
+use Rattle.bridge.proofs.Counted.{lawful}
 
 -- of a good bridge a long call is the line
-pub convert-line : (b : Bridge) (words out : List ℕ) → good b ≡ true → convertOf b words out ≡ lineOf b words out
-unfolding convertOf
-convert-line b words out g = rw g
+pub convert-line : (b : Bridge) (words out : List ℕ) → good b ≡ true → call converts b words out ≡ line converts b words out
+convert-line = call-line converts lawful
 
 none-good : (letter : ℕ) → goodBase letter noBase ≡ true
 unfolding goodBase
@@ -33,7 +35,7 @@ fresh-is-good letter a e =
 
 pub convert-stays-good : (b : Bridge) (words out : List ℕ) (a : Converted) (after : List ℕ) → good b ≡ true → ConvertPromise b words out a after
     → (good (a .next) ≡ true) × (a .next .reader .format ≡ b .reader .format)
-unfolding lineOf
+unfolding line
 convert-stays-good b words out a after g e =
-    rw (ap (λ (l : Long). l .told .next) (e ∙ convert-line b words out g))
+    rw (ap (λ (l : Long). l .next) (e ∙ convert-line b words out g))
     (stays bridges (λ (q : Bridge). (good q ≡ true) × (q .reader .format ≡ b .reader .format)) (λ q w h. (word-keeps q (h .0) w, word-format (q .reader) w ∙ h .1)) words b (length out) (g, refl))

@@ -3,7 +3,7 @@ use Prim.Native.Nat.{ℕ}
 use mathlib.Core.Path.{_≡_, sym, _∙_, ap}
 use mathlib.Core.Bool.{Bool}
 use mathlib.Core.List.{List}
-use Rattle.bridge.specs.Line.{Long}
+use Rattle.bridge.specs.Line.{Long, told}
 use Rattle.bridge.specs.Promises.{FreshPromise, GoodPromise, ConvertPromise}
 use Rattle.bridge.specs.declared.Bridge.{Bridge}
 use Rattle.bridge.specs.declared.NewBridge.{NewBridge}
@@ -16,4 +16,4 @@ pub one-good : (b : Bridge) (x y : Bool) → GoodPromise b x → GoodPromise b y
 one-good b x y e f = e ∙ sym f
 
 pub one-convert : (b : Bridge) (words out : List ℕ) (s t : Converted) (x y : List ℕ) → ConvertPromise b words out s x → ConvertPromise b words out t y → (s ≡ t) × (x ≡ y)
-one-convert b words out s t x y e f = (ap (λ (l : Long). l .told) (e ∙ sym f), ap (λ (l : Long). l .out) (e ∙ sym f))
+one-convert b words out s t x y e f = (ap told (e ∙ sym f), ap (λ (l : Long). l .out) (e ∙ sym f))

@@ -25,7 +25,8 @@ use Rattle.reader.proofs.Word.{word-format}
 use Rattle.reader.proofs.Back.{reported}
 use Rattle.bridge.specs.Remembered.{mostPresses, oneMore, countedBy, noted}
 use Rattle.bridge.specs.Good.{good}
-use Rattle.bridge.specs.Line.{Long, pastFor, bridges, lineOf}
+use Rattle.fold.specs.Calls.{line}
+use Rattle.bridge.specs.Line.{Long, pastFor, bridges}
 use Rattle.bridge.specs.Promises.{ConvertPromise}
 use Rattle.bridge.specs.Sent.{pastAfter, changes}
 use Rattle.bridge.specs.declared.Past.{Past}
@@ -72,8 +73,8 @@ none-V b w g v = go (wordOf (b .reader) w .answer) refl
 
 pub no-presses-V : (b : Bridge) (words out : List ℕ) (a : Converted) (after : List ℕ) → good b ≡ true → b .reader .format ≡ letterOf Microsoft → ConvertPromise b words out a after
     → a .next .past .presses ≡ b .past .presses
-unfolding lineOf
+unfolding line
 no-presses-V b words out a after g v e =
-    rw (ap (λ (l : Long). l .told .next) (e ∙ convert-line b words out g))
+    rw (ap (λ (l : Long). l .next) (e ∙ convert-line b words out g))
     (stays bridges (λ (q : Bridge). (good q ≡ true) × (q .reader .format ≡ letterOf Microsoft) × (q .past .presses ≡ b .past .presses))
     (λ q w h. (word-keeps q (h .0) w, word-format (q .reader) w ∙ h .1, none-V q w (h .0) (h .1) ∙ h .2)) words b (length out) (g, v, refl) .2)

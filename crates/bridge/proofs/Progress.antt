@@ -44,7 +44,8 @@ use Rattle.reader.proofs.Steps.{step-each}
 use Rattle.bridge.specs.Remembered.{isA, move, mostSet, summed, sinceBase, movement, goodBase}
 use Rattle.bridge.specs.Splitting.{countOf, becomes, bytesAll}
 use Rattle.bridge.specs.Good.{good}
-use Rattle.bridge.specs.Line.{Long, given, behind, sentFor, bridges, lineOf}
+use Rattle.bridge.specs.Line.{Long, given, behind, sentFor, bridges}
+use Rattle.fold.specs.Calls.{line}
 use Rattle.bridge.specs.Promises.{ConvertPromise}
 use Rattle.bridge.specs.Sent.{Told}
 use Rattle.bridge.specs.declared.Base.{Base}
@@ -171,13 +172,13 @@ pub passed : (b : Bridge) (words out : List ℕ) (a : Converted) (after : List �
     → 99 * length (handedOut (answers steps)) ≤ length out
     → ConvertPromise b words out a after
     → Passed b words steps out a after
-unfolding lineOf
+unfolding line
 passed b words out a after steps g l p room e =
     let i = e ∙ convert-line b words out g in
     let t = all-taken words b (length out) g l (rw (steps-are (b .reader) words steps p) at room) in
-    let n = ap (λ (l : Long). l .told .taken) i ∙ t .0 in
+    let n = ap (λ (l : Long). l .taken) i ∙ t .0 in
     record {
-      refusal = ap (λ (l : Long). l .told .refusal) i ∙ t .1;
+      refusal = ap (λ (l : Long). l .refusal) i ∙ t .1;
       taken = n;
       told = told b words out a after steps g e (rw (n, take-length words) p);
     }
@@ -198,10 +199,10 @@ enough b words out a after g l room e =
 
 -- and with 99 free places a call takes the next word, whatever it is, or refuses it
 pub some-taken : (b : Bridge) (w : ℕ) (words out : List ℕ) (a : Converted) (after : List ℕ) → good b ≡ true → w ≤ silence → 99 ≤ length out → ConvertPromise b (w ∷ words) out a after → 1 ≤ a .taken
-unfolding lineOf run
+unfolding line run
 some-taken b w words out a after g l room e =
     let i = e ∙ convert-line b (w ∷ words) out g in
     let v = given b (wordOf (b .reader) w) .sent in
     let one = one-report (wordOf (b .reader) w .answer) in
     let t = taken bridges b w (length out) (word-taken (b .reader) w l) (omega (arith, few-sent b w g, one, three-each v)) in
-    rw (ap (λ (l : Long). l .told .taken) i) (rw t (omega arith))
+    rw (ap (λ (l : Long). l .taken) i) (rw t (omega arith))

@@ -18,13 +18,15 @@ use Rattle.reader.proofs.Permitted.{steps-are}
 use Rattle.reader.proofs.Goodness.{step-word}
 use Rattle.bridge.specs.Splitting.{bytesAll}
 use Rattle.bridge.specs.Good.{good}
-use Rattle.bridge.specs.Line.{Given, Long, sentFor, pastFor, bridges, heardIn, sentIn, lineOf}
+use Rattle.bridge.specs.Line.{Given, Long, sentFor, pastFor, bridges, heardIn, sentIn, converts}
+use Rattle.bridge.specs.Line as long
+use Rattle.fold.specs.Calls.{line}
 use Rattle.bridge.specs.Promises.{ConvertPromise}
 use Rattle.bridge.specs.Sent.{sends, pastAfter, Told}
 use Rattle.bridge.specs.declared.Past.{Past}
 use Rattle.bridge.specs.declared.Bridge.{Bridge}
 use Rattle.bridge.specs.declared.Converted.{Converted}
-use Rattle.bridge.proofs.Counted.{sent-bytes, three-sent}
+use Rattle.bridge.proofs.Counted.{sent-bytes, three-sent, sum-is}
 use Rattle.bridge.proofs.Keeps.{good-reader, word-keeps}
 use Rattle.bridge.proofs.Goodness.{convert-line}
 
@@ -75,24 +77,25 @@ same-bridge : {b c : Bridge} → b .reader ≡ c .reader → b .past ≡ c .past
 same-bridge r p = λ i. record { reader = r i; past = p i }
 
 -- over the reader's steps of the words taken, also at a stop for room and at a bad word
-line-told : (b : Bridge) (words out : List ℕ) → good b ≡ true → let l = lineOf b words out in Told b (stepsOf (b .reader) (take (l .told .taken) words)) out (l .told) (l .out)
-unfolding lineOf
+line-told : (b : Bridge) (words out : List ℕ) → good b ≡ true → let l = line converts b words out in Told b (stepsOf (b .reader) (take (l .taken) words)) out (long.told l) (l .out)
+unfolding line
 line-told b words out g =
     let f = run bridges b words (length out) in
     let h = heard words b (length out) g in
     let s = sent words b (length out) in
     let reports = ap handedOut (h .0) in
     let v = s .0 ∙ ap (sends (b .reader .format) (b .past)) reports in
-    record {
+    rw (sum-is (f .answers))
+    (record {
       next = same-bridge (h .1) (s .1 ∙ ap (pastAfter (b .reader .format) (b .past)) reports);
       reports = ap length reports;
       sent = ap length v;
       dropped = ap droppedAmong (h .0);
       written = rw (three-sent (f .answers), sent-bytes (f .answers)) (ap (λ (t : List Report). bytesAll t ++ drop (3 * length (sentIn (f .answers))) out) v);
-    }
+    })
 
 pub told : (b : Bridge) (words out : List ℕ) (a : Converted) (after : List ℕ) (steps : List Read) → good b ≡ true → ConvertPromise b words out a after → StepsPromise (b .reader) (take (a .taken) words) steps
     → Told b steps out a after
 told b words out a after steps g e p =
     let i = e ∙ convert-line b words out g in
-    rw (steps-are (b .reader) (take (a .taken) words) steps p, ap (λ (l : Long). l .told) i, ap (λ (l : Long). l .out) i) (line-told b words out g)
+    rw (steps-are (b .reader) (take (a .taken) words) steps p, ap long.told i, ap (λ (l : Long). l .out) i) (line-told b words out g)

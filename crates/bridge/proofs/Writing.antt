@@ -28,7 +28,8 @@ use Rattle.wire.proofs.Codec.Accepted.{one-pair, parts-accepted}
 use Rattle.reader.specs.declared.Reader.{Reader}
 use Rattle.bridge.specs.Remembered.{movement, noted}
 use Rattle.bridge.specs.Splitting.{carries, countOf, rest, reportV, split, becomes, bytesAll}
-use Rattle.bridge.specs.Line.{whole, stopped}
+use Rattle.fold.specs.Calls.{stopped}
+use Rattle.bridge.specs.Line.{whole, converts}
 use Rattle.bridge.specs.Parts.{reportedOf}
 use Rattle.bridge.specs.declared.Bridge.{Bridge}
 use Rattle.bridge.specs.declared.Move.{Move}
@@ -113,7 +114,7 @@ module _ (b : Bridge) (next : Reader) (p : Report) (out : List ℕ) where
   abbrev m : Move
   m = movement (b .reader .format) (b .past) p
 
-  pub no-room : length out / 3 < countOf m → stopped 0 b out ≡ reportedOf b next p out
+  pub no-room : length out / 3 < countOf m → stopped converts 0 b out ≡ reportedOf b next p out
   unfolding reportedOf becomes
   no-room h = rw (split-length (countOf m) (p .buttons) m, lt-leb (3 * countOf m) (length out) (omega arith))
 

@@ -35,9 +35,9 @@ good-refuses-fresh e = holds e
 pub convert-in-part : ConvertPromise (withNone (ready 0x54)) (2 ∷ 0x80 ∷ 0 ∷ []) (replicate 3 9)
     (record { refusal = 0; next = withNone (ready 0x54); taken = 3; reports = 1; sent = 1; dropped = 0 }) (0x42 ∷ 0x01 ∷ 0 ∷ []) → ⊥
 unfolding computing
-convert-in-part e = omega (arith, ap (λ (l : Long). l .told .taken) e)
+convert-in-part e = omega (arith, ap (λ (l : Long). l .taken) e)
 
 pub convert-press-lost : ConvertPromise (withNone (ready 0x54)) (2 ∷ 0 ∷ 0 ∷ []) (replicate 3 9)
     (record { refusal = 0; next = withNone (ready 0x54); taken = 3; reports = 1; sent = 1; dropped = 0 }) (0x40 ∷ 0 ∷ 0 ∷ []) → ⊥
 unfolding computing
-convert-press-lost e = omega (arith, ap (λ (l : Long). l .told .next .past .presses) e)
+convert-press-lost e = omega (arith, ap (λ (l : Long). l .next .past .presses) e)

@@ -1,16 +1,20 @@
 -- "line words of any format in, V bytes out": a line of words, word by word, and a lent slice. "The rest is as in the long read."
 use Prim.Native.Nat.{ℕ, _+_, _*_}
 use mathlib.Core.List.{List, [], _∷_, _++_, map}
-use lib.ListN.{length, take, drop}
-use Rattle.fold.specs.Fold.{Machine, Ran, written, run}
+use lib.ListN.{length}
+use Rattle.fold.specs.Fold.{Machine}
+use Rattle.fold.specs.Calls.{Call}
+use Rattle.fold.specs.Calls as fold
+use Rattle.wire.specs.Numbers.{badState}
 use Rattle.wire.specs.declared.Report.{Report}
 use Rattle.reader.specs.Rules.{wordOf}
-use Rattle.reader.specs.Counts.{handedOut, droppedAmong}
+use Rattle.reader.specs.Counts.{reportsIn, droppedIn}
 use Rattle.reader.specs.declared.Read.{Read}
 use Rattle.reader.specs.declared.Answer.{Answer}
 use Rattle.reader.specs.declared.Answer.the-variants as answer
 use Rattle.bridge.specs.Remembered.{noted}
 use Rattle.bridge.specs.Splitting.{becomes, bytesAll}
+use Rattle.bridge.specs.Good.{good}
 use Rattle.bridge.specs.declared.Past.{Past}
 use Rattle.bridge.specs.declared.Bridge.{Bridge}
 use Rattle.bridge.specs.declared.Converted.{Converted}
@@ -56,72 +60,37 @@ abbrev pub sentIn : List Given → List Report
 sentIn [] = []
 sentIn (g ∷ answers) = g .sent ++ sentIn answers
 
--- what a long call gives back (words taken, input reports, V reports, bytes dropped), and every byte of the lent slice after it
-pub record Long : Type 0 where
-  pub told : Converted
-  pub out : List ℕ
+-- what is counted: reports that came in, V reports, and bytes dropped
+pub record Counts : Type 0 where
+  pub reports : ℕ
+  pub sent : ℕ
+  pub dropped : ℕ
+
+abbrev pub counts : ℕ → ℕ → ℕ → Counts
+counts reports sent dropped = record { reports = reports; sent = sent; dropped = dropped }
+
+-- the long call: a V report has three bytes. "If the lent output can't hold all V reports of one input report, none of
+-- them is written and the converter stops before the word that completes it."
+abbrev pub converts : Call Bridge Given Counts ℕ
+converts =
+    record {
+      machine = bridges;
+      tally = record {
+        none = counts 0 0 0;
+        plus = λ j k. counts (j .reports + k .reports) (j .sent + k .sent) (j .dropped + k .dropped);
+        of = λ g. counts (reportsIn (g .heard)) (length (g .sent)) (droppedIn (g .heard));
+        places = λ k. 3 * k .sent;
+      };
+      good = good;
+      bad = badState;
+    }
+
+-- what it gives back, and every byte of the lent slice after it
+abbrev pub Long : Type 0
+Long = fold.Long Bridge Counts ℕ
 
 abbrev pub whole : Converted → List ℕ → Long
-whole told out = record { told = told; out = out }
+whole a out = record { refusal = a .refusal; next = a .next; taken = a .taken; counts = counts (a .reports) (a .sent) (a .dropped); out = out }
 
--- it ends here, with a number: no more is taken, and nothing more written
-abbrev pub stopped : ℕ → Bridge → List ℕ → Long
-stopped n b out = whole (record { refusal = n; next = b; taken = 0; reports = 0; sent = 0; dropped = 0 }) out
-
--- "4 in a long read, which returns the reader, reports and counts as they stand before the bad word"
-abbrev pub withRefusal : ℕ → Long → Long
-withRefusal n l =
-    whole
-    (record {
-      refusal = n;
-      next = l .told .next;
-      taken = l .told .taken;
-      reports = l .told .reports;
-      sent = l .told .sent;
-      dropped = l .told .dropped;
-    })
-    (l .out)
-
--- what was done, and then what a later part of the line gives
-abbrev pub joined : ℕ → ℕ → ℕ → ℕ → List ℕ → Long → Long
-joined taken reports sent dropped front later =
-    whole
-    (record {
-      refusal = later .told .refusal;
-      next = later .told .next;
-      taken = taken + later .told .taken;
-      reports = reports + later .told .reports;
-      sent = sent + later .told .sent;
-      dropped = dropped + later .told .dropped;
-    })
-    (front ++ later .out)
-
--- "The part of the line from any word on may be handed over, with the reader that came back and the unused part of the lent slice; if the
--- words before it were all taken, the results join as one."
-abbrev pub used : Converted → List ℕ → List ℕ
-used told out = take (3 * told .sent) out
-
-abbrev pub unused : Converted → List ℕ → List ℕ
-unused told out = drop (3 * told .sent) out
-
-abbrev pub asOne : Converted → List ℕ → Long → Long
-asOne told out later = joined (told .taken) (told .reports) (told .sent) (told .dropped) (used told out) later
-
--- the answers to the words taken, counted, and their bytes at the front of the slice
-abbrev pub counted : Ran Bridge Given → List ℕ → Long
-counted f out =
-    whole
-    (record {
-      refusal = f .refusal;
-      next = f .next;
-      taken = length (f .answers);
-      reports = length (handedOut (heardIn (f .answers)));
-      sent = length (sentIn (f .answers));
-      dropped = droppedAmong (heardIn (f .answers));
-    })
-    (written bridges (f .answers) ++ drop (length (written bridges (f .answers))) out)
-
--- the words of a line, one after the other. "If the lent output can't hold all V reports of one input report, none of them is written and the
--- converter stops before the word that completes it."
-unfoldable pub lineOf : Bridge → List ℕ → List ℕ → Long
-lineOf b words out = counted (run bridges b words (length out)) out
+abbrev pub told : Long → Converted
+told l = record { refusal = l .refusal; next = l .next; taken = l .taken; reports = l .counts .reports; sent = l .counts .sent; dropped = l .counts .dropped }

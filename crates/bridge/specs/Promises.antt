@@ -1,7 +1,7 @@
 -- What is promised of `Bridge::fresh`, `Bridge::good` and `Bridge::convert`. "Tested in that order, where they apply; 0 is success."
 use Prim.Native.Nat.{ℕ}
 use mathlib.Core.Path.{_≡_}
-use mathlib.Core.Bool.{Bool, cond}
+use mathlib.Core.Bool.{Bool}
 use mathlib.Core.List.{List, [], _∷_}
 use lib.ListN.{take}
 use Rattle.wire.specs.Line.{letterOf}
@@ -12,7 +12,8 @@ use Rattle.reader.specs.Promises as long
 use Rattle.reader.specs.declared.Reader.{Reader}
 use Rattle.bridge.specs.Remembered.{none}
 use Rattle.bridge.specs.Good.{good}
-use Rattle.bridge.specs.Line.{Long, whole, stopped, withRefusal, lineOf}
+use Rattle.fold.specs.Calls.{withRefusal, stopped, call}
+use Rattle.bridge.specs.Line.{Long, whole, converts}
 use Rattle.bridge.specs.declared.Bridge.{Bridge}
 use Rattle.bridge.specs.declared.NewBridge.{NewBridge}
 use Rattle.bridge.specs.declared.Converted.{Converted}
@@ -36,8 +37,8 @@ abbrev pub GoodPromise : Bridge → Bool → Type 0
 GoodPromise b answer = answer ≡ good b
 
 -- a long call: "a state that breaks the rules", 6, before all, and then the line
-unfoldable pub convertOf : Bridge → List ℕ → List ℕ → Long
-convertOf b words out = cond (good b) (lineOf b words out) (stopped badState b out)
+abbrev pub convertOf : Bridge → List ℕ → List ℕ → Long
+convertOf b words out = call converts b words out
 
 abbrev pub ConvertPromise : Bridge → List ℕ → List ℕ → Converted → List ℕ → Type 0
 ConvertPromise b words before answer after = whole answer after ≡ convertOf b words before
@@ -48,4 +49,4 @@ beforeBad b words out answer = withRefusal badWord (convertOf b (take (answer .t
 
 abbrev pub ConvertRefusal : Bridge → List ℕ → List ℕ → Converted → List ℕ → Type 0
 ConvertRefusal b words before answer after =
-    RefusesRightly (λ (l : Long). l .told .refusal) (stopped badState b before ∷ beforeBad b words before answer ∷ []) (whole answer after)
+    RefusesRightly (λ (l : Long). l .refusal) (stopped converts badState b before ∷ beforeBad b words before answer ∷ []) (whole answer after)

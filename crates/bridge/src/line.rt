@@ -4,7 +4,8 @@ ghost use mathlib.Core.Bool.{true};
 ghost use Prim.Native.Nat.{_<_};
 ghost use lib.ListN.{length};
 ghost use Rattle.bridge.specs.Good.{good};
-ghost use Rattle.bridge.specs.Line.{whole, lineOf};
+ghost use Rattle.fold.specs.Calls.{line};
+ghost use Rattle.bridge.specs.Line.{whole, converts};
 ghost use Rattle.bridge.specs.Parts.{Reported, Begins};
 use crate::Bridge;
 use crate::Converted;
@@ -89,7 +90,7 @@ impl Bridge {
     // The words of a line, one after the other.
     pub(crate) fn line(self, words: &[u16], out: &mut [u8]) -> Converted
         requires { ⌜ good self ≡ true ⌝ }
-        ensures { λ r. ⌜ whole r (now (out .exit)) ≡ lineOf self (now (words .entry)) (now (out .entry)) ⌝ }
+        ensures { λ r. ⌜ whole r (now (out .exit)) ≡ line converts self (now (words .entry)) (now (out .entry)) ⌝ }
     {
         let mut b = self;
         let mut at: usize = 0;

@@ -27,9 +27,10 @@ use Rattle.wire.proofs.Refusals as wire-refusals
 use Rattle.reader.specs.State.{fresh}
 use Rattle.reader.specs.Good as readers
 use Rattle.reader.specs.Rules.{refusing}
-use Rattle.reader.specs.Line.{Long, whole, stopped, withRefusal}
+use Rattle.fold.specs.Calls.{stopped, withRefusal}
+use Rattle.reader.specs.Line.{Long, whole, readsLine}
 use Rattle.reader.specs.Promises as reader
-use Rattle.reader.specs.Telling.{Told, told, untold}
+use Rattle.reader.specs.Telling.{Told, told, tellsLine}
 use Rattle.reader.specs.Promises.{ReadPromise, AnswersPromise, beforeBad, toldBeforeBad, newReader}
 use Rattle.reader.specs.declared.Reader.{Reader}
 use Rattle.reader.specs.declared.NewReader.{NewReader}
@@ -279,12 +280,12 @@ read-word-refusals = refusals.step-refusals
 -- of a reader given many words: 6, with the reader and the slice as they were and counts of 0; and 4, with all as the words before the bad one leave it
 pub read-line-refusals : (r : Reader) (words : List ℕ) (out : List ℤ) (a : Reading) (after : List ℤ)
     → ReadPromise r words out a after
-    → RefusesRightly (λ (l : Long). l .reading .refusal) (stopped badState r out ∷ beforeBad r words out a ∷ []) (whole a after)
+    → RefusesRightly (λ (l : Long). l .refusal) (stopped readsLine badState r out ∷ beforeBad r words out a ∷ []) (whole a after)
 read-line-refusals = refusals.read-refusals
 
 pub answers-refusals : (r : Reader) (words : List ℕ) (out : List ℤ) (a : Answers) (after : List ℤ)
     → AnswersPromise r words out a after
-    → RefusesRightly (λ (t : Told). t .answers .refusal) (untold badState r out ∷ toldBeforeBad r words out a ∷ []) (told a after)
+    → RefusesRightly (λ (t : Told). t .refusal) (stopped tellsLine badState r out ∷ toldBeforeBad r words out a ∷ []) (told a after)
 answers-refusals = refusals.answers-refusals
 
 -- of the box: 6 and 3, with the box as it was and no word
@@ -360,7 +361,7 @@ read-word-bad-word = refusals.bad-word
 pub read-line-bad-state : (r : Reader) (words : List ℕ) (out : List ℤ) (a : Reading) (after : List ℤ)
     → readers.good r ≡ false
     → ReadPromise r words out a after
-    → whole a after ≡ stopped badState r out
+    → whole a after ≡ stopped readsLine badState r out
 read-line-bad-state = refusals.bad-state-read
 
 pub read-line-ends : (r : Reader) (words : List ℕ) (out : List ℤ) (a : Reading) (after : List ℤ)
@@ -372,7 +373,7 @@ read-line-ends = refusals.read-ends
 pub answers-bad-state : (r : Reader) (words : List ℕ) (out : List ℤ) (a : Answers) (after : List ℤ)
     → readers.good r ≡ false
     → AnswersPromise r words out a after
-    → told a after ≡ untold badState r out
+    → told a after ≡ stopped tellsLine badState r out
 answers-bad-state = refusals.bad-state-answers
 
 pub answers-end : (r : Reader) (words : List ℕ) (out : List ℤ) (a : Answers) (after : List ℤ)
@@ -586,7 +587,7 @@ fresh-bridge-refused = bridge-refusals.unknown-letter
 pub convert-bad-state : (b : Bridge) (words before : List ℕ) (a : Converted) (after : List ℕ)
     → bridges.good b ≡ false
     → bridge.ConvertPromise b words before a after
-    → bridge-line.whole a after ≡ bridge-line.stopped badState b before
+    → bridge-line.whole a after ≡ stopped bridge-line.converts badState b before
 convert-bad-state = bridge-refusals.bad-state
 
 pub convert-ends : (b : Bridge) (words before : List ℕ) (a : Converted) (after : List ℕ)
@@ -601,7 +602,7 @@ pub convert-bad-word : (b : Bridge) (p q : List ℕ) (w : ℕ) (before : List �
     → bridge.ConvertPromise b p before t y
     → t .taken ≡ length p
     → bridge.ConvertPromise b (p ++ w ∷ q) before s x
-    → bridge-line.whole s x ≡ bridge-line.withRefusal badWord (bridge-line.whole t y)
+    → bridge-line.whole s x ≡ withRefusal badWord (bridge-line.whole t y)
 convert-bad-word = bridge-refusals.bad-word
 
 -- and no bridge that it gives is ever refused

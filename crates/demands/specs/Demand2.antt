@@ -24,7 +24,7 @@ use Rattle.wire.proofs.Answers.{accepted-written}
 use Rattle.reader.specs.State.{ready, keptIn, fiveOf}
 use Rattle.reader.specs.Good as readers
 use Rattle.reader.specs.Rules.{entered}
-use Rattle.reader.specs.Line.{Long}
+use Rattle.reader.specs.Line.{Long, reading}
 use Rattle.reader.specs.Counts.{byteIn, bytesIn, reportsIn, droppedIn}
 use Rattle.reader.specs.Promises as reader
 use Rattle.reader.specs.Promises.{ReadPromise}
@@ -110,7 +110,7 @@ pub read-back-at-once : (letter : ℕ) (p : Report) (before after : List ℕ) (e
     × (written ≡ fiveOf (carriedBy letter p) ++ drop 5 out)
 read-back-at-once letter p before after e out written a encoded ok room read =
     let h = there.there-read letter p before after e out written a encoded ok room read in
-    (ap (λ (l : Long). l .reading) h, ap (λ (l : Long). l .out) h)
+    (ap reading h, ap (λ (l : Long). l .out) h)
 
 -- "what was read, encoded again, gives the same bytes, except a minus zero": `settledBy` sets a minus zero's sign bit and changes nothing else.
 -- "Encoding what was read now returns the bytes with bit 7 cleared": those that are kept entered so, and this word is taken as it enters

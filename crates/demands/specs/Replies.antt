@@ -14,7 +14,7 @@ use Rattle.wire.specs.Numbers.{success, badState, badWord, RefusesRightly}
 use Rattle.wire.specs.Holds.{carried}
 use Rattle.wire.specs.Messages.{Latched, Message, report, finishedReports}
 use Rattle.wire.specs.declared.Format.{Format}
-use Rattle.reader.specs.Counts.{byteIn, bytesIn, reportsIn, droppedIn, writtenIn}
+use Rattle.reader.specs.Counts.{byteIn, bytesIn, reportsIn, droppedIn}
 use Rattle.reader.specs.DamagedLines.{Within, EndsAt}
 use Rattle.ballbox.specs.Good as boxes
 use Rattle.ballbox.specs.Commands.{letterf, lettert, ack, commandOf}
@@ -34,7 +34,8 @@ use Rattle.replies.specs.Replying.{came, none, isNone, sizeOf, letterOfCode}
 use Rattle.replies.specs.Accepted.{sevenBytes, sevenLetters, modeLetters}
 use Rattle.replies.specs.Good.{good}
 use Rattle.replies.specs.Rules.{kindOf, refusing}
-use Rattle.replies.specs.Line.{Long, whole, stopped, joined, unused, asOne, withRefusal, Bounds}
+use Rattle.fold.specs.Calls.{stopped, unused, asOne, withRefusal, after}
+use Rattle.replies.specs.Line.{Long, whole, hearsLine, Bounds}
 use Rattle.replies.specs.Counts.{wholeBytes, brokenBytes}
 use Rattle.replies.specs.Promises.{FreshPromise, GoodPromise, TellPromise, StepPromise, ReadPromise, noReply, tellingOf, beforeBad}
 use Rattle.tellings.specs.Items.{Item, telling, asItems, wordsIn, Done, ItemsPromise}
@@ -120,13 +121,13 @@ step-bad-word = refusals.bad-word
 
 pub read-refusals : (s : ToldReader) (words : List ℕ) (out : List ℤ) (a : HeardLine) (after : List ℤ)
     → ReadPromise s words out a after
-    → RefusesRightly (λ (l : Long). l .line .refusal) (stopped badState s out ∷ beforeBad s words out a ∷ []) (whole a after)
+    → RefusesRightly (λ (l : Long). l .refusal) (stopped hearsLine badState s out ∷ beforeBad s words out a ∷ []) (whole a after)
 read-refusals = refusals.read-refusals
 
 pub read-bad-state : (s : ToldReader) (words : List ℕ) (out : List ℤ) (a : HeardLine) (after : List ℤ)
     → good s ≡ false
     → ReadPromise s words out a after
-    → whole a after ≡ stopped badState s out
+    → whole a after ≡ stopped hearsLine badState s out
 read-bad-state = refusals.bad-state-read
 
 pub read-bad-word : (s : ToldReader) (p q : List ℕ) (w : ℕ) (out : List ℤ) (a b : HeardLine) (x y : List ℤ)
@@ -230,9 +231,9 @@ line-counts = counting.read-counts
 pub joins : (s : ToldReader) (p q : List ℕ) (out : List ℤ) (a b c : HeardLine) (x y z : List ℤ)
     → ReadPromise s p out b y
     → b .taken ≡ length p
-    → ReadPromise (b .next) q (unused b y) c z
+    → ReadPromise (b .next) q (unused hearsLine (whole b y)) c z
     → ReadPromise s (p ++ q) out a x
-    → whole a x ≡ asOne b y (whole c z)
+    → whole a x ≡ asOne hearsLine (whole b y) (whole c z)
 joins = joining.joining
 
 -- "It stops, with answer 0, before a word that would finish a report when fewer than five places are left", the reply
@@ -244,7 +245,7 @@ pub stops-for-room : (s : ToldReader) (w : ℕ) (q : List ℕ) (out : List ℤ) 
     → ReadPromise s (w ∷ q) out a after
     → h .refusal ≡ success
     → length out < 5 * reportsIn (h .answer)
-    → whole a after ≡ stopped success s out
+    → whole a after ≡ stopped hearsLine success s out
 stops-for-room = room.stops-for-room
 
 pub goes-on : (s : ToldReader) (w : ℕ) (q : List ℕ) (out : List ℤ) (h : Heard) (a b : HeardLine) (x y : List ℤ)
@@ -254,7 +255,7 @@ pub goes-on : (s : ToldReader) (w : ℕ) (q : List ℕ) (out : List ℤ) (h : He
     → h .refusal ≡ success
     → 5 * reportsIn (h .answer) ≤ length out
     → ReadPromise (h .next) q (drop (5 * reportsIn (h .answer)) out) b y
-    → whole a x ≡ joined 1 (reportsIn (h .answer)) (droppedIn (h .answer)) (h .reply) (writtenIn (h .answer)) (whole b y)
+    → whole a x ≡ after hearsLine (record { reply = h .reply; answer = h .answer }) (whole b y)
 goes-on = room.goes-on
 
 -- "a bad word behind a stop for room is not reached": where words are left, what follows them changes nothing

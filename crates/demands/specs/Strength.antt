@@ -16,7 +16,7 @@ use Rattle.wire.specs.Promises.{EncodePromise}
 use Rattle.wire.specs.declared.Report.{Report}
 use Rattle.wire.specs.declared.Encoded.{Encoded}
 use Rattle.wire.specs.declared.Format.the-variants.{Mm, Microsoft}
-use Rattle.reader.specs.Line.{Long}
+use Rattle.reader.specs.Line.{Long, reading}
 use Rattle.reader.specs.Counts.{bytesIn}
 use Rattle.reader.specs.Promises as reader
 use Rattle.reader.specs.Runs.{StepsPromise, answers}
@@ -135,15 +135,15 @@ no-refusing-reader p k n =
 
 -- the long read likewise: one that refuses every line of one word or more
 pub no-refusing-read : (read : Reader → List ℕ → List ℤ → Long)
-    → ((r : Reader) (words : List ℕ) (out : List ℤ) → reader.ReadPromise r words out (read r words out .reading) (read r words out .out))
-    → ((r : Reader) (w : ℕ) (words : List ℕ) (out : List ℤ) → read r (w ∷ words) out .reading .refusal ≡ success → ⊥)
+    → ((r : Reader) (words : List ℕ) (out : List ℤ) → reader.ReadPromise r words out (reading (read r words out)) (read r words out .out))
+    → ((r : Reader) (w : ℕ) (words : List ℕ) (out : List ℤ) → read r (w ∷ words) out .refusal ≡ success → ⊥)
     → ⊥
 no-refusing-read read keeps refuses =
     let a = reader.freshOf (letterOf Mm) in
     let words : List ℕ = 0x03 ∷ 257 ∷ 0x9C ∷ 0x00 ∷ 0x00 ∷ [] in
     let out : List ℤ = replicate 5 (pos 0) in
     let l = read (a .reader) (0x90 ∷ words) out in
-    refuses (a .reader) 0x90 words out (exactly-S a refl .by-read out (l .out) (l .reading) (keeps (a .reader) (0x90 ∷ words) out) (lit≤ tt) .refusal)
+    refuses (a .reader) 0x90 words out (exactly-S a refl .by-read out (l .out) (reading l) (keeps (a .reader) (0x90 ∷ words) out) (lit≤ tt) .refusal)
 
 -- what a box does, event by event
 pub record BoxProgram : Type 0 where
@@ -181,8 +181,8 @@ no-silent-box p k silent =
 
 -- "a long read that reads its first report and skips the rest (2, since every word's answer is fixed)"
 pub no-skipping-read : (read : Reader → List ℕ → List ℤ → Long)
-    → ((r : Reader) (words : List ℕ) (out : List ℤ) → reader.ReadPromise r words out (read r words out .reading) (read r words out .out))
-    → ((r : Reader) (words : List ℕ) (out : List ℤ) → read r words out .reading .reports ≤ 1)
+    → ((r : Reader) (words : List ℕ) (out : List ℤ) → reader.ReadPromise r words out (reading (read r words out)) (read r words out .out))
+    → ((r : Reader) (words : List ℕ) (out : List ℤ) → read r words out .counts .reports ≤ 1)
     → ⊥
 no-skipping-read = skipping-the-rest
 

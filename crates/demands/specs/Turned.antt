@@ -12,6 +12,7 @@ use Rattle.wire.specs.Line.{letterOf, namedBy, known}
 use Rattle.wire.specs.declared.Report.{Report}
 use Rattle.wire.specs.declared.Format.the-variants.{Microsoft}
 use Rattle.reader.specs.Promises.{FreshPromise, ReadPromise, freshOf, readOf}
+use Rattle.reader.specs.Line.{reading}
 use Rattle.reader.specs.Runs.{stepsOf, StepsPromise}
 use Rattle.reader.specs.EighthBit.{TurnedOver, none, stays, turns}
 use Rattle.reader.specs.DamagedLines.{Took, HandsOut, HandsOutAt}
@@ -69,7 +70,7 @@ module _ {u v : List ℕ} (t : TurnedOver u v) (r : Reader) (f : r .format ≡ l
   read-before : (out after : List ℤ) (a : Reading) → ReadPromise r v out a after → ReadPromise r u out a after
   read-before out after a p =
       let l = readOf r u out in
-      let e = turned-read r out (l .reading) a (l .out) after f t refl p in
+      let e = turned-read r out (reading l) a (l .out) after f t refl p in
       rw (sym (e .0), sym (e .1)) refl
 
 fresh-V : (a : NewReader) → FreshPromise (letterOf Microsoft) a → a .reader .format ≡ letterOf Microsoft

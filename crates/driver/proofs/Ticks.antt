@@ -6,8 +6,7 @@ use native.Mathlib.Omega.{arith}
 use lib.ListN.{length, take, drop, length-drop, drop-of-length-le}
 use borrow.Author.Tests.{ne-eqb}
 use Rattle.numbers.proofs.Choices.{cases}
-use Rattle.fold.specs.Fold.{Ran, ran, behind, takes, written, run}
-use Rattle.fold.specs.Counting.{stateOver}
+use Rattle.fold.specs.Fold.{Ran, ran, behind, takes, written, run, stateOver}
 use Rattle.fold.proofs.Laws.{by-words, join, not-reached, within}
 use Rattle.driver.specs.Feeding.{slotOf, slotTick, tickOf, drives, slotsThen, ticksFrom, inputAmong, feedIn}
 use Rattle.driver.specs.declared.Driver.{Driver}

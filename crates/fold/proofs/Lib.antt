@@ -1,4 +1,6 @@
--- Laws of a machine over a line (Laws), of parts of the line, one behind the other (Parts), and of a long read that counts (Counting).
+-- Laws of a machine over a line (Laws), of parts of the line, one behind the other (Parts), of long calls (Calls), and of
+-- their loops (Loops).
 pub mod Laws
 pub mod Parts
-pub mod Counting
+pub mod Calls
+pub mod Loops

@@ -50,6 +50,16 @@ module _ {W S A X : Type 0} (m : MachineOver W S A X) where
   run s (w ∷ words) room =
       cond (takes s w room) (behind (m .answer s w ∷ []) (run (m .next s w) words (room - places s w))) (ran (m .refusal s w) s [])
 
+-- the answers to words, and the state behind them, of a machine that is asked word by word, whatever it refuses
+module _ {W S A X : Type 0} (m : MachineOver W S A X) where
+  unfoldable pub answersOver : S → List W → List A
+  answersOver s [] = []
+  answersOver s (w ∷ words) = m .answer s w ∷ answersOver (m .next s w) words
+
+  unfoldable pub stateOver : S → List W → S
+  stateOver s [] = s
+  stateOver s (w ∷ words) = stateOver (m .next s w) words
+
 -- so many words at the front of a line are taken, with these answers, and so many places used: the state behind them, and the slice; what the rest of
 -- the line gives makes up the run
 pub record Part {W S A X : Type 0} (m : MachineOver W S A X) (s : S) (words : List W) (before : List X) (answers : List A) (taken used : ℕ) (next : S) (after : List X) : Type 0 where

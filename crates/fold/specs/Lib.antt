@@ -1,3 +1,3 @@
--- A machine over a line of words, and a part of the line that it took (Fold); one whose answers are counted, and its long read (Counting).
+-- A machine over a line of words, and a part of the line that it took (Fold); a long call (Calls).
 pub mod Fold
-pub mod Counting
+pub mod Calls

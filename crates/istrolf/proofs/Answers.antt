@@ -48,7 +48,7 @@ use Rattle.istrolf.specs.declared.HeardWords.{HeardWords}
 use Rattle.istrolf.specs.declared.HeldReadback.{HeldReadback}
 use Rattle.istrolf.specs.declared.RewrittenLines.{RewrittenLines}
 use Rattle.istrolf.specs.declared.ReadLines.{ReadLines}
-use Rattle.fold.specs.Counting.{Long}
+use Rattle.puckreader.specs.Line.{Long}
 use Rattle.puckreader.specs.declared.PuckReader.{PuckReader}
 use Rattle.istrolf.specs.declared.HeldPuck.{HeldPuck}
 use Rattle.istrolf.specs.declared.SteppedPuck.{SteppedPuck}
@@ -160,7 +160,7 @@ pub one-puck-read : (r : PuckReader) (words : List ℕ) (out : List ℤ) (a b : 
     → PuckReadPromise r words out a x → PuckReadPromise r words out b y → (a ≡ b) × (x ≡ y)
 one-puck-read r words out a b x y e f =
     let q = e ∙ sym f in
-    (λ i. (record { refusal = q i .refusal; next = q i .next; taken = q i .taken; reports = q i .reports; dropped = q i .dropped }), ap (λ (l : Long PuckReader ℤ). l .out) q)
+    (λ i. (record { refusal = q i .refusal; next = q i .next; taken = q i .taken; reports = q i .counts .reports; dropped = q i .counts .dropped }), ap (λ (l : Long). l .out) q)
 
 pub one-fresh-port : (silence : ℕ) (a b : Port) → FreshPortPromise silence a → FreshPortPromise silence b → a ≡ b
 one-fresh-port silence a b e f = e ∙ sym f

@@ -28,6 +28,7 @@ use Rattle.replies.specs.declared.Asked.{Asked}
 use Rattle.replies.specs.declared.ToldReader.{ToldReader}
 use Rattle.istrolf.specs.Boxes as boxes
 use Rattle.istrolf.specs.Told as told
+use Rattle.reader.specs.Line.{reading}
 use Rattle.istrolf.specs.Readers.{packed, answered, packedRead, Whole, packedLong}
 use Rattle.istrolf.specs.Promises.{FreshReaderPromise, readerStepOf, readOf, ReadPromise, boxStepOf, tellOf, toldStepOf, toldReadOf}
 use Rattle.istrolf.specs.Runs.{RunPromise, sentWords, wordsGiven, lastBox, StepsPromise, handedOut, handedOutAt, Took, HandsOutBy, HandsOut, HandsOutAt}
@@ -93,7 +94,7 @@ read-as r words out = simp (reader-stands r) (ap (λ (q : Reader). packedLong (r
 
 took-as : (r : Reader) (words : List ℕ) (found : List Report) (before after : List ℤ) (b : ReadWords)
     → ReadPromise (packed r) words before b after
-    → lines.Took words found before (reader.readOf r words before .reading) (reader.readOf r words before .out)
+    → lines.Took words found before (reading (reader.readOf r words before)) (reader.readOf r words before .out)
     → Took words found before b after
 took-as r words found before after b e t =
     let i = e ∙ read-as r words before in
@@ -112,7 +113,7 @@ hands-out-by {r} {words} {found} d =
           ap handedOut (steps-as r words steps p) ∙ handed-as (stepsOf r words) ∙ d .by-steps (stepsOf r words) (permitted r words);
       by-read = λ before after b p room.
           took-as r words found before after b p
-          (d .by-read before (reader.readOf r words before .out) (reader.readOf r words before .reading) refl room);
+          (d .by-read before (reader.readOf r words before .out) (reading (reader.readOf r words before)) refl room);
     }
 
 pub hands-out : (f : Format) (words : List ℕ) (found : List Report) → lines.HandsOut f words found → HandsOut f words found
@@ -140,7 +141,7 @@ hands-out-at f words i p d =
           let until : handedOut (take i steps) ≡ counts.handedOut (take i (answers below)) = ap (λ (l : List ReadWord). handedOut (take i l)) k ∙ handed-until i below in
           let l = reader.readOf r words before in
           let q = subst (λ (m : FreshReader). ReadPromise (m .reader) words before b after) e read in
-          let t = d .by-read n below before (l .out) (l .reading) refl (permitted r words) refl (rw all at room) in
+          let t = d .by-read n below before (l .out) (reading l) refl (permitted r words) refl (rw all at room) in
           rw (all, until) (
             took-as r words (counts.handedOut (answers below)) before after b q (t .0),
             ap (λ (w : Whole). take 5 (drop (5 * length (counts.handedOut (take i (answers below)))) (w .out))) (q ∙ read-as r words before) ∙ t .1,

@@ -3,7 +3,7 @@ use Prim.Native.Nat.{ℕ}
 use mathlib.Core.Bool.{Bool, _&&_}
 use mathlib.Core.List.{List}
 use Rattle.wire.specs.Numbers.{badState}
-use Rattle.bridge.specs.Line.{Long}
+use Rattle.bridge.specs.Line.{Long, told as toldBy}
 use Rattle.bridge.specs.declared.Bridge.{Bridge}
 use Rattle.bridge.specs.declared.NewBridge.{NewBridge}
 use Rattle.bridge.specs.declared.Converted.{Converted}
@@ -62,4 +62,4 @@ abbrev pub whole : ConvertedWords → List ℕ → Whole
 whole told out = record { told = told; out = out }
 
 abbrev pub packedLong : Long → Whole
-packedLong l = whole (packedConverted (l .told)) (l .out)
+packedLong l = whole (packedConverted (toldBy l)) (l .out)

@@ -2,11 +2,12 @@
 use Prim.Native.Nat.{ℕ}
 use mathlib.Core.List.{List}
 use lib.IntN.{ℤ}
-use Rattle.fold.specs.Counting.{Long}
+use Rattle.fold.specs.Calls.{counts}
 use Rattle.wire.specs.Numbers.{badState}
 use Rattle.vsxxx.specs.declared.SelfTest.{SelfTest}
 use Rattle.puck.specs.Device.{Step}
 use Rattle.puck.specs.declared.Puck.{Puck}
+use Rattle.puckreader.specs.Line.{Long}
 use Rattle.puckreader.specs.declared.PuckReader.{PuckReader}
 use Rattle.puckreader.specs.declared.PuckRead.{PuckRead}
 use Rattle.puckreader.specs.declared.PuckReading.{PuckReading}
@@ -51,5 +52,5 @@ abbrev pub packedReading : PuckReading → ReadPuckWords
 packedReading a = record { refusal = a .refusal; next = a .next; taken = a .taken; reports = a .reports; dropped = a .dropped }
 
 -- what a long read gives back, and every number of the lent slice after it
-abbrev pub whole : ReadPuckWords → List ℤ → Long PuckReader ℤ
-whole a out = record { refusal = a .refusal; next = a .next; taken = a .taken; reports = a .reports; dropped = a .dropped; out = out }
+abbrev pub whole : ReadPuckWords → List ℤ → Long
+whole a out = record { refusal = a .refusal; next = a .next; taken = a .taken; counts = counts (a .reports) (a .dropped); out = out }

@@ -5,7 +5,7 @@ use mathlib.Core.List.{List}
 use lib.IntN.{ℤ, pos}
 use Rattle.wire.specs.Numbers.{badState}
 use Rattle.wire.specs.declared.Report.{Report}
-use Rattle.reader.specs.Line.{Long}
+use Rattle.reader.specs.Line.{Long, reading as readingOf}
 use Rattle.reader.specs.declared.Answer.{Answer}
 use Rattle.reader.specs.declared.Answer.the-variants as answer
 use Rattle.reader.specs.declared.Reader.{Reader}
@@ -71,4 +71,4 @@ abbrev pub whole : ReadWords → List ℤ → Whole
 whole reading out = record { reading = reading; out = out }
 
 abbrev pub packedLong : Long → Whole
-packedLong l = whole (packedReading (l .reading)) (l .out)
+packedLong l = whole (packedReading (readingOf l)) (l .out)

@@ -9,7 +9,7 @@ use Rattle.reader.specs.declared.Answer.{Answer}
 use Rattle.reader.specs.declared.Answer.the-variants as answer
 use Rattle.replies.specs.Replying.{none, awaiting}
 use Rattle.replies.specs.Rules.{toldReader}
-use Rattle.replies.specs.Line.{Long}
+use Rattle.replies.specs.Line.{Long, heardLine}
 use Rattle.replies.specs.declared.Kind.{Kind}
 use Rattle.replies.specs.declared.Kind.the-variants as kind
 use Rattle.replies.specs.declared.Came.{Came}
@@ -124,4 +124,4 @@ abbrev pub whole : HeardWords → List ℤ → Whole
 whole line out = record { line = line; out = out }
 
 abbrev pub packedLong : Long → Whole
-packedLong l = whole (packedLine (l .line)) (l .out)
+packedLong l = whole (packedLine (heardLine l)) (l .out)

@@ -1,6 +1,6 @@
 -- What words give, by the numbers that tell what they are answered by.
 use Prim.Native.Nat.{ℕ, zero, suc, _+_, _-_, _<_, _≤_}
-use mathlib.Core.Path.{_≡_, refl, sym, _∙_, ap, subst}
+use mathlib.Core.Path.{_≡_, refl, sym, _∙_, ap}
 use mathlib.Core.Bool.{Bool, true, false}
 use mathlib.Core.List.{List, [], _∷_, _++_, append-assoc, append-nil}
 use native.Mathlib.Nat.{add-zero}
@@ -20,8 +20,10 @@ use Rattle.text.specs.declared.Text.{Text}
 use Rattle.wire.specs.Numbers.{badState}
 use Rattle.reader.specs.Good.{good}
 use Rattle.reader.specs.Rules.{wordOf}
-use Rattle.reader.specs.Telling.{toldIn, tells, Told, told, untold, toldBy, tellingOf}
-use Rattle.reader.specs.Promises.{stepOf, answersOf, AnswersPromise}
+use Rattle.fold.specs.Calls.{counted, call, stopped}
+use Rattle.fold.specs.Calls as calls
+use Rattle.reader.specs.Telling.{toldIn, tells, tellsLine, Told, told}
+use Rattle.reader.specs.Promises.{stepOf, AnswersPromise}
 use Rattle.reader.specs.declared.Reader.{Reader}
 use Rattle.reader.specs.declared.Read.{Read}
 use Rattle.reader.specs.declared.Answer.{Answer}
@@ -188,19 +190,19 @@ module _ (letter n : ℕ) (told : List ℤ) (from : ℕ) where
 -- what is told of words that were all taken
 module _ (r : Reader) (words : List ℕ) (before : List ℤ) (a : Answers) (after : List ℤ) (e : AnswersPromise r words before a after) (same : length after ≡ length before) where
   pub all-told : a .taken ≡ length words → 0 < length words → ToldOf r words after × (readerOver r words ≡ a .next)
-  unfolding answersOf tellingOf
+  unfolding call calls.line
   all-told all some = go (good r) refl
     where
       go : (t : Bool) → good r ≡ t → ToldOf r words after × (readerOver r words ≡ a .next)
       go true g =
           let f = run tells r words (length before) in
-          let is : told a after ≡ toldBy f before = e ∙ rw g in
-          let every : length (f .answers) ≡ length words = sym (ap (λ (t : Told). t .answers .taken) is) ∙ all in
+          let is : told a after ≡ counted tellsLine f before = e ∙ rw g in
+          let every : length (f .answers) ≡ length words = sym (ap (λ (t : Told). t .taken) is) ∙ all in
           let numbers = written tells (f .answers) in
           let room = ap (run tells r words) same in (
             record { sound = g; all = rw room every; behind = drop (length numbers) before; numbers = rw room (ap (λ (t : Told). t .out) is) },
-            gives words r (length before) g every .reader ∙ sym (ap (λ (t : Told). t .answers .next) is),
+            gives words r (length before) g every .reader ∙ sym (ap (λ (t : Told). t .next) is),
           )
       go false g =
-          let none : told a after ≡ untold badState r before = e ∙ rw g in
-          absurd (omega (arith, ap (λ (t : Told). t .answers .taken) none))
+          let none : told a after ≡ stopped tellsLine badState r before = e ∙ rw g in
+          absurd (omega (arith, ap (λ (t : Told). t .taken) none))

@@ -3,6 +3,7 @@ use Prim.Native.Nat.{ℕ, zero, suc, _*_, _^_, _<_, _≤_}
 use mathlib.Core.Path.{_≡_, refl, sym, _∙_, ap, subst}
 use mathlib.Core.Bool.{Bool, true, false}
 use mathlib.Core.List.{List, [], _∷_, _++_, append-nil}
+use native.Mathlib.Nat.{add-zero}
 use native.Mathlib.Omega.{arith}
 use lib.Dec.{leb, eqb}
 use lib.ListN.{length, take, drop, length-append}
@@ -10,6 +11,7 @@ use lib.Seq.{take-at}
 use borrow.Author.Tests.{leb-true, leb-false}
 use Rattle.numbers.proofs.Choices.{cases}
 use Rattle.fold.specs.Fold.{run}
+use Rattle.fold.specs.Calls.{sum, line}
 use Rattle.fold.proofs.Laws.{taken}
 use Rattle.frames.specs.Words.{silence}
 use Rattle.wire.specs.Table.{bytesOf}
@@ -29,7 +31,7 @@ use Rattle.listing.proofs.Few.{Numbered, numbered-byte, numbered-closed}
 use Rattle.bridge.specs.Remembered.{movement}
 use Rattle.bridge.specs.Splitting.{countOf, rest, reportV, split, becomes, bytesAll}
 use Rattle.bridge.specs.Good.{good}
-use Rattle.bridge.specs.Line.{Long, sentFor, given, behind, whole, bridges, lineOf}
+use Rattle.bridge.specs.Line.{Long, sentFor, given, behind, whole, bridges, converts}
 use Rattle.bridge.specs.Promises.{ConvertPromise, freshOf}
 use Rattle.bridge.specs.declared.Bridge.{Bridge}
 use Rattle.bridge.specs.declared.Converted.{Converted}
@@ -61,17 +63,17 @@ module _ (b : Bridge) (w : ℕ) (g : good b ≡ true) where
 
   -- with 99 places a call of the word gives them all
   abbrev All : Long → Type 0
-  All l = (l .told .next ≡ behind b s) × (l .told .sent ≡ length sent) × (take (3 * length sent) (l .out) ≡ bytesAll sent)
+  All l = (l .next ≡ behind b s) × (l .counts .sent ≡ length sent) × (take (3 * length sent) (l .out) ≡ bytesAll sent)
 
-  all-given : (out : List ℕ) → 99 ≤ length out → All (lineOf b (w ∷ []) out)
-  unfolding lineOf run
+  all-given : (out : List ℕ) → 99 ≤ length out → All (line converts b (w ∷ []) out)
+  unfolding line run sum
   all-given out room = go (leb w silence) refl
     where
-      go : (t : Bool) → leb w silence ≡ t → All (lineOf b (w ∷ []) out)
+      go : (t : Bool) → leb w silence ≡ t → All (line converts b (w ∷ []) out)
       go true e =
           let legal = word-taken (b .reader) w (leb-true w silence e) in
           let n = three-each sent in
-          rw (taken bridges b w (length out) legal (omega (arith, n, few-sent)), append-nil (bytesAll sent), append-nil sent)
+          rw (taken bridges b w (length out) legal (omega (arith, n, few-sent)), append-nil (bytesAll sent), add-zero (length sent))
           (refl, refl, take-at (bytesAll sent) (drop (length (bytesAll sent)) out) (3 * length sent) n)
       go false e = rw (above (b .reader) w (leb-false w silence e)) (refl, refl, refl)
 

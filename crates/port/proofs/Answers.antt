@@ -2,7 +2,7 @@
 use Prim.Native.Nat.{ℕ}
 use mathlib.Core.Path.{_≡_, sym, _∙_, ap}
 use mathlib.Core.List.{List}
-use Rattle.fold.specs.Counting.{Long}
+use Rattle.port.specs.Line.{Long}
 use Rattle.port.specs.Promises.{FreshPromise, ClearingPromise, BytePromise, QuietPromise, LostPromise, BytesPromise}
 use Rattle.port.specs.declared.Port.{Port}
 use Rattle.port.specs.declared.Heard.{Heard}
@@ -27,5 +27,5 @@ pub one-bytes : (p : Port) (raw out : List ℕ) (a b : Words) (x y : List ℕ) �
     → (a ≡ b) × (x ≡ y)
 one-bytes p raw out a b x y e f =
     let s = e ∙ sym f in
-    let same : a ≡ b = λ i. record { next = s i .next; taken = s i .taken; written = s i .reports } in
-    (same, ap (λ (l : Long Port ℕ). l .out) s)
+    let same : a ≡ b = λ i. record { next = s i .next; taken = s i .taken; written = s i .counts } in
+    (same, ap (λ (l : Long). l .out) s)

@@ -10,9 +10,9 @@ use lib.ListN.{length, drop}
 use borrow.Author.Tests.{eqb-true, eqb-false, ltb-true, ltb-false, le-leb, lt-leb, ne-eqb, leb-true, leb-false}
 use Rattle.numbers.proofs.Rows.{number-low}
 use Rattle.frames.specs.Words.{silence, lineWords}
-use Rattle.fold.specs.Fold.{written}
-use Rattle.fold.specs.Counting.{Long, longRead, total, unused, asOne, answersOver, stateOver}
-use Rattle.fold.proofs.Counting as fold
+use Rattle.fold.specs.Fold.{written, answersOver, stateOver}
+use Rattle.fold.specs.Calls.{Each, unused, asOne}
+use Rattle.fold.proofs.Calls as calls
 use Rattle.port.specs.Marks.{port, opened, cleared, mark, plain, behindMark, byteOf, quietOf}
 use Rattle.port.specs.Line as line
 use Rattle.port.specs.Delivered.{Came, sound, damaged, broken, delivered, lineOf}
@@ -21,7 +21,7 @@ use Rattle.port.specs.Promises.{BytePromise, BytesPromise}
 use Rattle.port.specs.declared.Port.{Port}
 use Rattle.port.specs.declared.Heard.{Heard}
 use Rattle.port.specs.declared.Words.{Words}
-use Rattle.port.proofs.Loop.{one-each}
+use Rattle.port.proofs.Loop.{lawful}
 
 -- what comes back for one word, and then the rest
 abbrev Back : ℕ → ℕ → List ℕ → List ℕ → Type 0
@@ -42,10 +42,12 @@ back c q (damaged b ∷ came) = let h = back c q came in (ap (λ (l : List ℕ).
 back c q (broken ∷ came) = let h = back c q came in (ap (λ (l : List ℕ). 256 ∷ l) (h .0), h .1)
 
 -- every byte is taken, where there is room for the words
-all-legal : (raw : List ℕ)
-    → fold.AllLegal line.counts one-each (λ (b : ℕ). Unit {0}) (λ (p : Port). Unit {0}) (λ p b u v. refl) (λ p b u. tt) raw
-all-legal [] = tt
-all-legal (b ∷ raw) = (tt, all-legal raw)
+abbrev any : ℕ → Type 0
+any b = Unit {0}
+
+each-any : (raw : List ℕ) → Each any raw
+each-any [] = tt
+each-any (b ∷ raw) = (tt, each-any raw)
 
 module _ (p : Port) (raw out : List ℕ) where
   abbrev pub words : List ℕ
@@ -54,17 +56,12 @@ module _ (p : Port) (raw out : List ℕ) where
   pub all-taken : (a : Words) (x : List ℕ) → BytesPromise p raw out a x → length words ≤ length out
       → (a .taken ≡ length raw) × (a .next ≡ stateOver line.hears p raw) × (x ≡ words ++ drop (length words) out) × (a .written ≡ length words)
   all-taken a x e h =
-      let ever : Port → Type 0 = λ p. Unit {0} in
-      let any : ℕ → Type 0 = λ b. Unit {0} in
-      let n = fold.places-total line.counts one-each (answersOver line.hears p raw) in
-      let took = fold.took-all line.counts one-each any ever (λ p b u v. refl) (λ p b u. tt) p raw out tt (all-legal raw) (omega (arith, n)) in
-      let found = total (λ g. length (line.wordsIn g)) (answersOver line.hears p raw) in
-      let once : 1 * found ≡ found = omega arith in
-      let i = e ∙ took in (
-        ap (λ (l : Long Port ℕ). l .taken) i,
-        ap (λ (l : Long Port ℕ). l .next) i,
-        ap (λ (l : Long Port ℕ). l .out) i ∙ rw (← n),
-        ap (λ (l : Long Port ℕ). l .reports) i ∙ sym (n ∙ once),
+      let n = calls.places-sum line.hearsBytes lawful (answersOver line.hears p raw) in
+      let i = calls.took-each line.hearsBytes lawful any (λ p b g u. refl) p raw out refl (each-any raw) (omega (arith, n)) e in (
+        ap (λ (l : line.Long). l .taken) i,
+        ap (λ (l : line.Long). l .next) i,
+        ap (λ (l : line.Long). l .out) i ∙ rw (← n),
+        ap (λ (l : line.Long). l .counts) i ∙ sym n,
       )
 
 -- What a tty delivers for what came on the line comes back as its words, all of it, and the port holds no mark.
@@ -81,12 +78,10 @@ round-trip c q came out a x e h =
 pub joins : (p : Port) (raw more out : List ℕ) (a b c : Words) (x y z : List ℕ)
     → BytesPromise p raw out a x
     → a .taken ≡ length raw
-    → BytesPromise (a .next) more (unused 1 (line.whole a x)) b y
+    → BytesPromise (a .next) more (unused line.hearsBytes (line.whole a x)) b y
     → BytesPromise p (raw ++ more) out c z
-    → line.whole c z ≡ asOne 1 (line.whole a x) (line.whole b y)
-joins p raw more out a b c x y z e t f g =
-    let taken : longRead line.counts p raw out .taken ≡ length raw = ap (λ (l : Long Port ℕ). l .taken) (sym e) ∙ t in
-    g ∙ fold.join-read line.counts one-each p raw more out taken ∙ rw (← e, ← f)
+    → line.whole c z ≡ asOne line.hearsBytes (line.whole a x) (line.whole b y)
+joins p raw more out a b c x y z e t f g = calls.joining line.hearsBytes lawful p raw more out e t f g
 
 -- Only legal words.
 legal-word : (w : ℕ) → w ≤ 257 → lineWords (w ∷ []) ≡ true

@@ -5,8 +5,7 @@ use mathlib.Core.Bool.{Bool, true, false, cond}
 use mathlib.Core.List.{List, [], _∷_, _++_, append-assoc}
 use native.Mathlib.Omega.{arith}
 use lib.ListN.{length, take, drop, length-append}
-use Rattle.fold.specs.Fold.{written}
-use Rattle.fold.specs.Counting.{answersOver, stateOver}
+use Rattle.fold.specs.Fold.{written, answersOver, stateOver}
 use lib.Dec.{eqb, leb, ltb}
 use borrow.Author.Tests.{eqb-true, ne-eqb, lt-leb}
 use Rattle.frames.specs.Words.{break}

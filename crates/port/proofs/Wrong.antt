@@ -5,9 +5,10 @@ use mathlib.Core.List.{List, [], _∷_}
 use native.Mathlib.Omega.{arith}
 use Rattle.numbers.specs.Bits.{number, bit, bits}
 use Rattle.fold.specs.Fold.{run}
-use Rattle.fold.specs.Counting.{Long, longRead, total}
+use Rattle.fold.specs.Calls.{call, sum}
+use Rattle.fold.specs.Calls as calls
 use Rattle.port.specs.Marks.{port, opened, cleared, plain, behindMark, byteOf, quietOf}
-use Rattle.port.specs.Line.{wordsIn}
+use Rattle.port.specs.Line.{wordsIn, Long}
 use Rattle.port.specs.Promises.{FreshPromise, ClearingPromise, BytePromise, QuietPromise, LostPromise, BytesPromise}
 use Rattle.port.specs.declared.Port.{Port}
 use Rattle.port.specs.declared.Given.{Given}
@@ -75,9 +76,9 @@ abbrev two : List ℕ
 two = 0 ∷ 0 ∷ []
 
 pub bytes-twice : BytesPromise (opened 0 100) (255 ∷ 255 ∷ []) two (record { next = opened 0 100; taken = 2; written = 2 }) (255 ∷ 255 ∷ []) → ⊥
-unfolding byteOf plain behindMark cleared run longRead total
-bytes-twice e = omega (arith, ap (λ (l : Long Port ℕ). l .reports) e)
+unfolding byteOf plain behindMark cleared run call calls.line sum
+bytes-twice e = omega (arith, ap (λ (l : Long). l .counts) e)
 
 pub bytes-without-room : BytesPromise (opened 0 100) (1 ∷ 2 ∷ []) (0 ∷ []) (record { next = opened 0 100; taken = 2; written = 1 }) (1 ∷ []) → ⊥
-unfolding byteOf plain behindMark cleared run longRead total
-bytes-without-room e = omega (arith, ap (λ (l : Long Port ℕ). l .taken) e)
+unfolding byteOf plain behindMark cleared run call calls.line sum
+bytes-without-room e = omega (arith, ap (λ (l : Long). l .taken) e)

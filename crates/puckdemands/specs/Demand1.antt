@@ -8,7 +8,7 @@ use mathlib.Core.Logic.{_⊎_}
 use lib.ListN.{length, drop, getD}
 use lib.IntN.{ℤ}
 use Rattle.frames.specs.Words.{silence}
-use Rattle.fold.specs.Counting.{stopped, unused, asOne}
+use Rattle.fold.specs.Calls.{stopped, unused, asOne, after}
 use Rattle.wire.specs.Numbers.{success, badState, badButtons, badWord}
 use Rattle.ballbox.specs.declared.Event.{Event}
 use Rattle.ballbox.specs.declared.Event.the-variants.{Buttons}
@@ -23,7 +23,7 @@ use Rattle.puck.proofs.Refusals as device-refusals
 use Rattle.puck.proofs.Goodness as device-goodness
 use Rattle.puckreader.specs.Rules.{refusing}
 use Rattle.puckreader.specs.Good as readers
-use Rattle.puckreader.specs.Line.{reportsIn, whole, wordAnd, Bounds}
+use Rattle.puckreader.specs.Line.{reportsIn, readsLine, whole, Bounds}
 use Rattle.puckreader.specs.Promises as reader
 use Rattle.puckreader.specs.declared.PuckReader.{PuckReader}
 use Rattle.puckreader.specs.declared.PuckRead.{PuckRead}
@@ -93,7 +93,7 @@ pub read-word-bad-word : (r : PuckReader) (w : ℕ) (s : PuckRead) → readers.g
 read-word-bad-word = refusals.bad-word
 
 pub read-line-bad-state : (r : PuckReader) (words : List ℕ) (out : List ℤ) (a : PuckReading) (after : List ℤ) → readers.good r ≡ false → reader.ReadPromise r words out a after
-    → whole a after ≡ stopped badState r out
+    → whole a after ≡ stopped readsLine badState r out
 read-line-bad-state = refusals.bad-state-read
 
 pub read-line-ends : (r : PuckReader) (words : List ℕ) (out : List ℤ) (a : PuckReading) (after : List ℤ) → readers.good r ≡ true → reader.ReadPromise r words out a after
@@ -110,9 +110,9 @@ read-line-before-bad = refusals.before-bad
 pub joining : (r : PuckReader) (p q : List ℕ) (out : List ℤ) (a b c : PuckReading) (x y z : List ℤ)
     → reader.ReadPromise r p out b y
     → b .taken ≡ length p
-    → reader.ReadPromise (b .next) q (unused 6 (whole b y)) c z
+    → reader.ReadPromise (b .next) q (unused readsLine (whole b y)) c z
     → reader.ReadPromise r (p ++ q) out a x
-    → whole a x ≡ asOne 6 (whole b y) (whole c z)
+    → whole a x ≡ asOne readsLine (whole b y) (whole c z)
 joining = joined.joining
 
 -- "It stops, with answer 0, before a word that would finish a report when fewer than" six "places are left"; any other word is taken, and the rest is read by
@@ -123,7 +123,7 @@ pub stops-for-room : (r : PuckReader) (w : ℕ) (q : List ℕ) (out : List ℤ) 
     → reader.ReadPromise r (w ∷ q) out a x
     → s .refusal ≡ success
     → length out < 6 * reportsIn (s .answer)
-    → whole a x ≡ stopped success r out
+    → whole a x ≡ stopped readsLine success r out
 stops-for-room = room.stops-for-room
 
 pub goes-on : (r : PuckReader) (w : ℕ) (q : List ℕ) (out : List ℤ) (s : PuckRead) (a : PuckReading) (x : List ℤ)
@@ -134,7 +134,7 @@ pub goes-on : (r : PuckReader) (w : ℕ) (q : List ℕ) (out : List ℤ) (s : Pu
     → s .refusal ≡ success
     → 6 * reportsIn (s .answer) ≤ length out
     → reader.ReadPromise (s .next) q (drop (6 * reportsIn (s .answer)) out) b y
-    → whole a x ≡ wordAnd (s .answer) (whole b y)
+    → whole a x ≡ after readsLine (s .answer) (whole b y)
 goes-on = room.goes-on
 
 -- "a bad word behind a stop for room is not reached": where words are left, what follows them changes nothing

@@ -5,7 +5,7 @@ use mathlib.Core.Path.{_≡_, refl}
 use mathlib.Core.List.{List, [], _∷_}
 use lib.IntN.{pos}
 use Rattle.frames.specs.Passages.{Passage, silent, finished, broken, nothing}
-use Rattle.fold.specs.Counting.{answersOver}
+use Rattle.fold.specs.Fold.{answersOver}
 use Rattle.wire.specs.Reading.{report}
 use Rattle.wire.specs.Messages.{latchedIn}
 use Rattle.wire.specs.declared.Format.the-variants.{Mm}

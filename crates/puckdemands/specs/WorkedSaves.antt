@@ -10,7 +10,7 @@ use native.Mathlib.Omega.{arith}
 use lib.IntN.{pos}
 use Rattle.frames.specs.Passages.{finished, nothing}
 use Rattle.frames.specs.Damage.{whole, stays, scar, lost, a-break}
-use Rattle.fold.specs.Counting.{answersOver}
+use Rattle.fold.specs.Fold.{answersOver}
 use Rattle.wire.specs.Reading.{report}
 use Rattle.wire.specs.Messages.{latchedIn}
 use Rattle.wire.specs.Buttons.{left, middle, isDown, presses, pressesFrom}

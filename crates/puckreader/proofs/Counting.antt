@@ -10,19 +10,22 @@ use Rattle.numbers.proofs.Choices.{cases}
 use Rattle.frames.specs.Words.{isByte}
 use Rattle.frames.specs.Frame.{keep, drops}
 use Rattle.fold.specs.Fold.{run}
-use Rattle.fold.specs.Counting.{total}
+use Rattle.fold.specs.Calls.{sum, Lawful}
+use Rattle.fold.proofs.Calls.{reports-lawful}
 use Rattle.fold.proofs.Laws as fold
 use Rattle.vsxxx.specs.SelfTests.{isTest}
 use Rattle.vsxxx.specs.Reports.{PuckReport, puckFrame}
 use Rattle.puckreader.specs.State.{keptIn, told}
+use Rattle.wire.specs.Numbers.{badState}
+use Rattle.puckreader.specs.Good.{good}
 use Rattle.puckreader.specs.Rules.{answered, wordOf}
-use Rattle.puckreader.specs.Line.{reportOf, handedOut, bytesReported, reportsIn, droppedIn, byteIn, bytesIn, numbers, reads}
+use Rattle.puckreader.specs.Line.{reportOf, handedOut, bytesReported, reportsIn, droppedIn, byteIn, bytesIn, numbers, reads, readsLine}
 use Rattle.puckreader.specs.declared.PuckReader.{PuckReader}
 use Rattle.puckreader.specs.declared.PuckRead.{PuckRead}
 use Rattle.puckreader.specs.declared.PuckAnswer.{PuckAnswer}
 use Rattle.puckreader.specs.declared.PuckAnswer.the-variants.{Nothing, Movement, Test, Dropped}
 use Rattle.puckreader.proofs.Kept.{Held, none, one, two, three, kept-count, keep-none, keep-one, keep-two, keep-move, keep-test}
-use Rattle.puckreader.proofs.Word.{by-rules, word-held}
+use Rattle.puckreader.proofs.Word.{by-rules, word-held, word-good}
 
 -- six numbers for each report
 pub six-each : (a : PuckAnswer) → length (numbers (reportOf a)) ≡ 6 * reportsIn a
@@ -30,6 +33,10 @@ six-each Nothing = refl
 six-each (Movement r) = refl
 six-each (Test t) = refl
 six-each (Dropped k) = refl
+
+-- reports and dropped bytes add up as the laws of long calls ask
+pub lawful : Lawful readsLine
+lawful = reports-lawful reads 6 reportsIn droppedIn good badState six-each (λ r w g. word-good r g w)
 
 drops-count : (k : ℕ) → droppedIn (told (drops k)) ≡ k
 drops-count zero = refl
@@ -73,10 +80,10 @@ bytes-append (p ∷ u) v = omega (arith, bytes-append u v)
 
 -- over the words taken
 pub line-counts : (words : List ℕ) (r : PuckReader) (room : ℕ) → Held r → let f = run reads r words room in
-    bytesIn (take (length (f .answers)) words) + r .count ≡ bytesReported (handedOut (f .answers)) + total droppedIn (f .answers) + f .next .count
-unfolding bytesIn total
+    bytesIn (take (length (f .answers)) words) + r .count ≡ bytesReported (handedOut (f .answers)) + sum readsLine (f .answers) .dropped + f .next .count
+unfolding bytesIn sum
 line-counts =
-    fold.over-taken reads (λ r words answers next. Held r → bytesIn words + r .count ≡ bytesReported (handedOut answers) + total droppedIn answers + next .count)
+    fold.over-taken reads (λ r words answers next. Held r → bytesIn words + r .count ≡ bytesReported (handedOut answers) + sum readsLine answers .dropped + next .count)
     (λ r h. omega arith)
     (λ r w words answers next z ih h.
     omega (arith, ih (word-held r w h), word-counts r w h z, bytes-append (reportOf (wordOf r w .answer)) (handedOut answers)))

@@ -12,7 +12,7 @@ use Rattle.numbers.proofs.Tested.{left, right}
 use Rattle.frames.specs.Words.{silence, lineWords}
 use Rattle.frames.specs.Frame.{State, has, kept, Move, fit, start, bad, break, act, complete, moveOf, step}
 use Rattle.frames.specs.Frame as frame
-use Rattle.fold.specs.Counting.{answersOver, stateOver}
+use Rattle.fold.specs.Fold.{answersOver, stateOver}
 use Rattle.vsxxx.specs.Reports.{PuckReport, puckFrame}
 use Rattle.puckreader.specs.State.{keptIn, holding, told}
 use Rattle.puckreader.specs.Rules.{wordOf}

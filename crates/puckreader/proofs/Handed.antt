@@ -18,14 +18,14 @@ use Rattle.frames.proofs.Passages.{passages-append, sound-right, sound-by, part
 use Rattle.frames.proofs.Words.{passing, passing-append, passing-left, passing-right, line-passes, lost-passes}
 use Rattle.frames.proofs.Replaced as replaced
 use Rattle.frames.proofs.Marks.{resync}
-use Rattle.fold.specs.Fold.{written}
-use Rattle.fold.specs.Counting.{Long, total, answersOver}
-use Rattle.fold.proofs.Counting.{took-all}
+use Rattle.fold.specs.Fold.{written, answersOver}
+use Rattle.fold.specs.Calls.{sum, UpTo}
+use Rattle.fold.proofs.Calls.{took-all}
 use Rattle.vsxxx.specs.Reports.{PuckReport, movement, self-test, sixOf, puckFrame, PuckMessage, puckBytes, HeldByPuck, shownByPuck}
 use Rattle.vsxxx.proofs.Framed.{puck-marked, held-framed, held-shown}
 use Rattle.puckreader.specs.State.{keptIn, told}
 use Rattle.puckreader.specs.Good.{good}
-use Rattle.puckreader.specs.Line.{reportOf, handedOut, numbers, reportsIn, reads, counts}
+use Rattle.puckreader.specs.Line.{Long, reportOf, handedOut, numbers, reads, readsLine}
 use Rattle.puckreader.specs.Promises.{FreshPromise, ReadPromise}
 use Rattle.puckreader.specs.Runs.{StepsPromise, answers}
 use Rattle.puckreader.specs.HandedOut.{handing, Took, HandsOut, HandsOutAt, SoundLine, SoundGoing, finishedReports, Replaced, Within, EndsAt}
@@ -35,10 +35,9 @@ use Rattle.puckreader.specs.declared.PuckReading.{PuckReading}
 use Rattle.puckreader.specs.declared.PuckAnswer.{PuckAnswer}
 use Rattle.puckreader.specs.declared.PuckAnswer.the-variants.{Nothing}
 use Rattle.puckreader.proofs.Kept.{held}
-use Rattle.puckreader.proofs.Word.{word-good}
-use Rattle.puckreader.proofs.Counting.{six-each}
-use Rattle.puckreader.proofs.Goodness.{fresh-is-good, read-line}
-use Rattle.puckreader.proofs.Refusals.{word-taken}
+use Rattle.puckreader.proofs.Counting.{lawful}
+use Rattle.puckreader.proofs.Goodness.{fresh-is-good}
+use Rattle.puckreader.proofs.Refusals.{refuses}
 use Rattle.puckreader.proofs.Framed.{over-frame, steps-over, framed}
 
 -- the reports among the answers
@@ -49,8 +48,8 @@ same-reports (frame.report (movement r) ∷ l) = ap (λ (x : List PuckReport). m
 same-reports (frame.report (self-test t) ∷ l) = ap (λ (x : List PuckReport). self-test t ∷ x) (same-reports l)
 same-reports (frame.dropped k ∷ l) = same-reports l
 
-pub reports-total : (l : List PuckAnswer) → total reportsIn l ≡ length (handedOut l)
-unfolding total
+pub reports-total : (l : List PuckAnswer) → sum readsLine l .reports ≡ length (handedOut l)
+unfolding sum
 reports-total [] = refl
 reports-total (a ∷ l) = omega (arith, length-append (reportOf a) (handedOut l), reports-total l)
 
@@ -92,11 +91,7 @@ unfolding lineWords passing
 legal-passing [] = refl
 legal-passing (w ∷ u) = rw (legal-passing u)
 
-abbrev AllLegal : List ℕ → Type 0
-AllLegal [] = Unit {0}
-AllLegal (w ∷ words) = (w ≤ silence) × AllLegal words
-
-each-legal : (u : List ℕ) → lineWords u ≡ true → AllLegal u
+each-legal : (u : List ℕ) → lineWords u ≡ true → UpTo silence u
 unfolding lineWords
 each-legal [] h = tt
 each-legal (w ∷ u) h = (leb-true w silence (left (leb w silence) (lineWords u) h), each-legal u (right (leb w silence) (lineWords u) h))
@@ -107,13 +102,12 @@ pub took : (r : PuckReader) (words : List ℕ) (before after : List ℤ) (b : Pu
     → Took words (handedOut (answersOver reads r words)) before b after
 took r words before after b g l e room =
     let all = answersOver reads r words in
-    let t = took-all counts six-each (λ w. w ≤ silence) (λ q. good q ≡ true) (λ q w h k. word-taken q w k) (λ q w h. word-good q h w) r words before g (each-legal words l) (rw (reports-total all) room) in
-    let is = e ∙ read-line r words before g ∙ t in
+    let is = took-all readsLine lawful refuses r words before g (each-legal words l) (rw (reports-total all) room) e in
     record {
-      refusal = ap (λ (x : Long PuckReader ℤ). x .refusal) is;
-      taken = ap (λ (x : Long PuckReader ℤ). x .taken) is;
-      reports = ap (λ (x : Long PuckReader ℤ). x .reports) is ∙ reports-total all;
-      written = ap (λ (x : Long PuckReader ℤ). x .out) is ∙ rw (numbers-written all, reports-total all);
+      refusal = ap (λ (x : Long). x .refusal) is;
+      taken = ap (λ (x : Long). x .taken) is;
+      reports = ap (λ (x : Long). x .counts .reports) is ∙ reports-total all;
+      written = ap (λ (x : Long). x .out) is ∙ rw (numbers-written all, reports-total all);
     }
 
 module _ (words : List ℕ) (legal : lineWords words ≡ true) where

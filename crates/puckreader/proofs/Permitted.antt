@@ -6,9 +6,9 @@ use mathlib.Core.List.{List}
 use lib.ListN.{length, getD}
 use lib.Dec.{eqb}
 use lib.IntN.{ℤ, pos, natAbs}
-use Rattle.fold.specs.Counting.{Long}
 use Rattle.vsxxx.specs.SelfTests.{fatal}
 use Rattle.puckreader.specs.State.{numbersOf}
+use Rattle.puckreader.specs.Line.{Long, reading}
 use Rattle.puckreader.specs.Promises.{Step, FreshPromise, GoodPromise, StepPromise, ReadPromise, stepOf}
 use Rattle.puckreader.specs.declared.PuckReader.{PuckReader}
 use Rattle.puckreader.specs.declared.PuckRead.{PuckRead}
@@ -59,4 +59,4 @@ one-step r w a b e f = step-is r w a e ∙ sym (step-is r w b f)
 pub one-read : (r : PuckReader) (words : List ℕ) (out : List ℤ) (a b : PuckReading) (x y : List ℤ) → ReadPromise r words out a x → ReadPromise r words out b y → (a ≡ b) × (x ≡ y)
 one-read r words out a b x y e f =
     let q = e ∙ sym f in
-    (λ i. (record { refusal = q i .refusal; next = q i .next; taken = q i .taken; reports = q i .reports; dropped = q i .dropped }), ap (λ (l : Long PuckReader ℤ). l .out) q)
+    (ap reading q, ap (λ (l : Long). l .out) q)

@@ -15,7 +15,7 @@ use Rattle.frames.specs.Frame.{State, has, after, Whole, keep, drops}
 use Rattle.frames.specs.Frame as frame
 use Rattle.frames.proofs.Words.{line-passes}
 use Rattle.frames.proofs.Reading.{ready-reads, calm-after}
-use Rattle.fold.specs.Counting.{answersOver, stateOver}
+use Rattle.fold.specs.Fold.{answersOver, stateOver}
 use Rattle.wire.specs.Line.{letterOf}
 use Rattle.wire.specs.Table.{bytesOf}
 use Rattle.wire.specs.Holds as wire

@@ -10,14 +10,15 @@ use lib.IntN.{ℤ, pos, natAbs}
 use Rattle.numbers.specs.Bits.{number, bit, bits}
 use Rattle.frames.specs.Frame.{moveOf}
 use Rattle.fold.specs.Fold.{run}
-use Rattle.fold.specs.Counting.{Long, total, longRead}
+use Rattle.fold.specs.Calls.{sum, line, call}
+use Rattle.puckreader.specs.Line.{Long}
 use Rattle.wire.specs.Places.{like, fitsFirst, fitsLater}
 use Rattle.vsxxx.specs.SelfTests.{testOf, isTest, isButtons}
 use Rattle.vsxxx.specs.Reports.{sizeFrom, fitsStart, fitsBehind}
 use Rattle.puckreader.specs.State.{reader, fresh, numbersOf}
 use Rattle.puckreader.specs.Rules.{wordOf}
 use Rattle.puckreader.specs.Good.{good}
-use Rattle.puckreader.specs.Promises.{Step, FreshPromise, GoodPromise, StepPromise, ReadPromise, stepOf, readOf}
+use Rattle.puckreader.specs.Promises.{Step, FreshPromise, GoodPromise, StepPromise, ReadPromise, stepOf}
 use Rattle.puckreader.specs.declared.PuckReader.{PuckReader}
 use Rattle.puckreader.specs.declared.PuckRead.{PuckRead}
 use Rattle.puckreader.specs.declared.PuckReading.{PuckReading}
@@ -53,13 +54,13 @@ fatalBytes = 0xA1 ∷ 0x12 ∷ 0x20 ∷ 0 ∷ []
 
 pub twenty-not-fatal : (out : List ℤ) (a : PuckReading) (after : List ℤ) → out ≡ pos 0 ∷ pos 0 ∷ pos 0 ∷ pos 0 ∷ pos 0 ∷ pos 0 ∷ [] → ReadPromise fresh fatalBytes out a after
     → getD after 0 (pos 0) ≡ pos 1 → ⊥
-unfolding readOf longRead run total wordOf moveOf good sizeFrom fitsStart fitsBehind isTest isButtons fitsFirst fitsLater testOf number bits like bit
+unfolding call line run sum wordOf moveOf good sizeFrom fitsStart fitsBehind isTest isButtons fitsFirst fitsLater testOf number bits like bit
 twenty-not-fatal out a after z e h =
     let i = rw z at e in
-    omega (arith, ap natAbs (sym h ∙ ap (λ (l : Long PuckReader ℤ). getD (l .out) 0 (pos 0)) i))
+    omega (arith, ap natAbs (sym h ∙ ap (λ (l : Long). getD (l .out) 0 (pos 0)) i))
 
 pub five-taken : (out : List ℤ) (a : PuckReading) (after : List ℤ) → out ≡ [] → ReadPromise fresh fatalBytes out a after → a .taken ≡ 4 → ⊥
-unfolding readOf longRead run total wordOf moveOf good sizeFrom fitsStart fitsBehind isTest isButtons fitsFirst fitsLater testOf number bits like bit
+unfolding call line run sum wordOf moveOf good sizeFrom fitsStart fitsBehind isTest isButtons fitsFirst fitsLater testOf number bits like bit
 five-taken out a after z e h =
     let i = rw z at e in
-    omega (arith, h, ap (λ (l : Long PuckReader ℤ). l .taken) i)
+    omega (arith, h, ap (λ (l : Long). l .taken) i)

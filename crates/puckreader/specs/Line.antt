@@ -1,13 +1,15 @@
 -- "Over many words": a line of words, word by word, and a lent slice; what is counted.
 use Prim.Native.Nat.{ℕ, _+_, _*_, _≤_}
 use mathlib.Core.Path.{_≡_}
-use mathlib.Core.Bool.{true, cond}
+use mathlib.Core.Bool.{cond}
 use mathlib.Core.List.{List, [], _∷_, _++_}
 use lib.ListN.{length, take, drop}
 use lib.IntN.{ℤ}
 use Rattle.frames.specs.Words.{isByte}
-use Rattle.fold.specs.Fold.{Machine, ran, run}
-use Rattle.fold.specs.Counting.{Long, Counter, longRead, Stands}
+use Rattle.fold.specs.Fold.{Machine}
+use Rattle.fold.specs.Calls.{Call, Counts, counts, reporting}
+use Rattle.fold.specs.Calls as calls
+use Rattle.wire.specs.Numbers.{badState}
 use Rattle.vsxxx.specs.Reports.{PuckReport, movement, self-test, sixOf, sizeOfReport}
 use Rattle.puckreader.specs.Rules.{wordOf}
 use Rattle.puckreader.specs.Good.{good}
@@ -54,32 +56,24 @@ unfoldable pub bytesIn : List ℕ → ℕ
 bytesIn [] = 0
 bytesIn (w ∷ words) = byteIn w + bytesIn words
 
--- the reader as a machine over the words of a line, which counts reports, each of six numbers, and dropped bytes
+-- the reader as a machine over the words of a line
 abbrev pub reads : Machine PuckReader PuckAnswer ℤ
 reads = record { refusal = λ r w. wordOf r w .refusal; next = λ r w. wordOf r w .next; answer = λ r w. wordOf r w .answer; writes = λ a. numbers (reportOf a) }
 
-abbrev pub counts : Counter PuckReader PuckAnswer ℤ
-counts = record { machine = reads; found = reportsIn; lost = droppedIn; width = 6 }
+-- the long read: a report has six numbers. "It stops, with answer 0, before a word that would finish a report when fewer
+-- than" six "places are left."
+abbrev pub readsLine : Call PuckReader PuckAnswer Counts ℤ
+readsLine = record { machine = reads; tally = reporting 6 reportsIn droppedIn; good = good; bad = badState }
 
--- what a long read gives back ("words taken, reports written, bytes dropped"), and every number of the lent slice after it
-abbrev pub whole : PuckReading → List ℤ → Long PuckReader ℤ
-whole a out = record { refusal = a .refusal; next = a .next; taken = a .taken; reports = a .reports; dropped = a .dropped; out = out }
+-- what it gives back ("words taken, reports written, bytes dropped"), and every number of the lent slice after it
+abbrev pub Long : Type 0
+Long = calls.Long PuckReader Counts ℤ
 
--- "It stops, with answer 0, before a word that would finish a report when fewer than" six "places are left."
-abbrev pub lineOf : PuckReader → List ℕ → List ℤ → Long PuckReader ℤ
-lineOf r words out = longRead counts r words out
+abbrev pub whole : PuckReading → List ℤ → Long
+whole a out = record { refusal = a .refusal; next = a .next; taken = a .taken; counts = counts (a .reports) (a .dropped); out = out }
 
--- a word that was taken, and then what the rest of the line gives
-abbrev pub wordAnd : PuckAnswer → Long PuckReader ℤ → Long PuckReader ℤ
-wordAnd a later =
-    record {
-      refusal = later .refusal;
-      next = later .next;
-      taken = 1 + later .taken;
-      reports = reportsIn a + later .reports;
-      dropped = droppedIn a + later .dropped;
-      out = numbers (reportOf a) ++ later .out;
-    }
+abbrev pub reading : Long → PuckReading
+reading l = record { refusal = l .refusal; next = l .next; taken = l .taken; reports = l .counts .reports; dropped = l .counts .dropped }
 
 -- how far a long read goes: no more words than there are, no more reports than have room, no more bytes dropped and kept than it took and had kept
 pub record Bounds (r : PuckReader) (words : List ℕ) (out : List ℤ) (a : PuckReading) : Type 0 where
@@ -95,7 +89,5 @@ pub record Found (r : PuckReader) (words : List ℕ) (before : List ℤ) (a : Pu
   pub balance : bytesIn (take (a .taken) words) + r .count ≡ bytesReported reports + a .dropped + a .next .count
 
 -- what is given back for words at the front of a line, by a reader that stays good; where no word is taken the line ends there
-pub record Begins (r : PuckReader) (words : List ℕ) (before : List ℤ) (t : PuckReading) (after : List ℤ) : Type 0 where
-  pub stands : Stands counts r words before (t .next) (t .taken) (6 * t .reports) (t .reports) (t .dropped) after
-  pub stops : t .taken ≡ 0 → run reads r words (length before) ≡ ran (t .refusal) r []
-  pub sound : good (t .next) ≡ true
+abbrev pub Begins : PuckReader → List ℕ → List ℤ → PuckReading → List ℤ → Type 0
+Begins r words before t after = calls.Begins readsLine r words before (whole t after)

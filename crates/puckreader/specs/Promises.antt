@@ -5,12 +5,12 @@ use mathlib.Core.Bool.{Bool, cond}
 use mathlib.Core.List.{List, [], _∷_}
 use lib.ListN.{take}
 use lib.IntN.{ℤ}
-use Rattle.fold.specs.Counting.{Long, stopped, withRefusal}
+use Rattle.fold.specs.Calls.{stopped, withRefusal, call}
 use Rattle.wire.specs.Numbers.{badState, badWord, RefusesRightly}
 use Rattle.puckreader.specs.State.{fresh, numbersOf}
 use Rattle.puckreader.specs.Rules.{refusing, wordOf}
 use Rattle.puckreader.specs.Good as readers
-use Rattle.puckreader.specs.Line.{whole, lineOf}
+use Rattle.puckreader.specs.Line.{Long, whole, readsLine}
 use Rattle.puckreader.specs.declared.PuckReader.{PuckReader}
 use Rattle.puckreader.specs.declared.PuckRead.{PuckRead}
 use Rattle.puckreader.specs.declared.PuckReading.{PuckReading}
@@ -41,16 +41,16 @@ abbrev pub StepPromise : PuckReader → ℕ → PuckRead → Type 0
 StepPromise r w answer = outcome answer ≡ outcome (stepOf r w)
 
 -- a long read: 6 before all, and then the line
-unfoldable pub readOf : PuckReader → List ℕ → List ℤ → Long PuckReader ℤ
-readOf r words out = cond (readers.good r) (lineOf r words out) (stopped badState r out)
+abbrev pub readOf : PuckReader → List ℕ → List ℤ → Long
+readOf r words out = call readsLine r words out
+
+abbrev pub ReadPromise : PuckReader → List ℕ → List ℤ → PuckReading → List ℤ → Type 0
+ReadPromise r words before answer after = whole answer after ≡ readOf r words before
 
 -- 6 leaves all as it was, with counts of 0; "except 4 in a long read, which returns the reader, reports and counts as they stand before the bad word"
-abbrev pub beforeBad : PuckReader → List ℕ → List ℤ → PuckReading → Long PuckReader ℤ
+abbrev pub beforeBad : PuckReader → List ℕ → List ℤ → PuckReading → Long
 beforeBad r words out answer = withRefusal badWord (readOf r (take (answer .taken) words) out)
 
 abbrev pub ReadRefusal : PuckReader → List ℕ → List ℤ → PuckReading → List ℤ → Type 0
 ReadRefusal r words before answer after =
-    RefusesRightly (λ (l : Long PuckReader ℤ). l .refusal) (stopped badState r before ∷ beforeBad r words before answer ∷ []) (whole answer after)
-
-abbrev pub ReadPromise : PuckReader → List ℕ → List ℤ → PuckReading → List ℤ → Type 0
-ReadPromise r words before answer after = whole answer after ≡ readOf r words before
+    RefusesRightly (λ (l : Long). l .refusal) (stopped readsLine badState r before ∷ beforeBad r words before answer ∷ []) (whole answer after)

@@ -8,7 +8,8 @@ ghost use lib.Dec.{leb};
 ghost use lib.IntN.{pos};
 ghost use lib.ListN.{length, drop};
 ghost use Rattle.vsxxx.specs.Reports.{movement, self-test, sixOf};
-ghost use Rattle.puckreader.specs.Line.{whole, lineOf, Begins};
+ghost use Rattle.fold.specs.Calls.{line};
+ghost use Rattle.puckreader.specs.Line.{whole, readsLine, Begins};
 ghost use Rattle.puckreader.specs.Good.{good};
 use crate::PuckAnswer;
 use crate::PuckReader;
@@ -122,7 +123,7 @@ impl PuckReader {
     // The words of a line, one by one. What is left of it, from the next word on, is handed over with the reader that came back and the places that are left.
     pub(crate) fn line(self, words: &[u16], out: &mut [i16]) -> PuckReading
         requires { ⌜ good self ≡ true ⌝ }
-        ensures { λ r. ⌜ whole r (now (out .exit)) ≡ lineOf self (now (words .entry)) (now (out .entry)) ⌝ }
+        ensures { λ r. ⌜ whole r (now (out .exit)) ≡ line readsLine self (now (words .entry)) (now (out .entry)) ⌝ }
     {
         let mut r = self;
         let mut at: usize = 0;

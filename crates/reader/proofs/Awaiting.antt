@@ -9,6 +9,7 @@ use lib.ListN.{length}
 use lib.IntN.{ℤ}
 use borrow.Author.Tests.{eqb-false}
 use Rattle.fold.specs.Fold.{written, run}
+use Rattle.fold.specs.Calls.{Counts, line}
 use Rattle.fold.proofs.Laws.{by-words}
 use Rattle.frames.specs.Words.{silence}
 use Rattle.wire.specs.Line.{letterOf, namedBy, markedBy, known}
@@ -16,7 +17,7 @@ use Rattle.wire.specs.declared.Format.the-variants.{FiveByte}
 use Rattle.reader.specs.State.{fresh}
 use Rattle.reader.specs.Good.{good}
 use Rattle.reader.specs.Rules.{wordOf}
-use Rattle.reader.specs.Line.{Long, reads, lineOf}
+use Rattle.reader.specs.Line.{Long, reads}
 use Rattle.reader.specs.Counts.{reportsIn, handedOut}
 use Rattle.reader.specs.Promises.{FreshPromise, ReadPromise, freshOf}
 use Rattle.reader.specs.Runs.{stepsOf, StepsPromise, answers, hasSilence}
@@ -28,7 +29,7 @@ use Rattle.numbers.proofs.Choices.{neither}
 use Rattle.numbers.proofs.Tested.{holds}
 use Rattle.reader.proofs.Word.{dropping-reports, by-word, word-format}
 use Rattle.reader.proofs.Keeps.{word-good}
-use Rattle.reader.proofs.Counted.{empty, reports-first, five-each}
+use Rattle.reader.proofs.Counted.{empty, reports-first, five-each, sum-is}
 use Rattle.reader.proofs.Permitted.{steps-are}
 use Rattle.reader.proofs.Goodness.{step-word, read-line, fresh-is-good}
 
@@ -106,10 +107,10 @@ pub nothing-read-before-silence : (letter : ℕ) (a : NewReader) (words : List �
     → hasSilence words ≡ false
     → ReadPromise (a .reader) words out b after
     → (b .reports ≡ 0) × (after ≡ out)
-unfolding lineOf
+unfolding line
 nothing-read-before-silence letter a words out b after m e n p =
     let waits = fresh-waits letter a m e in
     let i = p ∙ read-line (a .reader) words out (waits .is-good) in
     let found = run reads (a .reader) words (length out) .answers in
     let none = line-waits words (a .reader) (length out) waits n in
-    (ap (λ (l : Long). l .reading .reports) i ∙ none, ap (λ (l : Long). l .out) i ∙ rw (empty (written reads found) (five-each found ∙ omega (arith, none))))
+    (ap (λ (l : Long). l .counts .reports) i ∙ (ap (λ (k : Counts). k .reports) (sum-is found) ∙ none), ap (λ (l : Long). l .out) i ∙ rw (empty (written reads found) (five-each found ∙ omega (arith, none))))

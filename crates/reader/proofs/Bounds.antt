@@ -1,21 +1,23 @@
 -- How far a long read goes: no further than the words, the places and the bytes that there are.
 use Prim.Native.Nat.{ℕ, _+_, _*_, _≤_}
-use mathlib.Core.Path.{ap}
+use mathlib.Core.Path.{_∙_, ap}
 use mathlib.Core.List.{List}
 use native.Mathlib.Omega.{arith}
 use lib.IntN.{ℤ}
 use lib.ListN.{length}
 use Rattle.frames.specs.Words.{isByte}
 use Rattle.fold.specs.Fold.{run}
+use Rattle.fold.specs.Calls.{sum, line}
 use Rattle.fold.proofs.Laws as fold
+use Rattle.fold.proofs.Calls.{call-line, by-good}
+use Rattle.fold.proofs.Calls as calls
 use Rattle.numbers.proofs.Choices.{cases}
-use Rattle.reader.specs.Good.{good}
-use Rattle.reader.specs.Line.{Long, reads, lineOf}
-use Rattle.reader.specs.Counts.{byteIn, droppedAmong}
-use Rattle.reader.specs.Promises.{ReadPromise, readOf}
+use Rattle.reader.specs.Line.{reading, reads, readsLine}
+use Rattle.reader.specs.Counts.{byteIn}
+use Rattle.reader.specs.Promises.{ReadPromise}
 use Rattle.reader.specs.declared.Reader.{Reader}
 use Rattle.reader.specs.declared.Reading.{Reading}
-use Rattle.reader.proofs.Counted.{five-each}
+use Rattle.reader.proofs.Counted.{lawful}
 use Rattle.reader.proofs.Word.{word-kept}
 
 -- a long read takes no more words than there are, writes no more reports than have room, and drops no more bytes than it took and had kept
@@ -28,21 +30,20 @@ pub record Within (r : Reader) (words : List ℕ) (out : List ℤ) (a : Reading)
 pub one-byte : (w : ℕ) → byteIn w ≤ 1
 one-byte w = cases (λ n. n ≤ 1) (isByte w) (λ _. omega arith) (λ _. omega arith)
 
-pub line-within : (words : List ℕ) (r : Reader) (out : List ℤ) → Within r words out (lineOf r words out .reading)
-unfolding lineOf droppedAmong
-line-within words r out =
-    let answers = run reads r words (length out) .answers in
-    let bounds = fold.within reads words r (length out) in
-    record {
-      some = bounds .0;
-      room = omega (arith, bounds .1, five-each answers);
-      few = fold.over-taken reads (λ r words answers next. droppedAmong answers + next .count ≤ length answers + r .count) (λ r. omega arith)
-          (λ r w words answers next z ih. omega (arith, ih, word-kept r w z, one-byte w)) words r (length out);
-    }
+-- no more bytes are dropped than were taken and had been kept
+pub dropped-few : (words : List ℕ) (r : Reader) (room : ℕ) → let f = run reads r words room in sum readsLine (f .answers) .dropped + f .next .count ≤ length (f .answers) + r .count
+unfolding sum
+dropped-few words r room =
+    fold.over-taken reads (λ r words answers next. sum readsLine answers .dropped + next .count ≤ length answers + r .count) (λ r. omega arith)
+    (λ r w words answers next z ih. omega (arith, ih, word-kept r w z, one-byte w)) words r room
 
 pub within : (r : Reader) (words : List ℕ) (out : List ℤ) (a : Reading) (after : List ℤ) → ReadPromise r words out a after → Within r words out a
-unfolding readOf
+unfolding line
 within r words out a after e =
-    rw (ap (λ (l : Long). l .reading) e)
-    (cases (λ (l : Long). Within r words out (l .reading)) (good r) (λ _. line-within words r out)
-    (λ _. record { some = omega arith; room = omega arith; few = omega arith }))
+    let n = calls.within readsLine lawful r words out e in
+    record {
+      some = n .0;
+      room = n .1;
+      few = by-good readsLine lawful r (λ g. rw (ap reading (e ∙ call-line readsLine lawful r words out g)) (dropped-few words r (length out)))
+          (λ g. rw (ap reading (calls.bad-state readsLine lawful r words out e g)) (omega arith));
+    }

@@ -11,11 +11,10 @@ use Rattle.wire.specs.Reading.{readS, readV, readT, readU, reportBy, plusZero, 
 use Rattle.reader.specs.Good.{placed, good}
 use Rattle.reader.specs.Rules.{entered, dropping, keep, start, stray, lose, byteOf, breakOf, silenceOf, wordOf}
 use Rattle.reader.specs.Counts.{droppedAmong}
-use Rattle.reader.specs.Line.{lineOf}
-use Rattle.reader.specs.Telling.{tellingOf}
-use Rattle.reader.specs.Promises.{freshOf, stepOf, readOf, answersOf}
+use Rattle.fold.specs.Calls.{sum, line, call}
+use Rattle.reader.specs.Promises.{freshOf, stepOf}
 use Rattle.reader.specs.Runs.{stepsOf}
 
 unfoldable pub computing : Unit {0}
-unfolding freshOf stepOf readOf answersOf stepsOf lineOf tellingOf run droppedAmong good placed wordOf byteOf keep start stray lose breakOf silenceOf dropping entered namedBy sizeBy markedBy known lineWords fitsBy fitsAt fitsFirst fitsLater like reportBy readS readV readT readU plusZero settledBy bytesS bytesT bytesU holds accepted signed twos untwos number bits bit
+unfolding freshOf stepOf call stepsOf line sum run droppedAmong good placed wordOf byteOf keep start stray lose breakOf silenceOf dropping entered namedBy sizeBy markedBy known lineWords fitsBy fitsAt fitsFirst fitsLater like reportBy readS readV readT readU plusZero settledBy bytesS bytesT bytesU holds accepted signed twos untwos number bits bit
 computing = tt

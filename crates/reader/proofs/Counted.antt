@@ -1,19 +1,20 @@
--- Answers, one behind the other: their reports, numbers and dropped bytes, and what a long read gives back for them.
+-- What answers count, added up: their reports and dropped bytes, and the numbers that they write.
 use Prim.Native.Nat.{_+_, _*_}
-use mathlib.Core.Path.{_≡_, refl, _∙_}
-use mathlib.Core.List.{List, [], _∷_, _++_, append-assoc}
-use native.Mathlib.Nat.{add-zero}
+use mathlib.Core.Path.{_≡_, refl}
+use mathlib.Core.List.{List, [], _∷_}
 use native.Mathlib.Omega.{arith}
-use lib.ListN.{length, drop, length-append}
-use lib.Seq.{drop-drop}
-use lib.IntN.{ℤ}
-use Rattle.fold.specs.Fold.{Ran, behind, written}
-use Rattle.fold.proofs.Laws.{written-append}
-use Rattle.reader.specs.Line.{reads, counted, joined}
+use lib.ListN.{length, length-append}
+use Rattle.fold.specs.Fold.{written}
+use Rattle.fold.specs.Calls.{counts, sum, Lawful}
+use Rattle.fold.proofs.Calls.{reports-lawful}
+use Rattle.wire.specs.Numbers.{badState}
+use Rattle.reader.specs.Good.{good}
+use Rattle.reader.specs.Line.{reads, readsLine}
+use Rattle.reader.specs.Telling.{tellsLine}
 use Rattle.reader.specs.Counts.{reportsIn, droppedIn, writtenIn, handedOut, numbers, droppedAmong}
-use Rattle.reader.specs.declared.Reader.{Reader}
 use Rattle.reader.specs.declared.Answer.{Answer}
 use Rattle.reader.specs.declared.Answer.the-variants as answer
+use Rattle.reader.proofs.Keeps.{word-good}
 
 pub empty : {A : Type 0} (l : List A) → length l ≡ 0 → l ≡ []
 empty [] e = refl
@@ -41,24 +42,24 @@ numbers-written (answer.Nothing ∷ l) = numbers-written l
 numbers-written (answer.Report p ∷ l) = rw (numbers-written l)
 numbers-written (answer.Dropped k ∷ l) = numbers-written l
 
--- answers, and then others
-pub reports-both : (l k : List Answer) → length (handedOut (l ++ k)) ≡ length (handedOut l) + length (handedOut k)
-reports-both [] k = omega arith
-reports-both (a ∷ l) k = omega (arith, reports-first a (l ++ k), reports-first a l, reports-both l k)
+-- they add up as the laws of long calls ask
+pub lawful : Lawful readsLine
+lawful = reports-lawful reads 5 reportsIn droppedIn good badState five-in (λ r w g. word-good r g w)
 
-pub dropped-both : (l k : List Answer) → droppedAmong (l ++ k) ≡ droppedAmong l + droppedAmong k
-unfolding droppedAmong
-dropped-both [] k = omega arith
-dropped-both (a ∷ l) k = omega (arith, dropped-both l k)
+pub told-lawful : Lawful tellsLine
+told-lawful =
+    record {
+      plus-none = λ k. omega arith;
+      none-plus = λ k. omega arith;
+      plus-plus = λ i j k. omega arith;
+      none-places = refl;
+      plus-places = λ j k. refl;
+      each = λ a. refl;
+      stays = λ r w g. word-good r g w;
+    }
 
-pub counted-both : (l : List Answer) (f : Ran Reader Answer) (out : List ℤ)
-    → counted (behind l f) out ≡ joined (length l) (length (handedOut l)) (droppedAmong l) (written reads l) (counted f (drop (length (written reads l)) out))
-counted-both l f out =
-    rw (length-append l (f .answers), reports-both l (f .answers), dropped-both l (f .answers), written-append reads l (f .answers), length-append (written reads l) (written reads (f .answers)), drop-drop (length (written reads (f .answers))) (length (written reads l)) out, append-assoc)
-
-pub counted-first : (a : Answer) (f : Ran Reader Answer) (out : List ℤ)
-    → counted (behind (a ∷ []) f) out ≡ joined 1 (reportsIn a) (droppedIn a) (writtenIn a) (counted f (drop (5 * reportsIn a) out))
-unfolding droppedAmong
-counted-first answer.Nothing f out = counted-both (answer.Nothing ∷ []) f out
-counted-first (answer.Report p) f out = counted-both (answer.Report p ∷ []) f out
-counted-first (answer.Dropped k) f out = counted-both (answer.Dropped k ∷ []) f out ∙ rw (add-zero k)
+-- the same of the list of reports
+pub sum-is : (l : List Answer) → sum readsLine l ≡ counts (length (handedOut l)) (droppedAmong l)
+unfolding sum droppedAmong
+sum-is [] = refl
+sum-is (a ∷ l) = rw (sum-is l, reports-first a l)

@@ -9,15 +9,18 @@ use lib.ListN.{length, take}
 use lib.Dec.{eqb}
 use lib.IntN.{ℤ}
 use borrow.Author.Tests.{eqb-false}
+use Rattle.fold.specs.Fold.{run}
+use Rattle.fold.specs.Calls.{sum, line}
 use Rattle.fold.proofs.Laws.{over-taken}
+use Rattle.fold.proofs.Calls.{call-line, by-good, bad-state}
 use Rattle.frames.specs.Words.{break, silence}
 use Rattle.wire.specs.Line.{sizeBy}
 use Rattle.wire.specs.Numbers.{badState}
 use Rattle.reader.specs.Good.{good}
 use Rattle.reader.specs.Rules.{dropping, breakOf, silenceOf, wordOf}
-use Rattle.reader.specs.Line.{Long, reads, lineOf}
-use Rattle.reader.specs.Counts.{byteIn, bytesIn, reportsIn, droppedIn, handedOut, droppedAmong}
-use Rattle.reader.specs.Promises.{StepPromise, ReadPromise, stepOf, readOf}
+use Rattle.reader.specs.Line.{reading, reads, readsLine}
+use Rattle.reader.specs.Counts.{byteIn, bytesIn, reportsIn, droppedIn}
+use Rattle.reader.specs.Promises.{StepPromise, ReadPromise, stepOf}
 use Rattle.reader.specs.declared.Reader.{Reader}
 use Rattle.reader.specs.declared.Read.{Read}
 use Rattle.reader.specs.declared.Reading.{Reading}
@@ -25,7 +28,7 @@ use Rattle.reader.specs.declared.Answer.{Answer}
 use Rattle.reader.specs.declared.Answer.the-variants.{Nothing, Report, Dropped}
 use Rattle.numbers.proofs.Choices.{cases}
 use Rattle.reader.proofs.Word.{by-word, Kept, dropping-is, word-kept, word-format}
-use Rattle.reader.proofs.Counted.{reports-first}
+use Rattle.reader.proofs.Counted.{lawful}
 use Rattle.reader.proofs.Permitted.{step-is}
 use Rattle.reader.proofs.Goodness.{step-word}
 
@@ -37,28 +40,23 @@ step-counts r w s e =
     rw (step-is r w s e)
     (cases (Kept r (byteIn w)) (good r) (λ _. word-kept r w) (λ _ z. absurd (eqb-false badState 0 refl z)))
 
--- a line, over the words taken
-abbrev Counted : ℕ → Reader → List ℕ → Reading → Type 0
-Counted size r words a = bytesIn (take (a .taken) words) + r .count ≡ size * a .reports + a .dropped + a .next .count
-
-pub line-counts : (size : ℕ) (words : List ℕ) (r : Reader) (out : List ℤ) → sizeBy (r .format) ≡ size → Counted size r words (lineOf r words out .reading)
-unfolding lineOf bytesIn droppedAmong
-line-counts size words r out =
+-- a long read, over the words taken, also at a stop for room and at a bad word
+line-counts : (size : ℕ) (words : List ℕ) (r : Reader) (room : ℕ) → sizeBy (r .format) ≡ size → let f = run reads r words room in
+    bytesIn (take (length (f .answers)) words) + r .count ≡ size * sum readsLine (f .answers) .reports + sum readsLine (f .answers) .dropped + f .next .count
+unfolding bytesIn sum
+line-counts size =
     over-taken reads
-    (λ r words answers next. sizeBy (r .format) ≡ size → bytesIn words + r .count ≡ size * length (handedOut answers) + droppedAmong answers + next .count)
+    (λ r words answers next. sizeBy (r .format) ≡ size → bytesIn words + r .count ≡ size * sum readsLine answers .reports + sum readsLine answers .dropped + next .count)
     (λ r z. omega arith)
-    (λ r w words answers next z ih e.
-    rw (reports-first (wordOf r w .answer) answers) (omega (arith, rw e at (word-kept r w z), ih (ap sizeBy (word-format r w) ∙ e))))
-    words r (length out)
+    (λ r w words answers next z ih e. omega (arith, rw e at (word-kept r w z), ih (ap sizeBy (word-format r w) ∙ e)))
 
--- a long read, also at a stop for room and at a bad word
 pub read-counts : (r : Reader) (words : List ℕ) (out : List ℤ) (a : Reading) (after : List ℤ) → ReadPromise r words out a after
     → bytesIn (take (a .taken) words) + r .count ≡ sizeBy (r .format) * a .reports + a .dropped + a .next .count
-unfolding readOf bytesIn
+unfolding line bytesIn
 read-counts r words out a after e =
-    rw (ap (λ (l : Long). l .reading) e)
-    (cases (λ (l : Long). Counted (sizeBy (r .format)) r words (l .reading)) (good r)
-    (λ _. line-counts (sizeBy (r .format)) words r out refl) (λ _. omega arith))
+    by-good readsLine lawful r
+    (λ g. rw (ap reading (e ∙ call-line readsLine lawful r words out g)) (line-counts (sizeBy (r .format)) words r (length out) refl))
+    (λ g. rw (ap reading (bad-state readsLine lawful r words out e g)) (omega arith))
 
 -- "where none is dropped the answer is nothing": never "dropped 0"
 abbrev SomeDropped : Answer → Type 0

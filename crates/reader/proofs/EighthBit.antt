@@ -13,6 +13,7 @@ use Rattle.numbers.proofs.Choices.{cases}
 use Rattle.numbers.proofs.Rows.{bits-below}
 use Rattle.numbers.proofs.Tested.{agree, equal}
 use Rattle.fold.specs.Fold.{run}
+use Rattle.fold.specs.Calls.{line, call}
 use Rattle.frames.specs.Words.{isByte}
 use Rattle.frames.specs.Passages.{Passage, UnderWay, passageWords, partWords}
 use Rattle.frames.proofs.Words.{passing, line-passes}
@@ -21,7 +22,7 @@ use Rattle.wire.specs.Places.{like, fitsFirst, fitsLater, fitsAt, fitsBy}
 use Rattle.wire.specs.Messages.{Message, messageBytes, SoundIn, SoundEnd}
 use Rattle.wire.specs.declared.Format.the-variants.{Microsoft}
 use Rattle.reader.specs.Rules.{entered, wordOf}
-use Rattle.reader.specs.Line.{Long, reads, lineOf}
+use Rattle.reader.specs.Line.{Long, reading, reads}
 use Rattle.reader.specs.Counts.{writtenIn}
 use Rattle.reader.specs.Good.{good}
 use Rattle.reader.specs.Promises.{ReadPromise, stepOf, readOf}
@@ -71,7 +72,7 @@ same-run (stays {w} t) r room f = rw (same-run t (wordOf r w .next) (room - leng
 same-run (turns {w} byte t) r room f = rw (word-turned w byte r f, same-run t (wordOf r w .next) (room - length (writtenIn (wordOf r w .answer))) (word-format r w ∙ f))
 
 same-read : {u v : List ℕ} → TurnedOver u v → (r : Reader) (out : List ℤ) → r .format ≡ letterOf Microsoft → readOf r u out ≡ readOf r v out
-unfolding readOf lineOf
+unfolding call line
 same-read t r out f = rw (same-run t r (length out) f)
 
 -- the same answers, and the same readers after them
@@ -83,7 +84,7 @@ pub turned-read : (r : Reader) {u v : List ℕ} (out : List ℤ) (a b : Reading)
     → ReadPromise r u out a x → ReadPromise r v out b y → (a ≡ b) × (x ≡ y)
 turned-read r out a b x y f t p q =
     let is = p ∙ same-read t r out f ∙ sym q in
-    (ap (λ (l : Long). l .reading) is, ap (λ (l : Long). l .out) is)
+    (ap reading is, ap (λ (l : Long). l .out) is)
 
 -- "64 to 127 and 192 to 255": by bit 6 a byte of V, as it enters, is valid at the first place, or else at a later one
 pub first-by-bit-6 : (b : ℕ) → b ≤ 255 → fitsBy (letterOf Microsoft) 0 (entered (letterOf Microsoft) b) ≡ bit 6 b

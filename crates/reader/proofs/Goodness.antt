@@ -6,14 +6,16 @@ use mathlib.Core.List.{List}
 use lib.ListN.{length}
 use lib.IntN.{ℤ}
 use Rattle.fold.specs.Fold.{Machine, run}
+use Rattle.fold.specs.Calls.{line}
 use Rattle.fold.proofs.Laws.{stays}
+use Rattle.fold.proofs.Calls.{call-line}
 use Rattle.wire.specs.Line.{letterOf, namedBy, known}
 use Rattle.wire.specs.declared.Format.the-variants.{FiveByte}
 use Rattle.reader.specs.Good.{good}
 use Rattle.reader.specs.Rules.{wordOf}
 use Rattle.reader.specs.Counts.{writtenIn}
-use Rattle.reader.specs.Line.{Long, lineOf}
-use Rattle.reader.specs.Telling.{Told, toldIn, tellingOf}
+use Rattle.reader.specs.Line.{Long, readsLine}
+use Rattle.reader.specs.Telling.{Told, toldIn, tellsLine}
 use Rattle.reader.specs.Promises.{FreshPromise, StepPromise, ReadPromise, AnswersPromise, freshOf, stepOf, readOf, answersOf}
 use Rattle.reader.specs.declared.Reader.{Reader}
 use Rattle.reader.specs.declared.NewReader.{NewReader}
@@ -24,6 +26,7 @@ use Rattle.reader.specs.declared.Answer.{Answer}
 use Rattle.numbers.proofs.Choices.{cases}
 use Rattle.reader.proofs.Word.{word-format}
 use Rattle.reader.proofs.Keeps.{fresh-good, word-good}
+use Rattle.reader.proofs.Counted.{lawful, told-lawful}
 use Rattle.reader.proofs.Permitted.{step-is}
 
 -- to a good reader a step is the word
@@ -32,13 +35,11 @@ unfolding stepOf
 step-word r w g = rw g
 
 -- and a read is the line
-pub read-line : (r : Reader) (words : List ℕ) (out : List ℤ) → good r ≡ true → readOf r words out ≡ lineOf r words out
-unfolding readOf
-read-line r words out g = rw g
+pub read-line : (r : Reader) (words : List ℕ) (out : List ℤ) → good r ≡ true → readOf r words out ≡ line readsLine r words out
+read-line = call-line readsLine lawful
 
-pub answers-line : (r : Reader) (words : List ℕ) (out : List ℤ) → good r ≡ true → answersOf r words out ≡ tellingOf r words out
-unfolding answersOf
-answers-line r words out g = rw g
+pub answers-line : (r : Reader) (words : List ℕ) (out : List ℤ) → good r ≡ true → answersOf r words out ≡ line tellsLine r words out
+answers-line = call-line tellsLine told-lawful
 
 pub fresh-is-good : (letter : ℕ) (a : NewReader) → FreshPromise letter a → good (a .reader) ≡ true
 unfolding freshOf known namedBy
@@ -58,14 +59,10 @@ run-stays-good : (writes : Answer → List ℤ) (words : List ℕ) (r : Reader) 
 run-stays-good writes words r room g =
     stays (writing writes) (λ (q : Reader). (good q ≡ true) × (q .format ≡ r .format)) (λ q w h. (word-good q (h .0) w, word-format q w ∙ h .1)) words r room (g, refl)
 
-pub line-stays-good : (words : List ℕ) (r : Reader) (out : List ℤ) → good r ≡ true → (good (lineOf r words out .reading .next) ≡ true) × (lineOf r words out .reading .next .format ≡ r .format)
-unfolding lineOf
-line-stays-good words r out g = run-stays-good writtenIn words r (length out) g
-
 pub read-stays-good : (r : Reader) (words : List ℕ) (out : List ℤ) (a : Reading) (after : List ℤ) → good r ≡ true → ReadPromise r words out a after → (good (a .next) ≡ true) × (a .next .format ≡ r .format)
-read-stays-good r words out a after g e =
-    rw (ap (λ (l : Long). l .reading .next) (e ∙ read-line r words out g)) (line-stays-good words r out g)
+unfolding line
+read-stays-good r words out a after g e = rw (ap (λ (l : Long). l .next) (e ∙ read-line r words out g)) (run-stays-good writtenIn words r (length out) g)
 
 pub answers-stay-good : (r : Reader) (words : List ℕ) (out : List ℤ) (a : Answers) (after : List ℤ) → good r ≡ true → AnswersPromise r words out a after → (good (a .next) ≡ true) × (a .next .format ≡ r .format)
-unfolding tellingOf
-answers-stay-good r words out a after g e = rw (ap (λ (t : Told). t .answers .next) (e ∙ answers-line r words out g)) (run-stays-good toldIn words r (length out) g)
+unfolding line
+answers-stay-good r words out a after g e = rw (ap (λ (t : Told). t .next) (e ∙ answers-line r words out g)) (run-stays-good toldIn words r (length out) g)

@@ -1,28 +1,32 @@
 -- The long read's loop: where it stands, the first word of what is left, and how it goes on and ends.
-use mathlib.Core.Path.{_≡_, refl, sym, _∙_, ap, subst}
+use mathlib.Core.Path.{_≡_, refl, _∙_, ap, subst}
 use mathlib.Core.Bool.{Bool, true, false, _&&_}
 use mathlib.Core.List.{List, [], _∷_, _++_}
 use Prim.Native.Nat.{ℕ, zero, suc, _+_, _-_, _*_, _/_, _<_, _≤_}
 use native.Mathlib.Omega.{arith}
 use native.Mathlib.Nat.{add-zero, zero-add, zero-mul, suc-mul, mul-one, mul-zero}
-use lib.ListN.{length, getD, take, drop, set, length-drop, take-append-drop, drop-of-length-le}
-use lib.Seq.{sets-eq, drop-cons, getD-drop}
+use lib.ListN.{length, getD, take, drop, set, take-append-drop, drop-of-length-le}
+use lib.Seq.{sets-eq, getD-drop}
 use lib.IntN.{ℤ, pos}
 use lib.Dec.{leb, eqb}
 use borrow.Author.Tests.{eqb-true, eqb-false, eq-eqb, leb-true, leb-false, le-leb}
 use borrow.Rule.Slice.PartMut.{putMid}
 use Rattle.numbers.proofs.Tested.{left, right}
-use Rattle.fold.specs.Fold.{ran, behind, run}
-use Rattle.fold.proofs.Laws.{taken, stops}
-use Rattle.fold.proofs.Parts.{rest-is, back, none, one, joins, part-within, part-room, part-long, part-left, part-none, part-all, part-ends}
+use Rattle.fold.specs.Fold.{behind, run}
+use Rattle.fold.specs.Calls.{Counts, sum, line}
+use Rattle.fold.specs.Calls as calls
+use Rattle.fold.proofs.Laws.{within}
+use Rattle.fold.proofs.Parts.{rest-is, back, part-long, part-none}
+use Rattle.fold.proofs.Calls.{sum-append}
+use Rattle.fold.proofs.Loops as loops
 use Rattle.frames.specs.Words.{isByte}
 use Rattle.wire.specs.Line.{markedBy}
 use Rattle.wire.specs.declared.Report.{Report}
 use Rattle.reader.specs.State.{ready, fiveOf}
 use Rattle.reader.specs.Good.{good}
 use Rattle.reader.specs.Rules.{answered, byteOf, dropping, silenceOf, wordOf}
-use Rattle.reader.specs.Counts.{reportsIn, droppedIn, writtenIn, droppedAmong}
-use Rattle.reader.specs.Line.{Long, whole, reads, lineOf}
+use Rattle.reader.specs.Counts.{reportsIn, droppedIn, writtenIn}
+use Rattle.reader.specs.Line.{Long, whole, reading, reads, readsLine}
 use Rattle.reader.specs.Parts.{Stands, Begins, firstOf, Alike, AwaitsBehind}
 use Rattle.reader.specs.declared.Reader.{Reader}
 use Rattle.reader.specs.declared.Read.{Read}
@@ -30,41 +34,28 @@ use Rattle.reader.specs.declared.Reading.{Reading}
 use Rattle.reader.specs.declared.Answer.{Answer}
 use Rattle.reader.specs.declared.Answer.the-variants.{Nothing, Dropped}
 use Rattle.reader.proofs.Word.{word-format, lost-awaits}
-use Rattle.reader.proofs.Keeps.{word-good}
-use Rattle.reader.proofs.Counted.{empty, five-in, five-each, reports-first, reports-both, dropped-both}
-use Rattle.reader.proofs.Bounds.{line-within}
+use Rattle.reader.proofs.Counted.{lawful, five-in}
+use Rattle.reader.proofs.Bounds.{dropped-few}
 
 -- five stores at the front
 pub put-is : (l : List ℤ) (p : Report) (a b c d e : ℤ) → 5 ≤ length l → a ≡ pos (p .buttons) → b ≡ p .x1 → c ≡ p .y1 → d ≡ p .x2 → e ≡ p .y2 → set (set (set (set (set l 0 a) 1 b) 2 c) 3 d) 4 e ≡ fiveOf p ++ drop 5 l
 put-is l p a b c d e h ea eb ec ed ee = sets-eq (a ∷ b ∷ c ∷ d ∷ e ∷ []) l 0 h ∙ rw (ea, eb, ec, ed, ee)
 
 pub starts : (r : Reader) (words : List ℕ) (out : List ℤ) → Stands r words out r 0 0 0 0 out
-unfolding droppedAmong
-starts r words out = record { answers = []; part = none reads r words out; reports-are = refl; dropped-are = refl }
+starts = loops.stands-none readsLine lawful
 
 module _ {r : Reader} (words : List ℕ) (out : List ℤ) {s : Read} (sound : good r ≡ true) (some : 0 < length words) (is : s ≡ wordOf r (getD words 0 0)) where
   -- its first word stops the read, or is taken
-  pub stopping : (s .refusal ≡ 0 → length out < length (writtenIn (s .answer))) → Begins r words out (record { refusal = s .refusal; next = r; taken = 0; reports = 0; dropped = 0 }) out
-  unfolding run
-  stopping h = record { stands = starts r words out; stops = λ _. rw (drop-cons words 0 0 some, is, stops reads r (getD words 0 0) (length out) (rw is at h)); sound = sound; same-format = refl }
+  pub stopping : (s .refusal ≡ 0 → length out < 5 * reportsIn (s .answer)) → Begins r words out (record { refusal = s .refusal; next = r; taken = 0; reports = 0; dropped = 0 }) out
+  stopping h =
+      let b = loops.stopping readsLine lawful r words out sound some (rw is at h) in
+      rw is (record { stands = b .stands; stops = b .stops; sound = b .sound; same-format = refl })
 
-  pub taking : s .refusal ≡ 0 → length (writtenIn (s .answer)) ≤ length out
-      → Begins r words out (record { refusal = 0; next = s .next; taken = 1; reports = reportsIn (s .answer); dropped = droppedIn (s .answer) }) (writtenIn (s .answer) ++ drop (length (writtenIn (s .answer))) out)
-  unfolding droppedAmong
+  pub taking : s .refusal ≡ 0 → 5 * reportsIn (s .answer) ≤ length out
+      → Begins r words out (record { refusal = 0; next = s .next; taken = 1; reports = reportsIn (s .answer); dropped = droppedIn (s .answer) }) (writtenIn (s .answer) ++ drop (5 * reportsIn (s .answer)) out)
   taking z h =
-      let w = getD words 0 0 in
-      let p = one reads r w (drop 1 words) out (taken reads r w (length out) (rw is at z) (rw is at h)) in
-      record {
-        stands = record {
-          answers = s .answer ∷ [];
-          part = rw (drop-cons words 0 0 some, is, ← five-in (wordOf r w .answer)) p;
-          reports-are = omega (arith, reports-first (s .answer) []);
-          dropped-are = omega arith;
-        };
-        stops = λ e. absurd (omega arith);
-        sound = rw is (word-good r sound w);
-        same-format = rw is (word-format r w);
-      }
+      let b = loops.taking readsLine lawful r words out sound some (rw is at z) (rw is at h) in
+      rw is (record { stands = b .stands; stops = b .stops; sound = b .sound; same-format = word-format r (getD words 0 0) })
 
 -- where it was a byte that an unmarked format dropped, a silence is awaited
 pub awaited : (r : Reader) (w : ℕ) {s : Read} → s ≡ wordOf r w → markedBy (r .format) ≡ false → isByte w ≡ true → (droppedIn (s .answer) ≡ 0 → ⊥) → s .next .awaiting ≡ true
@@ -80,42 +71,21 @@ pub record Far (r : Reader) (words : List ℕ) (before : List ℤ) (taken used r
 
 module _ {words : List ℕ} {out₀ out : List ℤ} {r₀ r : Reader} {at used reports dropped : ℕ} (s : Stands r₀ words out₀ r at used reports dropped out) where
   pub far : Far r₀ words out₀ at used reports dropped out
-  unfolding lineOf
   far =
-      let l = s .answers in
       let later = run reads r (drop at words) (length out₀ - used) .answers in
-      let b = rw (s .part .is) at (line-within words r₀ out₀) in
-      record {
-        within = part-within reads (s .part);
-        places = omega (arith, five-each l, s .part .places-are, s .reports-are);
-        room = part-room reads (s .part);
-        long = part-long reads (s .part);
-        few = omega (arith, b .few, b .some, dropped-both l later, s .dropped-are);
-      }
+      let d = rw (s .part .is) at (dropped-few words r₀ (length out₀)) in
+      let w = rw (s .part .is) at (within reads words r₀ (length out₀)) in
+      let both = ap (λ (k : Counts). k .dropped) (sum-append readsLine lawful (s .answers) later) in
+      let h = loops.stands-within readsLine lawful s in
+      record { within = h .0; places = h .3; room = h .1; long = h .2; few = omega (arith, d, w .0, both, ap (λ (k : Counts). k .dropped) (s .counts-are)) }
 
-  -- the read ends here
-  ends : (n : ℕ) → run reads r₀ words (length out₀) ≡ ran n r (s .answers)
-      → whole (record { refusal = n; next = r; taken = at; reports = reports; dropped = dropped }) out ≡ lineOf r₀ words out₀
-  unfolding lineOf
-  ends n e = rw (e, s .part .words-are, s .reports-are, s .dropped-are, s .part .wrote, s .part .places-are)
-
-  pub ends-all : length words ≤ at → whole (record { refusal = 0; next = r; taken = at; reports = reports; dropped = dropped }) out ≡ lineOf r₀ words out₀
-  ends-all h = ends 0 (part-all reads (s .part) h)
+  pub ends-all : length words ≤ at → whole (record { refusal = 0; next = r; taken = at; reports = reports; dropped = dropped }) out ≡ line readsLine r₀ words out₀
+  ends-all h = loops.ends-all readsLine lawful s h
 
   -- a part, and then a part of the rest
   then : {u : Reader} {taken places n d : ℕ} {last : List ℤ} → Stands r (drop at words) (drop used out) u taken places n d last
       → Stands r₀ words out₀ u (at + taken) (used + places) (reports + n) (dropped + d) (take used out ++ last)
-  then q =
-      record {
-        answers = s .answers ++ q .answers;
-        part = joins reads (s .part) (q .part);
-        reports-are = omega (arith, s .reports-are, q .reports-are, reports-both (s .answers) (q .answers));
-        dropped-are = omega (arith, s .dropped-are, q .dropped-are, dropped-both (s .answers) (q .answers));
-      }
-
-  -- where no word was taken before, the line stops where the rest does
-  pub stops-here : (n : ℕ) → run reads r (drop at words) (length out₀ - used) ≡ ran n r [] → at ≡ 0 → r ≡ r₀ → run reads r₀ words (length out₀) ≡ ran n r₀ []
-  stops-here n e z same = part-ends reads (s .part) n e ∙ rw (same, empty (s .answers) (sym (s .part .words-are) ∙ z))
+  then q = loops.stands-then readsLine lawful s q
 
   -- the rest as the code lends it, with the slice back
   pub on : {u : Reader} {taken places n d : ℕ} {last : List ℤ} → Stands r (take (length words - at) (drop at words)) (take (length out - used) (drop used out)) u taken places n d last
@@ -128,23 +98,23 @@ module _ {words : List ℕ} {out₀ out : List ℤ} {r₀ r : Reader} {at used r
   over q = rw (add-zero used, add-zero reports, take-append-drop used out) at (then (rw (rest-is words at) at q))
 
   module _ {t : Reading} {last : List ℤ} (b : Begins r (take (length words - at) (drop at words)) (take (length out - used) (drop used out)) t last) where
-    begins : Begins r (drop at words) (drop used out) t last
-    begins = rw (rest-is words at, rest-is out used) at b
+    begins : calls.Begins readsLine r (take (length words - at) (drop at words)) (take (length out - used) (drop used out)) (whole t last)
+    begins = record { stands = b .stands; stops = b .stops; sound = b .sound }
 
     -- it took no word: the slice is as it was, and the read ends
     module _ (z : t .taken ≡ 0) where
       pub unchanged : putMid used (length out - used) out last ≡ out
-      unchanged = rw (back out last used, part-none reads (begins .stands .part) z) (take-append-drop used out)
+      unchanged = loops.unchanged readsLine lawful s begins z
 
-      pub ends-before : whole (record { refusal = t .refusal; next = r; taken = at; reports = reports; dropped = dropped }) out ≡ lineOf r₀ words out₀
-      ends-before = ends (t .refusal) (part-ends reads (s .part) (t .refusal) (rw (part-left reads (s .part), length-drop used out₀) at (begins .stops z)))
+      pub ends-before : whole (record { refusal = t .refusal; next = r; taken = at; reports = reports; dropped = dropped }) out ≡ line readsLine r₀ words out₀
+      ends-before = loops.ends-before readsLine lawful s begins z
 
 -- the first word, by what it gives; and where it is all of the line
 module _ (r : Reader) (words : List ℕ) (out : List ℤ) {s : Read} (sound : good r ≡ true) (some : 0 < length words) (is : s ≡ wordOf r (getD words 0 0)) {t : Reading} {last : List ℤ} (e : whole t last ≡ firstOf r s out) where
   abbrev taken-one : Bool
-  taken-one = eqb (s .refusal) 0 && leb (length (writtenIn (s .answer))) (length out)
+  taken-one = eqb (s .refusal) 0 && leb (5 * reportsIn (s .answer)) (length out)
 
-  goes : taken-one ≡ true → Begins r words out (record { refusal = 0; next = s .next; taken = 1; reports = reportsIn (s .answer); dropped = droppedIn (s .answer) }) (writtenIn (s .answer) ++ drop (length (writtenIn (s .answer))) out)
+  goes : taken-one ≡ true → Begins r words out (record { refusal = 0; next = s .next; taken = 1; reports = reportsIn (s .answer); dropped = droppedIn (s .answer) }) (writtenIn (s .answer) ++ drop (5 * reportsIn (s .answer)) out)
   goes k = taking words out sound some is (eqb-true (s .refusal) 0 (left (eqb (s .refusal) 0) _ k)) (leb-true _ _ (right (eqb (s .refusal) 0) _ k))
 
   stays : taken-one ≡ false → Begins r words out (record { refusal = s .refusal; next = r; taken = 0; reports = 0; dropped = 0 }) out
@@ -154,16 +124,15 @@ module _ (r : Reader) (words : List ℕ) (out : List ℤ) {s : Read} (sound : go
   first-begins = go taken-one refl
     where
       go : (b : Bool) → taken-one ≡ b → Begins r words out t last × AwaitsBehind r words t
-      go true k = let i = rw k at e in rw (ap (λ (l : Long). l .reading) i, ap (λ (l : Long). l .out) i) (goes k, awaited r (getD words 0 0) is)
-      go false k = let i = rw k at e in rw (ap (λ (l : Long). l .reading) i, ap (λ (l : Long). l .out) i) (stays k, λ _ _ n. absurd (n refl))
+      go true k = let i = rw k at e in rw (ap reading i, ap (λ (l : Long). l .out) i) (goes k, awaited r (getD words 0 0) is)
+      go false k = let i = rw k at e in rw (ap reading i, ap (λ (l : Long). l .out) i) (stays k, λ _ _ n. absurd (n refl))
 
-  pub first-ends : length words ≡ 1 → whole t last ≡ lineOf r words out
-  unfolding starts
+  pub first-ends : length words ≡ 1 → whole t last ≡ line readsLine r words out
   first-ends one = go taken-one refl
     where
-      go : (b : Bool) → taken-one ≡ b → whole t last ≡ lineOf r words out
+      go : (b : Bool) → taken-one ≡ b → whole t last ≡ line readsLine r words out
       go true k = rw k at e ∙ ends-all (goes k .stands) (omega arith)
-      go false k = rw k at e ∙ ends (starts r words out) (s .refusal) (stays k .stops refl)
+      go false k = rw k at e ∙ loops.stops-at-once readsLine lawful r words out (s .refusal) (stays k .stops refl)
 
 -- words at the front of a line that lie between two: none yet, and one more
 pub none-alike : {low high : ℕ} {words : List ℕ} → Alike low high 0 words
@@ -183,12 +152,14 @@ module _ (r : Reader) (a : Answer) {low high : ℕ} (same : (w : ℕ) → low �
   passing w l h words room = let z : room - 0 ≡ room = omega arith in rw (same w l h, quiet, le-leb 0 room (omega arith), z)
 
   alike-stands : (n : ℕ) (words : List ℕ) (out : List ℤ) → Alike low high n words → Stands r words out r n 0 0 (n * droppedIn a) out
-  unfolding droppedAmong
+  unfolding sum
   alike-stands zero words out b = rw (zero-mul (droppedIn a)) (starts r words out)
   alike-stands (suc n) [] out b = absurd (omega (arith, b .within))
   alike-stands (suc n) (w ∷ words) out b =
       let rest = alike-stands n words out (record { within = omega (arith, b .within); between = λ i h. b .between (suc i) (omega arith) }) in
       let w-is = b .between 0 (omega arith) in
+      let none : reportsIn a ≡ 0 = omega (arith, five-in a, ap length quiet) in
+      let one-more : suc n * droppedIn a ≡ droppedIn a + n * droppedIn a = rw (suc-mul n (droppedIn a)) (omega arith) in
       record {
         answers = a ∷ rest .answers;
         part = record {
@@ -197,8 +168,7 @@ module _ (r : Reader) (a : Answer) {low high : ℕ} (same : (w : ℕ) → low �
           wrote = rw quiet (rest .part .wrote);
           is = passing w (w-is .0) (w-is .1) words (length out) ∙ ap (behind (a ∷ [])) (rest .part .is);
         };
-        reports-are = omega (arith, rest .reports-are, reports-first a (rest .answers), five-in a, ap length quiet);
-        dropped-are = rw (suc-mul n (droppedIn a)) (omega (arith, rest .dropped-are));
+        counts-are = rw (← rest .counts-are, none, one-more);
       }
 
 -- bytes while a silence is awaited, and silences to a reader that is ready
@@ -215,7 +185,7 @@ module _ {words : List ℕ} {out₀ out : List ℤ} {r₀ r : Reader} {at droppe
   -- the line is at its end
   pub all-taken : (at ≡ 0 → r ≡ r₀) → length words ≤ at → Begins r₀ words out₀ (record { refusal = 0; next = r; taken = at; reports = 0; dropped = dropped }) out
   unfolding run
-  all-taken same h = record { stands = s; stops = λ e. stops-here s 0 (rw (drop-of-length-le words h)) e (same e); sound = sound; same-format = format }
+  all-taken same h = record { stands = s; stops = λ e. loops.stops-here readsLine lawful s 0 (rw (drop-of-length-le words h)) e (same e); sound = sound; same-format = format }
 
   module _ {t : Reading} {last : List ℤ} (b : Begins r (take (length words - at) (drop at words)) out t last) where
     pub took : Stands r₀ words out₀ (t .next) (at + t .taken) (5 * t .reports) (t .reports) (dropped + t .dropped) last
@@ -228,7 +198,7 @@ module _ {words : List ℕ} {out₀ out : List ℤ} {r₀ r : Reader} {at droppe
         let room : length out₀ - 0 ≡ length out = omega (arith, part-long reads (s .part)) in
         record {
           stands = rw (part-none reads (b .stands .part) z) s;
-          stops = λ e. stops-here s (t .refusal) (rw room (rw (rest-is words at) at (b .stops z))) e (same e);
+          stops = λ e. loops.stops-here readsLine lawful s (t .refusal) (rw room (rw (rest-is words at) at (b .stops z))) e (same e);
           sound = sound;
           same-format = format;
         }

@@ -7,8 +7,8 @@ use lib.ListN.{length, getD}
 use lib.Dec.{eqb}
 use lib.IntN.{ℤ, pos, natAbs}
 use Rattle.reader.specs.State.{numbersOf}
-use Rattle.reader.specs.Line.{Long}
-use Rattle.reader.specs.Telling.{Told}
+use Rattle.reader.specs.Line.{Long, reading}
+use Rattle.reader.specs.Telling.{Told, answersIn}
 use Rattle.reader.specs.Promises.{Step, FreshPromise, GoodPromise, StepPromise, ReadPromise, AnswersPromise, stepOf}
 use Rattle.reader.specs.Runs.{stepsOf, StepsPromise}
 use Rattle.reader.specs.declared.Reader.{Reader}
@@ -61,7 +61,7 @@ pub one-step : (r : Reader) (w : ℕ) (a b : Read) → StepPromise r w a → Ste
 one-step r w a b e f = step-is r w a e ∙ sym (step-is r w b f)
 
 pub one-read : (r : Reader) (words : List ℕ) (out : List ℤ) (a b : Reading) (x y : List ℤ) → ReadPromise r words out a x → ReadPromise r words out b y → (a ≡ b) × (x ≡ y)
-one-read r words out a b x y e f = (ap (λ (l : Long). l .reading) (e ∙ sym f), ap (λ (l : Long). l .out) (e ∙ sym f))
+one-read r words out a b x y e f = (ap reading (e ∙ sym f), ap (λ (l : Long). l .out) (e ∙ sym f))
 
 pub one-answers : (r : Reader) (words : List ℕ) (out : List ℤ) (a b : Answers) (x y : List ℤ) → AnswersPromise r words out a x → AnswersPromise r words out b y → (a ≡ b) × (x ≡ y)
-one-answers r words out a b x y e f = (ap (λ (t : Told). t .answers) (e ∙ sym f), ap (λ (t : Told). t .out) (e ∙ sym f))
+one-answers r words out a b x y e f = (ap answersIn (e ∙ sym f), ap (λ (t : Told). t .out) (e ∙ sym f))

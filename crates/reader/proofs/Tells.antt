@@ -10,16 +10,19 @@ use lib.IntN.{ℤ, negsuc}
 use borrow.Author.Tests.{leb-true, leb-false, le-leb, lt-leb}
 use borrow.Rule.Slice.PartMut.{putMid}
 use Rattle.fold.specs.Fold.{ran, run, Part}
+use Rattle.fold.specs.Calls.{line}
 use Rattle.fold.proofs.Laws.{taken, stops}
+use Rattle.fold.proofs.Calls.{places-sum}
 use Rattle.fold.proofs.Parts.{rest-is, back, none, one, joins, part-left, part-all, part-ends}
 use Rattle.wire.specs.declared.Report.{Report}
 use Rattle.reader.specs.State.{fiveOf}
 use Rattle.reader.specs.Rules.{wordOf}
-use Rattle.reader.specs.Telling.{toldIn, tells, told, hasRoom, placesOf, frontOf, tellingOf}
+use Rattle.reader.specs.Telling.{toldIn, tells, tellsLine, told, hasRoom, placesOf, frontOf}
 use Rattle.reader.specs.declared.Reader.{Reader}
 use Rattle.reader.specs.declared.Read.{Read}
 use Rattle.reader.specs.declared.Answer.{Answer}
 use Rattle.reader.specs.declared.Answer.the-variants as answer
+use Rattle.reader.proofs.Counted.{told-lawful}
 
 -- an answer is told by a number or more
 some-told : (a : Answer) → 0 < length (toldIn a)
@@ -67,21 +70,21 @@ starts r words out = record { answers = []; part = none tells r words out }
 
 module _ {words : List ℕ} {out₀ out : List ℤ} {r₀ r : Reader} {at used : ℕ} (t : Telling r₀ words out₀ r at used out) where
   -- the telling ends here
-  ends : (n : ℕ) → run tells r₀ words (length out₀) ≡ ran n r (t .answers) → told (record { refusal = n; next = r; taken = at; written = used }) out ≡ tellingOf r₀ words out₀
-  unfolding tellingOf
-  ends n e = rw (e, t .part .words-are, t .part .wrote, t .part .places-are)
+  ends : (n : ℕ) → run tells r₀ words (length out₀) ≡ ran n r (t .answers) → told (record { refusal = n; next = r; taken = at; written = used }) out ≡ line tellsLine r₀ words out₀
+  unfolding line
+  ends n e = rw (e, t .part .words-are, t .part .wrote, t .part .places-are, places-sum tellsLine told-lawful (t .answers))
 
-  pub ends-all : length words ≤ at → told (record { refusal = 0; next = r; taken = at; written = used }) out ≡ tellingOf r₀ words out₀
+  pub ends-all : length words ≤ at → told (record { refusal = 0; next = r; taken = at; written = used }) out ≡ line tellsLine r₀ words out₀
   ends-all h = ends 0 (part-all tells (t .part) h)
 
   -- by the next word
   module _ {s : Read} (some : at < length words) (is : s ≡ wordOf r (getD words at 0)) where
     ends-before : (s .refusal ≡ 0 → length out₀ - used < length (toldIn (s .answer)))
-        → told (record { refusal = s .refusal; next = r; taken = at; written = used }) out ≡ tellingOf r₀ words out₀
+        → told (record { refusal = s .refusal; next = r; taken = at; written = used }) out ≡ line tellsLine r₀ words out₀
     unfolding run
     ends-before h = ends (s .refusal) (part-ends tells (t .part) (s .refusal) (rw (drop-cons words at 0 some, is, stops tells r (getD words at 0) (length out₀ - used) (rw is at h))))
 
-    pub refused : (s .refusal ≡ 0 → ⊥) → told (record { refusal = s .refusal; next = r; taken = at; written = used }) out ≡ tellingOf r₀ words out₀
+    pub refused : (s .refusal ≡ 0 → ⊥) → told (record { refusal = s .refusal; next = r; taken = at; written = used }) out ≡ line tellsLine r₀ words out₀
     refused n = ends-before (λ z. absurd (n z))
 
     -- its answer, told to the places that are left, as the code lends them
@@ -92,7 +95,7 @@ module _ {words : List ℕ} {out₀ out : List ℤ} {r₀ r : Reader} {at used :
           let room = had-none (s .answer) (drop used out) (rw (rest-is out used) at (sym places ∙ e)) in
           back out last used ∙ rw (front, rest-is out used, ← has-none (s .answer) (drop used out) room .1) (take-append-drop used out)
 
-      pub full : n ≡ 0 → told (record { refusal = 0; next = r; taken = at; written = used }) out ≡ tellingOf r₀ words out₀
+      pub full : n ≡ 0 → told (record { refusal = 0; next = r; taken = at; written = used }) out ≡ line tellsLine r₀ words out₀
       full e =
           let room = had-none (s .answer) (drop used out) (rw (rest-is out used) at (sym places ∙ e)) in
           rw z at (ends-before (λ _. rw (part-left tells (t .part), length-drop used out₀) at room))

@@ -12,7 +12,6 @@ use lib.Seq.{take-at, sets, sets-eq}
 use lib.IntN.{ℤ}
 use borrow.Author.Tests.{le-leb, eq-eqb, ne-eqb}
 use Rattle.wire.proofs.Letters.{size-named, fits-named}
-use Rattle.fold.specs.Fold.{run}
 use Rattle.wire.specs.Line.{namedBy, sizeOf, sizeBy, known}
 use Rattle.wire.specs.Table.{bytesOf}
 use Rattle.wire.specs.Holds.{accepted, carriedBy}
@@ -32,9 +31,10 @@ use Rattle.wire.proofs.Front.{size-between, size-small, same-front}
 use Rattle.reader.specs.State.{reader, ready, fiveOf}
 use Rattle.reader.specs.Good.{good}
 use Rattle.reader.specs.Rules.{answered, keep, byteOf, wordOf}
-use Rattle.reader.specs.Line.{whole, joined, lineOf}
-use Rattle.reader.specs.Counts.{droppedAmong}
-use Rattle.reader.specs.Promises.{ReadPromise}
+use Rattle.fold.specs.Calls.{stopped}
+use Rattle.fold.proofs.Calls as calls
+use Rattle.reader.specs.Line.{Long, whole, readsLine}
+use Rattle.reader.specs.Promises.{readOf, ReadPromise}
 use Rattle.reader.specs.Runs.{stepsOf, StepsPromise, answers, readerAfter}
 use Rattle.reader.specs.declared.Reader.{Reader}
 use Rattle.reader.specs.declared.Read.{Read}
@@ -44,15 +44,18 @@ use Rattle.reader.specs.declared.Answer.the-variants as answer
 use Rattle.reader.proofs.Entered.{fit-enters}
 use Rattle.reader.proofs.Keeps.{ready-good, word-good}
 use Rattle.reader.proofs.Permitted.{steps-are}
-use Rattle.reader.proofs.Goodness.{step-word, read-line}
-use Rattle.reader.proofs.Room.{word-more}
+use Rattle.reader.proofs.Counted.{lawful}
+use Rattle.reader.proofs.Goodness.{step-word}
+
+-- what a long read of a report's bytes gives back
+abbrev gave : Reader → Report → List ℕ → List ℤ → Long
+gave r p bytes out = whole (record { refusal = success; next = ready (r .format); taken = length bytes; reports = 1; dropped = 0 }) (fiveOf p ++ drop 5 out)
 
 -- a reader answers bytes by nothing up to the last and then by a report, and is ready again; by steps, and in a long read with room for it
 record Reads (r : Reader) (p : Report) (bytes : List ℕ) : Type 0 where
   told : answers (stepsOf r bytes) ≡ replicate (length bytes - 1) answer.Nothing ++ answer.Report p ∷ []
   again : readerAfter r (stepsOf r bytes) ≡ ready (r .format)
-  written : (out : List ℤ) → 5 ≤ length out
-      → lineOf r bytes out ≡ whole (record { refusal = success; next = ready (r .format); taken = length bytes; reports = 1; dropped = 0 }) (fiveOf p ++ drop 5 out)
+  written : (out : List ℤ) → 5 ≤ length out → readOf r bytes out ≡ gave r p bytes out
 
 module _ (f : Format) (letter : ℕ) (named : namedBy letter ≡ Known f) where
   ready-is-good : good (ready letter) ≡ true
@@ -84,12 +87,16 @@ module _ (f : Format) (letter : ℕ) (named : namedBy letter ≡ Known f) where
 
   read-from : (bs : List ℕ) (b : ℕ) (kept : List ℕ) (n : ℕ) → good (reader letter kept n false) ≡ true → suc (n + length bs) ≡ sizeOf f → FitFrom n (b ∷ bs)
       → Reads (reader letter kept n false) (reportBy letter (sets kept n (b ∷ bs))) (b ∷ bs)
-  unfolding stepsOf lineOf run droppedAmong
+  unfolding stepsOf
   read-from [] b kept n g size fits =
       let fit = rw add-zero at (fits 0 (omega arith)) in
       let w = last-one kept n b g fit (omega arith) in
       let s = step-word (reader letter kept n false) b g ∙ w in
-      record { told = rw s; again = rw s; written = λ out room. word-more _ b [] out _ (sym w) refl room }
+      record {
+        told = rw s;
+        again = rw s;
+        written = λ out room. rw w at (calls.goes-on readsLine lawful (reader letter kept n false) b [] out g refl {j = stopped readsLine success (ready letter) (drop 5 out)} (rw w) (rw w room) (rw w (sym (calls.no-words readsLine lawful (ready letter) (drop 5 out) ready-is-good))));
+      }
   read-from (c ∷ bs) b kept n g size fits =
       let fit = rw add-zero at (fits 0 (omega arith)) in
       let more : suc n ≡ sizeOf f → ⊥ = λ e. omega arith in
@@ -101,7 +108,7 @@ module _ (f : Format) (letter : ℕ) (named : namedBy letter ≡ Known f) where
       record {
         told = rw (s, less) (ap (λ (l : List Answer). answer.Nothing ∷ l) (rest .told));
         again = rw s (rest .again);
-        written = λ out room. word-more _ b (c ∷ bs) out _ (sym w) refl (omega arith) ∙ ap (joined 1 0 0 []) (rest .written out room) ∙ rw one-add;
+        written = λ out room. rw w at (calls.goes-on readsLine lawful (reader letter kept n false) b (c ∷ bs) out g refl {j = gave (ready letter) (reportBy letter (sets kept n (b ∷ c ∷ bs))) (c ∷ bs) out} (rw w) (rw w (omega arith)) (rw w (sym (rest .written out room)))) ∙ rw one-add;
       }
 
   report-is : (bytes : List ℕ) → length bytes ≡ sizeOf f → reportBy letter (sets (replicate 5 0) 0 bytes) ≡ reportOf f bytes
@@ -174,4 +181,4 @@ pub there-read : (letter : ℕ) (p : Report) (before after : List ℕ) (e : Enco
     → whole a written ≡ whole (record { refusal = success; next = ready letter; taken = lengthOf e; reports = 1; dropped = 0 }) (fiveOf (carriedBy letter p) ++ drop 5 out)
 there-read letter p before after e out written a h z room i =
     let r = heard-sent letter p before after e h z in
-    i ∙ read-line (ready letter) (take (lengthOf e) after) out (r .2) ∙ (rw (r .1) at (r .0 .written out room))
+    i ∙ (rw (r .1) at (r .0 .written out room))

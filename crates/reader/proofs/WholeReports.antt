@@ -12,6 +12,7 @@ use lib.Dec.{eqb}
 use borrow.Author.Tests.{eqb-true, not-true, leb-true, le-leb}
 use Rattle.numbers.proofs.Tested.{left, right, each-at}
 use Rattle.fold.specs.Fold.{behind, run}
+use Rattle.fold.specs.Calls.{sum}
 use Rattle.frames.specs.Words.{isByte}
 use Rattle.wire.specs.Line.{namedBy, ofNamed, sizeOf, sizeBy}
 use Rattle.wire.specs.Places.{fitsBy}
@@ -22,7 +23,6 @@ use Rattle.wire.specs.declared.Named.the-variants.{Known, Unknown}
 use Rattle.reader.specs.State.{reader, ready, fiveOf}
 use Rattle.reader.specs.Good.{good}
 use Rattle.reader.specs.Rules.{finishes, more, keep, byteOf, wordOf}
-use Rattle.reader.specs.Counts.{droppedAmong}
 use Rattle.reader.specs.Line.{reads}
 use Rattle.reader.specs.Parts.{Stands}
 use Rattle.reader.specs.Whole.{brings, fitsWord, wholeBy, bytesAt}
@@ -92,7 +92,7 @@ module _ (letter : ℕ) (out : List ℤ) (room : 5 ≤ length out) where
   on kept count = reader letter kept count false
 
   three : (words : List ℕ) → sizeBy letter ≡ 3 → 3 ≤ length words → wholeBy letter 3 words ≡ true → Reports 3 words
-  unfolding droppedAmong
+  unfolding sum
   three [] s l w = absurd (omega arith)
   three (a ∷ []) s l w = absurd (omega arith)
   three (a ∷ b ∷ []) s l w = absurd (omega arith)
@@ -111,12 +111,11 @@ module _ (letter : ℕ) (out : List ℤ) (room : 5 ≤ length out) where
               ∙ ap (behind (Nothing ∷ [])) (goes-on (on k₁ 1) b refl (all 1 (omega arith)) (rw s) (c ∷ rest) (length out)
               ∙ ap (behind (Nothing ∷ [])) (finishing (on k₂ 2) c refl (all 2 (omega arith)) (rw s) rest (length out) room));
         };
-        reports-are = refl;
-        dropped-are = refl;
+        counts-are = refl;
       }
 
   five : (words : List ℕ) → sizeBy letter ≡ 5 → 5 ≤ length words → wholeBy letter 5 words ≡ true → Reports 5 words
-  unfolding droppedAmong
+  unfolding sum
   five [] s l w = absurd (omega arith)
   five (a ∷ []) s l w = absurd (omega arith)
   five (a ∷ b ∷ []) s l w = absurd (omega arith)
@@ -141,8 +140,7 @@ module _ (letter : ℕ) (out : List ℤ) (room : 5 ≤ length out) where
               ∙ ap (behind (Nothing ∷ [])) (goes-on (on k₃ 3) d refl (all 3 (omega arith)) (rw s) (e ∷ rest) (length out)
               ∙ ap (behind (Nothing ∷ [])) (finishing (on k₄ 4) e refl (all 4 (omega arith)) (rw s) rest (length out) room))));
         };
-        reports-are = refl;
-        dropped-are = refl;
+        counts-are = refl;
       }
 
   pub whole-stands : (size : ℕ) (words : List ℕ) → size ≡ sizeBy letter → (size ≡ 3) ⊎ (size ≡ 5) → size ≤ length words → wholeBy letter size words ≡ true → Reports size words

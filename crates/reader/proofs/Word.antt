@@ -20,7 +20,6 @@ use Rattle.reader.specs.declared.Reader.{Reader}
 use Rattle.reader.specs.declared.Read.{Read}
 use Rattle.reader.specs.declared.Answer.the-variants.{Nothing, Report, Dropped}
 use Rattle.numbers.proofs.Choices.{cases}
-use Rattle.wire.proofs.Letters.{at-least-three}
 
 -- a byte that strays is lost alone
 stray-lost : (r : Reader) (b : ℕ) → straying r b ≡ true → stray r ≡ lose r

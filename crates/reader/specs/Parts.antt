@@ -6,16 +6,17 @@ use mathlib.Core.List.{List, [], _++_}
 use lib.ListN.{length, getD, drop}
 use lib.Dec.{leb, eqb}
 use lib.IntN.{ℤ}
-use Rattle.fold.specs.Fold.{ran, run, Part}
+use Rattle.fold.specs.Fold.{ran, run}
+use Rattle.fold.specs.Calls.{counts, stopped}
+use Rattle.fold.specs.Calls as calls
 use Rattle.frames.specs.Words.{isByte}
 use Rattle.wire.specs.Line.{sizeBy, markedBy}
 use Rattle.reader.specs.Good.{good}
-use Rattle.reader.specs.Counts.{reportsIn, droppedIn, writtenIn, handedOut, droppedAmong}
-use Rattle.reader.specs.Line.{Long, whole, stopped, reads}
+use Rattle.reader.specs.Counts.{reportsIn, droppedIn, writtenIn}
+use Rattle.reader.specs.Line.{Long, whole, reads, readsLine}
 use Rattle.reader.specs.declared.Reader.{Reader}
 use Rattle.reader.specs.declared.Read.{Read}
 use Rattle.reader.specs.declared.Reading.{Reading}
-use Rattle.reader.specs.declared.Answer.{Answer}
 
 -- what a reader keeps over a line: that it is good, its format, and fewer bytes than a report of it has
 pub record Sized (size : ℕ) (marked : Bool) (r : Reader) : Type 0 where
@@ -24,12 +25,10 @@ pub record Sized (size : ℕ) (marked : Bool) (r : Reader) : Type 0 where
   pub sized : size ≡ sizeBy (r .format)
   pub mark : marked ≡ markedBy (r .format)
 
--- words at the front of a line are taken: the reader behind them, the reports among their answers, the bytes dropped, and the slice
-pub record Stands (r : Reader) (words : List ℕ) (before : List ℤ) (next : Reader) (taken used reports dropped : ℕ) (after : List ℤ) : Type 0 where
-  pub answers : List Answer
-  pub part : Part reads r words before answers taken used next after
-  pub reports-are : reports ≡ length (handedOut answers)
-  pub dropped-are : dropped ≡ droppedAmong answers
+-- words at the front of a line are taken: the reader behind them, the places used, the reports among their answers, the
+-- bytes dropped, and the slice
+abbrev pub Stands : Reader → List ℕ → List ℤ → Reader → ℕ → ℕ → ℕ → ℕ → List ℤ → Type 0
+Stands r words before next taken used reports dropped after = calls.Stands readsLine r words before next taken used (counts reports dropped) after
 
 -- what is given back for them, by a reader that stays good and of its format; where no word is taken the line ends there
 pub record Begins (r : Reader) (words : List ℕ) (before : List ℤ) (t : Reading) (after : List ℤ) : Type 0 where
@@ -41,9 +40,10 @@ pub record Begins (r : Reader) (words : List ℕ) (before : List ℤ) (t : Readi
 -- the first word of a line, by what it gives: it is taken where it is not refused and its answer has room
 abbrev pub firstOf : Reader → Read → List ℤ → Long
 firstOf r s out =
-    cond (eqb (s .refusal) 0 && leb (length (writtenIn (s .answer))) (length out))
-    (whole (record { refusal = 0; next = s .next; taken = 1; reports = reportsIn (s .answer); dropped = droppedIn (s .answer) }) (writtenIn (s .answer) ++ drop (length (writtenIn (s .answer))) out))
-    (stopped (s .refusal) r out)
+    cond (eqb (s .refusal) 0 && leb (5 * reportsIn (s .answer)) (length out))
+    (whole (record { refusal = 0; next = s .next; taken = 1; reports = reportsIn (s .answer); dropped = droppedIn (s .answer) })
+    (writtenIn (s .answer) ++ drop (5 * reportsIn (s .answer)) out))
+    (stopped readsLine (s .refusal) r out)
 
 -- the first of the words lie between two: 0 and 255, bytes; 257 and 257, silences
 pub record Alike (low high n : ℕ) (words : List ℕ) : Type 0 where

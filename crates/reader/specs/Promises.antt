@@ -12,8 +12,9 @@ use Rattle.wire.specs.declared.Format.the-variants.{FiveByte}
 use Rattle.reader.specs.State.{fresh, numbersOf}
 use Rattle.reader.specs.Good.{good}
 use Rattle.reader.specs.Rules.{refusing, wordOf}
-use Rattle.reader.specs.Line.{Long, whole, stopped, withRefusal, lineOf}
-use Rattle.reader.specs.Telling.{Told, told, untold, toldWith, tellingOf}
+use Rattle.fold.specs.Calls.{stopped, withRefusal, call}
+use Rattle.reader.specs.Line.{Long, whole, readsLine}
+use Rattle.reader.specs.Telling.{Told, told, tellsLine}
 use Rattle.reader.specs.declared.Reader.{Reader}
 use Rattle.reader.specs.declared.NewReader.{NewReader}
 use Rattle.reader.specs.declared.Read.{Read}
@@ -58,8 +59,8 @@ abbrev pub StepPromise : Reader → ℕ → Read → Type 0
 StepPromise r w answer = outcome answer ≡ outcome (stepOf r w)
 
 -- a long read: 6 before all, and then the line
-unfoldable pub readOf : Reader → List ℕ → List ℤ → Long
-readOf r words out = cond (good r) (lineOf r words out) (stopped badState r out)
+abbrev pub readOf : Reader → List ℕ → List ℤ → Long
+readOf r words out = call readsLine r words out
 
 -- 6 leaves all as it was, with counts of 0; "except 4 in a long read, which returns the reader, reports and counts as they stand before the bad word":
 -- what the words before it gave, but for the number
@@ -68,22 +69,22 @@ beforeBad r words out answer = withRefusal badWord (readOf r (take (answer .take
 
 abbrev pub ReadRefusal : Reader → List ℕ → List ℤ → Reading → List ℤ → Type 0
 ReadRefusal r words before answer after =
-    RefusesRightly (λ (l : Long). l .reading .refusal) (stopped badState r before ∷ beforeBad r words before answer ∷ []) (whole answer after)
+    RefusesRightly (λ (l : Long). l .refusal) (stopped readsLine badState r before ∷ beforeBad r words before answer ∷ []) (whole answer after)
 
 abbrev pub ReadPromise : Reader → List ℕ → List ℤ → Reading → List ℤ → Type 0
 ReadPromise r words before answer after = whole answer after ≡ readOf r words before
 
 -- the answers to a line's words: 6 before all, and then the line
-unfoldable pub answersOf : Reader → List ℕ → List ℤ → Told
-answersOf r words out = cond (good r) (tellingOf r words out) (untold badState r out)
+abbrev pub answersOf : Reader → List ℕ → List ℤ → Told
+answersOf r words out = call tellsLine r words out
 
 -- 6 leaves all as it was, with counts of 0; 4 leaves what the words before it gave, but for the number
 abbrev pub toldBeforeBad : Reader → List ℕ → List ℤ → Answers → Told
-toldBeforeBad r words out answer = toldWith badWord (answersOf r (take (answer .taken) words) out)
+toldBeforeBad r words out answer = withRefusal badWord (answersOf r (take (answer .taken) words) out)
 
 abbrev pub AnswersRefusal : Reader → List ℕ → List ℤ → Answers → List ℤ → Type 0
 AnswersRefusal r words before answer after =
-    RefusesRightly (λ (t : Told). t .answers .refusal) (untold badState r before ∷ toldBeforeBad r words before answer ∷ []) (told answer after)
+    RefusesRightly (λ (t : Told). t .refusal) (stopped tellsLine badState r before ∷ toldBeforeBad r words before answer ∷ []) (told answer after)
 
 abbrev pub AnswersPromise : Reader → List ℕ → List ℤ → Answers → List ℤ → Type 0
 AnswersPromise r words before answer after = told answer after ≡ answersOf r words before

@@ -1,11 +1,15 @@
 -- The answers to the words of a line, told one after the other in a lent slice.
-use Prim.Native.Nat.{ℕ}
+use Prim.Native.Nat.{ℕ, _+_}
 use mathlib.Core.Bool.{Bool, cond}
 use mathlib.Core.List.{List, [], _∷_, _++_}
 use lib.ListN.{length, drop}
 use lib.Dec.{leb}
 use lib.IntN.{ℤ, pos, negsuc}
-use Rattle.fold.specs.Fold.{Machine, Ran, written, run}
+use Rattle.fold.specs.Fold.{Machine}
+use Rattle.fold.specs.Calls.{Call}
+use Rattle.fold.specs.Calls as calls
+use Rattle.wire.specs.Numbers.{badState}
+use Rattle.reader.specs.Good.{good}
 use Rattle.reader.specs.State.{fiveOf}
 use Rattle.reader.specs.Rules.{wordOf}
 use Rattle.reader.specs.declared.Reader.{Reader}
@@ -23,30 +27,26 @@ toldIn (answer.Dropped k) = pos k ∷ []
 abbrev pub tells : Machine Reader Answer ℤ
 tells = record { refusal = λ r w. wordOf r w .refusal; next = λ r w. wordOf r w .next; answer = λ r w. wordOf r w .answer; writes = toldIn }
 
+-- the long call: what is counted is the numbers written. It stops, with answer 0, before a word whose answer has no room,
+-- and with 4 before a bad word.
+abbrev pub tellsLine : Call Reader Answer ℕ ℤ
+tellsLine =
+    record {
+      machine = tells;
+      tally = record { none = 0; plus = λ j k. j + k; of = λ a. length (toldIn a); places = λ n. n };
+      good = good;
+      bad = badState;
+    }
+
 -- what is given back, and every number of the lent slice after it
-pub record Told : Type 0 where
-  pub answers : Answers
-  pub out : List ℤ
+abbrev pub Told : Type 0
+Told = calls.Long Reader ℕ ℤ
 
 abbrev pub told : Answers → List ℤ → Told
-told answers out = record { answers = answers; out = out }
+told a out = record { refusal = a .refusal; next = a .next; taken = a .taken; counts = a .written; out = out }
 
--- it ends here, with a number: no word is taken, and nothing written
-abbrev pub untold : ℕ → Reader → List ℤ → Told
-untold n r out = told (record { refusal = n; next = r; taken = 0; written = 0 }) out
-
--- with another number: 4 before a bad word, with all else as it stands there
-abbrev pub toldWith : ℕ → Told → Told
-toldWith n t = told (record { refusal = n; next = t .answers .next; taken = t .answers .taken; written = t .answers .written }) (t .out)
-
--- the words of a line, one after the other. It stops, with answer 0, before a word whose answer has no room, and with 4 before a bad word.
-abbrev pub toldBy : Ran Reader Answer → List ℤ → Told
-toldBy f out =
-    told (record { refusal = f .refusal; next = f .next; taken = length (f .answers); written = length (written tells (f .answers)) })
-    (written tells (f .answers) ++ drop (length (written tells (f .answers))) out)
-
-unfoldable pub tellingOf : Reader → List ℕ → List ℤ → Told
-tellingOf r words out = toldBy (run tells r words (length out)) out
+abbrev pub answersIn : Told → Answers
+answersIn t = record { refusal = t .refusal; next = t .next; taken = t .taken; written = t .counts }
 
 -- one answer, at the front of places: its numbers and how many they are, or none where they have no room
 abbrev pub hasRoom : Answer → List ℤ → Bool

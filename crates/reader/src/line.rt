@@ -5,7 +5,8 @@ ghost use Prim.Native.Nat.{_*_, _/_, _<_, _≤_};
 ghost use mathlib.Core.List.{_++_};
 ghost use lib.ListN.{length, drop};
 ghost use Rattle.reader.specs.State.{ready, fiveOf};
-ghost use Rattle.reader.specs.Line.{whole, lineOf};
+ghost use Rattle.fold.specs.Calls.{line};
+ghost use Rattle.reader.specs.Line.{whole, readsLine};
 ghost use Rattle.reader.specs.Good.{good};
 ghost use Rattle.reader.specs.Parts.{Stands, Begins, Sized, firstOf, Alike, AwaitsBehind};
 use crate::Answer;
@@ -203,7 +204,7 @@ impl Reader {
     // A line of one word.
     fn single(self, size: usize, marked: bool, words: &[u16], out: &mut [i16]) -> Reading
         requires { ⌜ Sized size marked self × (length (now words) ≡ 1) ⌝ }
-        ensures { λ r. ⌜ whole r (now (out .exit)) ≡ lineOf self (now (words .entry)) (now (out .entry)) ⌝ }
+        ensures { λ r. ⌜ whole r (now (out .exit)) ≡ line readsLine self (now (words .entry)) (now (out .entry)) ⌝ }
     {
         let s = self.word(self.format, size, marked, words[0]);
         self.counted(s, out)
@@ -213,7 +214,7 @@ impl Reader {
     // next word on, is handed over with the reader that came back and the places that are left.
     pub(crate) fn line(self, size: usize, marked: bool, words: &[u16], out: &mut [i16]) -> Reading
         requires { ⌜ Sized size marked self ⌝ }
-        ensures { λ r. ⌜ whole r (now (out .exit)) ≡ lineOf self (now (words .entry)) (now (out .entry)) ⌝ }
+        ensures { λ r. ⌜ whole r (now (out .exit)) ≡ line readsLine self (now (words .entry)) (now (out .entry)) ⌝ }
     {
         if words.len() == 1 {
             return self.single(size, marked, words, out);

@@ -1,9 +1,10 @@
 // The answers to the words of a line, told one after the other in a lent slice.
 ghost use mathlib.Core.Path.{_≡_};
 ghost use mathlib.Core.Bool.{true};
+ghost use Rattle.fold.specs.Calls.{line};
 ghost use Rattle.reader.specs.Good.{good};
 ghost use Rattle.reader.specs.Parts.{Sized};
-ghost use Rattle.reader.specs.Telling.{told, placesOf, frontOf, tellingOf};
+ghost use Rattle.reader.specs.Telling.{told, tellsLine, placesOf, frontOf};
 use crate::Answer;
 use crate::Answers;
 use crate::BAD_STATE;
@@ -57,7 +58,7 @@ impl Reader {
     // Word after word, each answer behind the one before it.
     fn tells(self, letter: u8, size: usize, marked: bool, words: &[u16], out: &mut [i16]) -> Answers
         requires { ⌜ (letter ≡ self .format) × Sized size marked self ⌝ }
-        ensures { λ r. ⌜ told r (now (out .exit)) ≡ tellingOf self (now (words .entry)) (now (out .entry)) ⌝ }
+        ensures { λ r. ⌜ told r (now (out .exit)) ≡ line tellsLine self (now (words .entry)) (now (out .entry)) ⌝ }
     {
         let mut r = self;
         let mut at: usize = 0;
@@ -83,7 +84,7 @@ impl Reader {
     // The same for a good reader, each letter with code of its own.
     pub(crate) fn told(self, words: &[u16], out: &mut [i16]) -> Answers
         requires { ⌜ good self ≡ true ⌝ }
-        ensures { λ r. ⌜ told r (now (out .exit)) ≡ tellingOf self (now (words .entry)) (now (out .entry)) ⌝ }
+        ensures { λ r. ⌜ told r (now (out .exit)) ≡ line tellsLine self (now (words .entry)) (now (out .entry)) ⌝ }
     {
         let letter = self.format;
         match letter {

@@ -4,9 +4,8 @@ use Rattle.replies.specs.Replying.{letterOfCode, letterFits, fits, more,
 use Rattle.replies.specs.Replying as replying
 use Rattle.replies.specs.Good.{good}
 use Rattle.replies.specs.Rules.{replyTo, keep, pass, wordOf}
-use Rattle.replies.specs.Line.{lineOf}
-use Rattle.replies.specs.Promises.{tellOf, stepOf, readOf}
+use Rattle.replies.specs.Promises.{tellOf, stepOf}
 
 unfoldable pub computing : Unit {0}
-unfolding reader.computing letterOfCode letterFits fits more broken placed replying.good good replyTo keep pass wordOf lineOf tellOf stepOf readOf
+unfolding reader.computing letterOfCode letterFits fits more broken placed replying.good good replyTo keep pass wordOf tellOf stepOf
 computing = tt

@@ -9,6 +9,7 @@ use lib.ListN.{length, take}
 use lib.IntN.{ℤ}
 use borrow.Author.Tests.{eqb-false}
 use Rattle.fold.specs.Fold.{run}
+use Rattle.fold.specs.Calls.{line}
 use Rattle.fold.proofs.Laws.{over-taken}
 use Rattle.wire.specs.Line.{sizeBy}
 use Rattle.wire.specs.Numbers.{success, badState}
@@ -19,7 +20,7 @@ use Rattle.reader.proofs.Counted.{reports-first}
 use Rattle.replies.specs.Replying.{isNone, fits, fitting, broken}
 use Rattle.replies.specs.Good.{good}
 use Rattle.replies.specs.Rules.{kindOf, continues, wordOf}
-use Rattle.replies.specs.Line.{Long, Both, hears, orElse, replyAmong, toldIn, repliesAmong, ownAnswers, lineOf}
+use Rattle.replies.specs.Line.{Both, hears, orElse, replyAmong, toldIn, repliesAmong, ownAnswers, heardLine}
 use Rattle.replies.specs.Counts.{wholeBytes, brokenBytes}
 use Rattle.replies.specs.Promises.{TellPromise, StepPromise, ReadPromise, tellOf}
 use Rattle.replies.specs.declared.Kind.{Kind}
@@ -33,7 +34,7 @@ use Rattle.replies.specs.declared.Telling.{Telling}
 use Rattle.replies.specs.declared.Heard.{Heard}
 use Rattle.replies.specs.declared.HeardLine.{HeardLine}
 use Rattle.replies.proofs.Word.{word-counts, word-fine, by-word, good-reader}
-use Rattle.replies.proofs.Counted.{or-nothing}
+use Rattle.replies.proofs.Counted.{or-nothing, sum-is}
 use Rattle.replies.proofs.Permitted.{step-is, read-is}
 use Rattle.replies.proofs.Goodness.{step-word, read-line}
 
@@ -126,6 +127,7 @@ once words s room g = line-counts (sizeBy (s .reader .format)) words s room g re
 pub read-counts : (s : ToldReader) (words : List ℕ) (out : List ℤ) (a : HeardLine) (after : List ℤ) → good s ≡ true → ReadPromise s words out a after
     → bytesIn (take (a .taken) words) + (s .reader .count + s .awaited .came .count)
     ≡ sizeBy (s .reader .format) * a .reports + a .dropped + wholeBytes (a .reply) + brokenBytes (a .reply) + (a .next .reader .count + a .next .awaited .came .count)
-unfolding lineOf
+unfolding line
 read-counts s words out a after g e =
-    rw (ap (λ (l : Long). l .line) (read-is s words out a after e ∙ read-line s words out g)) (line-counts (sizeBy (s .reader .format)) words s (length out) g refl .1)
+    let answers = run hears s words (length out) .answers in
+    rw (ap heardLine (read-is s words out a after e ∙ read-line s words out g), sum-is answers) (line-counts (sizeBy (s .reader .format)) words s (length out) g refl .1)

@@ -2,7 +2,7 @@
 use Prim.Native.Nat.{ℕ, suc, _+_, _-_, _≤_}
 use mathlib.Core.Path.{_≡_, refl, sym, _∙_, ap}
 use mathlib.Core.Bool.{Bool, true, false, cond, _&&_}
-use mathlib.Core.List.{List, [], _∷_, map}
+use mathlib.Core.List.{List, [], _∷_, _++_, map}
 use native.Mathlib.Nat.{zero-add, add-assoc}
 use native.Mathlib.Numerals.{one-add}
 use native.Mathlib.Omega.{arith}
@@ -13,12 +13,13 @@ use borrow.Author.Tests.{eqb-true, eq-eqb, ne-eqb}
 use Rattle.numbers.proofs.Choices.{cases}
 use Rattle.fold.proofs.Laws.{taken, accepted}
 use Rattle.fold.specs.Fold.{Ran, ran, behind, written, places, takes, run}
+use Rattle.fold.specs.Calls.{sum, counted, line}
 use Rattle.frames.specs.Words.{isByte}
 use Rattle.wire.specs.Numbers.{success}
 use Rattle.reader.specs.Good.{good}
 use Rattle.reader.specs.Rules as readers
 use Rattle.reader.specs.Line as report
-use Rattle.reader.specs.Counts.{writtenIn, droppedAmong}
+use Rattle.reader.specs.Counts.{writtenIn}
 use Rattle.reader.specs.declared.Reader.{Reader}
 use Rattle.reader.specs.declared.Read.{Read}
 use Rattle.reader.specs.declared.Answer.{Answer}
@@ -27,14 +28,14 @@ use Rattle.reader.proofs.Keeps.{word-good}
 use Rattle.reader.proofs.Goodness.{step-word}
 use Rattle.replies.specs.Replying.{nothing, fits, finishes, more, told, broken}
 use Rattle.replies.specs.Rules.{toldReader, heard, keep, passed, pass, continues, wordOf}
-use Rattle.replies.specs.Line.{Long, whole, Both, hears, orElse, replyAmong, ownAnswers, counted, lineOf, joined}
+use Rattle.replies.specs.Line.{Long, Both, hears, orElse, counts, hearsLine}
 use Rattle.replies.specs.Fronts.{front, ahead, frontOf, closed}
 use Rattle.replies.specs.declared.Awaited.{Awaited}
 use Rattle.replies.specs.declared.Front.{Front}
 use Rattle.replies.specs.declared.Reply.{Reply}
 use Rattle.replies.specs.declared.Reply.the-variants as reply
 use Rattle.replies.specs.declared.ToldReader.{ToldReader}
-use Rattle.replies.proofs.Counted.{both, or-nothing, own-written, quiet-first}
+use Rattle.replies.proofs.Counted.{both, or-nothing}
 
 -- a word that is not the reply's goes to the report reader
 pub word-passes : (s : ToldReader) (w : ℕ) → good (s .reader) ≡ true → continues (s .awaited) w ≡ false → wordOf s w ≡ passed s (readers.wordOf (s .reader) w)
@@ -105,56 +106,66 @@ plain-run (w ∷ words) r room g = run-passed (toldReader r nothing) w room g (n
     go false ih = refl
 
 -- its answers tell of no reply
-own-lifted : (l : List Answer) → ownAnswers (map (both reply.Nothing) l) ≡ l
-own-lifted [] = refl
-own-lifted (a ∷ l) = ap (λ (x : List Answer). a ∷ x) (own-lifted l)
+sum-lifted : (l : List Answer) → let k = sum report.readsLine l in sum hearsLine (map (both reply.Nothing) l) ≡ counts (k .reports) (k .dropped) reply.Nothing
+unfolding sum
+sum-lifted [] = refl
+sum-lifted (a ∷ l) = rw (sum-lifted l)
 
 written-lifted : (l : List Answer) → written hears (map (both reply.Nothing) l) ≡ written report.reads l
-written-lifted l = own-written (map (both reply.Nothing) l) ∙ ap (written report.reads) (own-lifted l)
+written-lifted [] = refl
+written-lifted (a ∷ l) = ap (λ (x : List ℤ). writtenIn a ++ x) (written-lifted l)
 
-reply-lifted : (l : List Answer) → replyAmong (map (both reply.Nothing) l) ≡ reply.Nothing
-reply-lifted [] = refl
-reply-lifted (a ∷ l) = reply-lifted l
+-- words in front that are the reply's: they write nothing
+abbrev inFront : ℕ → Reply → Long → Long
+inFront k y l =
+    record {
+      refusal = l .refusal;
+      next = l .next;
+      taken = k + l .taken;
+      counts = counts (l .counts .reports) (l .counts .dropped) (orElse y (l .counts .reply));
+      out = l .out;
+    }
+
+quiet-first : (y : Reply) (f : Ran ToldReader Both) (out : List ℤ) → counted hearsLine (behind (both y answer.Nothing ∷ []) f) out ≡ inFront 1 y (counted hearsLine f out)
+unfolding sum
+quiet-first y f out = rw (one-add (length (f .answers)), zero-add (sum hearsLine (f .answers) .reports), zero-add (sum hearsLine (f .answers) .dropped))
 
 -- what a reply at the front and the report reader's own long read behind it come to
 abbrev pub assembled : Front → report.Long → Long
 assembled f l =
-    let g = closed f (l .reading .taken) in
-    whole
-    (record {
-      refusal = l .reading .refusal;
-      next = toldReader (l .reading .next) (g .awaited);
-      taken = f .taken + l .reading .taken;
-      reports = l .reading .reports;
-      dropped = l .reading .dropped;
-      reply = g .reply;
-    })
-    (l .out)
+    let g = closed f (l .taken) in
+    record {
+      refusal = l .refusal;
+      next = toldReader (l .next) (g .awaited);
+      taken = f .taken + l .taken;
+      counts = counts (l .counts .reports) (l .counts .dropped) (g .reply);
+      out = l .out;
+    }
 
 -- where the reply is whole, or none is awaited
 closed-whole : (n k : ℕ) (y : Reply) → closed (front nothing k y) n ≡ front nothing k y
 unfolding closed broken
 closed-whole n k y = cases (λ (f : Front). f ≡ front nothing k y) (eqb n 0) (λ _. refl) (λ _. ap (front nothing k) (or-nothing y))
 
-counted-lifted : (f : Ran Reader Answer) (k : ℕ) (y : Reply) (out : List ℤ) → joined k 0 0 y [] (counted (lifted f) out) ≡ assembled (front nothing k y) (report.counted f out)
+counted-lifted : (f : Ran Reader Answer) (k : ℕ) (y : Reply) (out : List ℤ) → inFront k y (counted hearsLine (lifted f) out) ≡ assembled (front nothing k y) (counted report.readsLine f out)
 counted-lifted f k y out =
-    rw (closed-whole (length (f .answers)) k y, length-map (f .answers) (both reply.Nothing), own-lifted (f .answers), written-lifted (f .answers), reply-lifted (f .answers), or-nothing y, zero-add, zero-add)
+    rw (closed-whole (length (f .answers)) k y, length-map (f .answers) (both reply.Nothing), sum-lifted (f .answers), written-lifted (f .answers), or-nothing y)
 
 -- where the first word is the report reader's
 abbrev laterOf : Reader → ℕ → List ℕ → ℕ → Ran Reader Answer
 laterOf r w words room = run report.reads (readers.wordOf r w .next) words (room - places report.reads r w)
 
 counted-passed : (a : Awaited) (r : Reader) (w : ℕ) (words : List ℕ) (out : List ℤ) → good r ≡ true → continues a w ≡ false
-    → counted (run hears (toldReader r a) (w ∷ words) (length out)) out ≡ assembled (front a 0 reply.Nothing) (report.counted (run report.reads r (w ∷ words) (length out)) out)
-unfolding run closed droppedAmong
+    → counted hearsLine (run hears (toldReader r a) (w ∷ words) (length out)) out ≡ assembled (front a 0 reply.Nothing) (counted report.readsLine (run report.reads r (w ∷ words) (length out)) out)
+unfolding run closed sum
 counted-passed a r w words out g e =
     rw (run-passed (toldReader r a) w (length out) g e words) (go (takes report.reads r w (length out)))
   where
     go : (t : Bool)
-        → counted (cond t (behind (both (broken a) (readers.wordOf r w .answer) ∷ []) (run hears (toldReader (readers.wordOf r w .next) nothing) words (length out - places report.reads r w))) (ran (readers.wordOf r w .refusal) (toldReader r a) [])) out
-        ≡ assembled (front a 0 reply.Nothing) (report.counted (cond t (behind (readers.wordOf r w .answer ∷ []) (laterOf r w words (length out))) (ran (readers.wordOf r w .refusal) r [])) out)
+        → counted hearsLine (cond t (behind (both (broken a) (readers.wordOf r w .answer) ∷ []) (run hears (toldReader (readers.wordOf r w .next) nothing) words (length out - places report.reads r w))) (ran (readers.wordOf r w .refusal) (toldReader r a) [])) out
+        ≡ assembled (front a 0 reply.Nothing) (counted report.readsLine (cond t (behind (readers.wordOf r w .answer ∷ []) (laterOf r w words (length out))) (ran (readers.wordOf r w .refusal) r [])) out)
     go true =
-        rw (plain-run words (readers.wordOf r w .next) (length out - places report.reads r w) (word-good r g w), length-map (laterOf r w words (length out) .answers) (both reply.Nothing), own-lifted (laterOf r w words (length out) .answers), written-lifted (laterOf r w words (length out) .answers), reply-lifted (laterOf r w words (length out) .answers), or-nothing (broken a), ne-eqb (suc (length (laterOf r w words (length out) .answers))) 0 (λ z. omega arith), zero-add)
+        rw (plain-run words (readers.wordOf r w .next) (length out - places report.reads r w) (word-good r g w), length-map (laterOf r w words (length out) .answers) (both reply.Nothing), sum-lifted (laterOf r w words (length out) .answers), written-lifted (laterOf r w words (length out) .answers), or-nothing (broken a), ne-eqb (suc (length (laterOf r w words (length out) .answers))) 0 (λ z. omega arith), zero-add)
     go false = refl
 
 -- one byte of a reply more in front
@@ -166,8 +177,8 @@ closed-ahead f n = go (eqb n 0)
     go true = refl
     go false = refl
 
-ahead-one : (f : Front) (l : report.Long) → joined 1 0 0 reply.Nothing [] (assembled f l) ≡ assembled (ahead 1 f) l
-ahead-one f l = rw (closed-ahead f (l .reading .taken), zero-add, zero-add, add-assoc 1 (f .taken) (l .reading .taken))
+ahead-one : (f : Front) (l : report.Long) → inFront 1 reply.Nothing (assembled f l) ≡ assembled (ahead 1 f) l
+ahead-one f l = rw (closed-ahead f (l .taken), add-assoc 1 (f .taken) (l .taken))
 
 -- the last byte of a reply, and one before it
 pub keep-last : (r : Reader) (a : Awaited) (w : ℕ) → finishes a ≡ true → keep (toldReader r a) w ≡ heard (toldReader r nothing) (told a w) answer.Nothing
@@ -192,24 +203,24 @@ drop-one : (w : ℕ) (words : List ℕ) (n : ℕ) → drop n words ≡ drop (1 +
 drop-one w words n = rw (one-add n)
 
 pub line-front : (words : List ℕ) (a : Awaited) (r : Reader) (out : List ℤ) → good r ≡ true
-    → lineOf (toldReader r a) words out ≡ assembled (frontOf a words) (report.lineOf r (drop (frontOf a words .taken) words) out)
-unfolding lineOf report.lineOf frontOf run closed droppedAmong
+    → line hearsLine (toldReader r a) words out ≡ assembled (frontOf a words) (line report.readsLine r (drop (frontOf a words .taken) words) out)
+unfolding line frontOf run closed sum
 line-front [] a r out g = refl
 line-front (w ∷ words) a r out g = go (continues a w) refl (finishes a) refl (line-front words (more a w) r out g)
   where
     go : (t : Bool) → continues a w ≡ t → (u : Bool) → finishes a ≡ u
-        → lineOf (toldReader r (more a w)) words out ≡ assembled (frontOf (more a w) words) (report.lineOf r (drop (frontOf (more a w) words .taken) words) out)
-        → lineOf (toldReader r a) (w ∷ words) out ≡ assembled (frontOf a (w ∷ words)) (report.lineOf r (drop (frontOf a (w ∷ words) .taken) (w ∷ words)) out)
+        → line hearsLine (toldReader r (more a w)) words out ≡ assembled (frontOf (more a w) words) (line report.readsLine r (drop (frontOf (more a w) words .taken) words) out)
+        → line hearsLine (toldReader r a) (w ∷ words) out ≡ assembled (frontOf a (w ∷ words)) (line report.readsLine r (drop (frontOf a (w ∷ words) .taken) (w ∷ words)) out)
     go true e true f ih =
         rw (e, f)
-        (ap (λ (x : Ran ToldReader Both). counted x out) (run-kept (toldReader r a) w words (length out) (toldReader r nothing) (told a w) (word-kept (toldReader r a) w e ∙ keep-last r a w f) ∙ ap (behind (both (told a w) answer.Nothing ∷ [])) (plain-run words r (length out) g))
+        (ap (λ (x : Ran ToldReader Both). counted hearsLine x out) (run-kept (toldReader r a) w words (length out) (toldReader r nothing) (told a w) (word-kept (toldReader r a) w e ∙ keep-last r a w f) ∙ ap (behind (both (told a w) answer.Nothing ∷ [])) (plain-run words r (length out) g))
         ∙ quiet-first (told a w) (lifted (run report.reads r words (length out))) out
         ∙ counted-lifted (run report.reads r words (length out)) 1 (told a w) out)
     go true e false f ih =
         rw (e, f)
-        (ap (λ (x : Ran ToldReader Both). counted x out) (run-kept (toldReader r a) w words (length out) (toldReader r (more a w)) reply.Nothing (word-kept (toldReader r a) w e ∙ keep-more r a w f))
+        (ap (λ (x : Ran ToldReader Both). counted hearsLine x out) (run-kept (toldReader r a) w words (length out) (toldReader r (more a w)) reply.Nothing (word-kept (toldReader r a) w e ∙ keep-more r a w f))
         ∙ quiet-first reply.Nothing (run hears (toldReader r (more a w)) words (length out)) out
-        ∙ ap (joined 1 0 0 reply.Nothing []) ih
-        ∙ ahead-one (frontOf (more a w) words) (report.lineOf r (drop (frontOf (more a w) words .taken) words) out)
-        ∙ ap (λ (l : List ℕ). assembled (ahead 1 (frontOf (more a w) words)) (report.lineOf r l out)) (drop-one w words (frontOf (more a w) words .taken)))
+        ∙ ap (inFront 1 reply.Nothing) ih
+        ∙ ahead-one (frontOf (more a w) words) (line report.readsLine r (drop (frontOf (more a w) words .taken) words) out)
+        ∙ ap (λ (l : List ℕ). assembled (ahead 1 (frontOf (more a w) words)) (line report.readsLine r l out)) (drop-one w words (frontOf (more a w) words .taken)))
     go false e u f ih = rw e (counted-passed a r w words out g e)

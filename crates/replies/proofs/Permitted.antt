@@ -8,7 +8,7 @@ use lib.Dec.{eqb}
 use lib.IntN.{ℤ}
 use Rattle.reader.proofs.Permitted.{by-numbers}
 use Rattle.replies.specs.Replying.{came}
-use Rattle.replies.specs.Line.{Long, whole}
+use Rattle.replies.specs.Line.{Long, counts, whole, heardLine}
 use Rattle.replies.specs.Promises.{Step, Left, FreshPromise, GoodPromise, TellPromise, StepPromise, ReadPromise, replyNumbers, left, stepOf, readOf}
 use Rattle.replies.specs.declared.Asked.{Asked}
 use Rattle.replies.specs.declared.Reply.{Reply}
@@ -52,16 +52,12 @@ step-is s w h e =
 
 left-is : (p q : Long) → left p ≡ left q → p ≡ q
 left-is p q e =
-    let r : p .line .reply ≡ q .line .reply = by-reply (p .line .reply) (q .line .reply) (ap (λ (l : Left). l .reply) e) in
+    let r = by-reply (p .counts .reply) (q .counts .reply) (ap (λ (l : Left). l .reply) e) in
     λ i. record {
-      line = record {
-        refusal = e i .refusal;
-        next = e i .next;
-        taken = e i .taken;
-        reports = e i .reports;
-        dropped = e i .dropped;
-        reply = r i;
-      };
+      refusal = e i .refusal;
+      next = e i .next;
+      taken = e i .taken;
+      counts = counts (e i .reports) (e i .dropped) (r i);
       out = e i .out;
     }
 
@@ -84,4 +80,4 @@ one-step s w a b e f = step-is s w a e ∙ sym (step-is s w b f)
 pub one-read : (s : ToldReader) (words : List ℕ) (out : List ℤ) (a b : HeardLine) (x y : List ℤ) → ReadPromise s words out a x → ReadPromise s words out b y → (a ≡ b) × (x ≡ y)
 one-read s words out a b x y e f =
     let same = read-is s words out a x e ∙ sym (read-is s words out b y f) in
-    (ap (λ (l : Long). l .line) same, ap (λ (l : Long). l .out) same)
+    (ap heardLine same, ap (λ (l : Long). l .out) same)

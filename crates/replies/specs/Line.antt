@@ -1,41 +1,20 @@
 -- "Over many words": a line of words, word by word, and a lent slice.
 use Prim.Native.Nat.{ℕ, _+_, _*_, _≤_}
 use mathlib.Core.List.{List, [], _∷_, _++_, map}
-use lib.ListN.{length, take, drop}
+use lib.ListN.{length}
 use lib.IntN.{ℤ}
-use Rattle.fold.specs.Fold.{Machine, Ran, written, run}
-use Rattle.reader.specs.Counts.{writtenIn, handedOut, droppedAmong}
+use Rattle.fold.specs.Fold.{Machine}
+use Rattle.fold.specs.Calls.{Call}
+use Rattle.fold.specs.Calls as calls
+use Rattle.wire.specs.Numbers.{badState}
+use Rattle.reader.specs.Counts.{reportsIn, droppedIn, writtenIn}
 use Rattle.reader.specs.declared.Answer.{Answer}
+use Rattle.replies.specs.Good.{good}
 use Rattle.replies.specs.Rules.{wordOf}
 use Rattle.replies.specs.declared.Reply.{Reply}
 use Rattle.replies.specs.declared.Reply.the-variants as reply
 use Rattle.replies.specs.declared.ToldReader.{ToldReader}
 use Rattle.replies.specs.declared.HeardLine.{HeardLine}
-
--- what a long read gives back, and every number of the lent slice after it
-pub record Long : Type 0 where
-  pub line : HeardLine
-  pub out : List ℤ
-
-abbrev pub whole : HeardLine → List ℤ → Long
-whole line out = record { line = line; out = out }
-
--- it ends here, with a number: no more is taken, and nothing more written
-abbrev pub stopped : ℕ → ToldReader → List ℤ → Long
-stopped n s out = whole (record { refusal = n; next = s; taken = 0; reports = 0; dropped = 0; reply = reply.Nothing }) out
-
-abbrev pub withRefusal : ℕ → Long → Long
-withRefusal n l =
-    whole
-    (record {
-      refusal = n;
-      next = l .line .next;
-      taken = l .line .taken;
-      reports = l .line .reports;
-      dropped = l .line .dropped;
-      reply = l .line .reply;
-    })
-    (l .out)
 
 -- the answer to a word: what became of the reply, and the report reader's own
 pub record Both : Type 0 where
@@ -81,47 +60,48 @@ repliesAmong (a ∷ answers) = toldIn (a .reply) ++ repliesAmong answers
 abbrev pub ownAnswers : List Both → List Answer
 ownAnswers answers = map (λ (a : Both). a .answer) answers
 
--- the answers to the words taken, counted, and their numbers at the front of the slice
-abbrev pub counted : Ran ToldReader Both → List ℤ → Long
-counted f out =
-    whole
-    (record {
-      refusal = f .refusal;
-      next = f .next;
-      taken = length (f .answers);
-      reports = length (handedOut (ownAnswers (f .answers)));
-      dropped = droppedAmong (ownAnswers (f .answers));
-      reply = replyAmong (f .answers);
-    })
-    (written hears (f .answers) ++ drop (length (written hears (f .answers))) out)
+-- what is counted: reports, dropped bytes, and what became of the reply
+pub record Counts : Type 0 where
+  pub reports : ℕ
+  pub dropped : ℕ
+  pub reply : Reply
 
--- the words of a line, one after the other; it stops, with answer 0, before a word that would finish a report when fewer than five places are left, the reply
--- still pending
-unfoldable pub lineOf : ToldReader → List ℕ → List ℤ → Long
-lineOf s words out = counted (run hears s words (length out)) out
+abbrev pub counts : ℕ → ℕ → Reply → Counts
+counts reports dropped reply = record { reports = reports; dropped = dropped; reply = reply }
 
--- words taken, reports, bytes dropped, a reply and numbers written, and then what a later part of the line gives
-abbrev pub joined : ℕ → ℕ → ℕ → Reply → List ℤ → Long → Long
-joined taken reports dropped reply front later =
-    whole
-    (record {
-      refusal = later .line .refusal;
-      next = later .line .next;
-      taken = taken + later .line .taken;
-      reports = reports + later .line .reports;
-      dropped = dropped + later .line .dropped;
-      reply = orElse reply (later .line .reply);
-    })
-    (front ++ later .out)
+-- the long read: a report has five numbers. It stops, with answer 0, before a word that would finish a report when fewer
+-- than five places are left, the reply still pending.
+abbrev pub hearsLine : Call ToldReader Both Counts ℤ
+hearsLine =
+    record {
+      machine = hears;
+      tally = record {
+        none = counts 0 0 reply.Nothing;
+        plus = λ j k. counts (j .reports + k .reports) (j .dropped + k .dropped) (orElse (j .reply) (k .reply));
+        of = λ a. counts (reportsIn (a .answer)) (droppedIn (a .answer)) (a .reply);
+        places = λ k. 5 * k .reports;
+      };
+      good = good;
+      bad = badState;
+    }
 
-abbrev pub used : HeardLine → List ℤ → List ℤ
-used line out = take (5 * line .reports) out
+-- what it gives back, and every number of the lent slice after it
+abbrev pub Long : Type 0
+Long = calls.Long ToldReader Counts ℤ
 
-abbrev pub unused : HeardLine → List ℤ → List ℤ
-unused line out = drop (5 * line .reports) out
+abbrev pub whole : HeardLine → List ℤ → Long
+whole a out = record { refusal = a .refusal; next = a .next; taken = a .taken; counts = counts (a .reports) (a .dropped) (a .reply); out = out }
 
-abbrev pub asOne : HeardLine → List ℤ → Long → Long
-asOne line out later = joined (line .taken) (line .reports) (line .dropped) (line .reply) (used line out) later
+abbrev pub heardLine : Long → HeardLine
+heardLine l =
+    record {
+      refusal = l .refusal;
+      next = l .next;
+      taken = l .taken;
+      reports = l .counts .reports;
+      dropped = l .counts .dropped;
+      reply = l .counts .reply;
+    }
 
 -- how far a long read goes: no more words than there are, no more reports than have room, no more bytes dropped and
 -- kept than it took and had kept

@@ -5,13 +5,14 @@ use mathlib.Core.Bool.{Bool, not, cond}
 use mathlib.Core.List.{List, [], _∷_}
 use lib.ListN.{take}
 use lib.IntN.{ℤ}
+use Rattle.fold.specs.Calls.{stopped, withRefusal, call}
 use Rattle.wire.specs.Numbers.{success, badState, badWord, RefusesRightly}
 use Rattle.reader.specs.State.{numbersOf}
 use Rattle.reader.specs.Promises as reader
 use Rattle.replies.specs.Replying.{nothing, isNone}
 use Rattle.replies.specs.Good.{good}
 use Rattle.replies.specs.Rules.{toldReader, kindOf, telling, refusing, wordOf}
-use Rattle.replies.specs.Line.{Long, whole, stopped, withRefusal, lineOf}
+use Rattle.replies.specs.Line.{Long, whole, hearsLine}
 use Rattle.replies.specs.declared.Asked.{Asked}
 use Rattle.replies.specs.declared.Reply.{Reply}
 use Rattle.replies.specs.declared.Reply.the-variants as reply
@@ -85,15 +86,15 @@ abbrev pub StepPromise : ToldReader → ℕ → Heard → Type 0
 StepPromise s w answer = outcome answer ≡ outcome (stepOf s w)
 
 -- a long read: 6 before all, and then the line
-unfoldable pub readOf : ToldReader → List ℕ → List ℤ → Long
-readOf s words out = cond (good s) (lineOf s words out) (stopped badState s out)
+abbrev pub readOf : ToldReader → List ℕ → List ℤ → Long
+readOf s words out = call hearsLine s words out
 
 abbrev pub beforeBad : ToldReader → List ℕ → List ℤ → HeardLine → Long
 beforeBad s words out answer = withRefusal badWord (readOf s (take (answer .taken) words) out)
 
 abbrev pub ReadRefusal : ToldReader → List ℕ → List ℤ → HeardLine → List ℤ → Type 0
 ReadRefusal s words before answer after =
-    RefusesRightly (λ (l : Long). l .line .refusal) (stopped badState s before ∷ beforeBad s words before answer ∷ []) (whole answer after)
+    RefusesRightly (λ (l : Long). l .refusal) (stopped hearsLine badState s before ∷ beforeBad s words before answer ∷ []) (whole answer after)
 
 -- what a long read leaves behind, and the numbers of its reply
 pub record Left : Type 0 where
@@ -108,12 +109,12 @@ pub record Left : Type 0 where
 abbrev pub left : Long → Left
 left l =
     record {
-      refusal = l .line .refusal;
-      next = l .line .next;
-      taken = l .line .taken;
-      reports = l .line .reports;
-      dropped = l .line .dropped;
-      reply = replyNumbers (l .line .reply);
+      refusal = l .refusal;
+      next = l .next;
+      taken = l .taken;
+      reports = l .counts .reports;
+      dropped = l .counts .dropped;
+      reply = replyNumbers (l .counts .reply);
       out = l .out;
     }
 

@@ -2,7 +2,8 @@
 ghost use mathlib.Core.Path.{_≡_};
 ghost use mathlib.Core.Bool.{true};
 ghost use Rattle.reader.specs.Good.{good};
-ghost use Rattle.replies.specs.Line.{orElse, whole, lineOf};
+ghost use Rattle.fold.specs.Calls.{line};
+ghost use Rattle.replies.specs.Line.{orElse, whole, hearsLine};
 ghost use Rattle.replies.specs.Fronts.{front, frontOf, closed};
 use crate::Awaited;
 use crate::Front;
@@ -78,7 +79,7 @@ impl ToldReader {
     // The reply at the front, and the rest to the report reader.
     pub(crate) fn line(self, words: &[u16], out: &mut [i16]) -> HeardLine
         requires { ⌜ good (self .reader) ≡ true ⌝ }
-        ensures { λ r. ⌜ whole r (now (out .exit)) ≡ lineOf self (now (words .entry)) (now (out .entry)) ⌝ }
+        ensures { λ r. ⌜ whole r (now (out .exit)) ≡ line hearsLine self (now (words .entry)) (now (out .entry)) ⌝ }
     {
         let awaited = self.awaited;
         let reader = self.reader;

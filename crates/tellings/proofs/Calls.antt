@@ -10,6 +10,7 @@ use lib.Dec.{leb}
 use lib.IntN.{ℤ}
 use borrow.Author.Tests.{leb-true}
 use Rattle.fold.specs.Fold.{ran, behind, written, run}
+use Rattle.fold.specs.Calls.{counted, line}
 use Rattle.fold.proofs.Laws.{taken}
 use Rattle.numbers.proofs.Choices.{both as both-hold}
 use Rattle.numbers.proofs.Tested.{left, right}
@@ -24,7 +25,7 @@ use Rattle.reader.proofs.Handed.{numbers-length, numbers-append}
 use Rattle.replies.specs.Replying.{isNone}
 use Rattle.replies.specs.Good.{good}
 use Rattle.replies.specs.Rules.{kindOf, wordOf}
-use Rattle.replies.specs.Line.{Long, whole, Both, hears, toldIn, repliesAmong, ownAnswers, counted, lineOf}
+use Rattle.replies.specs.Line.{Long, Counts, whole, Both, hears, hearsLine, toldIn, repliesAmong, ownAnswers}
 use Rattle.replies.specs.Promises.{ReadPromise, tellOf, stepOf}
 use Rattle.tellings.specs.Items.{Item, word, telling, asItems, legalItems, Done, afterDone, ownAnswersOf, repliesOf, Call, long, tell, itemsOf, Called, was-read, was-told, CallsPromise, AllTaken, TookAll}
 use Rattle.tellings.specs.Items as items
@@ -32,7 +33,7 @@ use Rattle.replies.specs.declared.Reply.{Reply}
 use Rattle.replies.specs.declared.ToldReader.{ToldReader}
 use Rattle.replies.specs.declared.Telling.{Telling}
 use Rattle.replies.specs.declared.HeardLine.{HeardLine}
-use Rattle.replies.proofs.Counted.{both, own-written}
+use Rattle.replies.proofs.Counted.{both, sum-is, own-written}
 use Rattle.replies.proofs.Word.{word-fine}
 use Rattle.replies.proofs.Permitted.{read-is}
 use Rattle.replies.proofs.Goodness.{step-word, read-line, tell-stays-good}
@@ -107,22 +108,22 @@ reads-all : (s : ToldReader) (ws : List ℕ) (before : List ℤ) (a : HeardLine)
     → let d = doneOf s (asItems ws) in 5 * length (handedOut (ownAnswersOf d)) ≤ length before
     → ReadPromise s ws before a after
     → Read s ws before a after d
-unfolding lineOf
+unfolding line
 reads-all s ws before a after g l h p =
     let d = doneOf s (asItems ws) in
     let done = line-done ws s (length before) g l h in
-    let is : whole a after ≡ counted (ran success (afterDone s d) (bothsOf d)) before = read-is s ws before a after p ∙ read-line s ws before g ∙ rw (done .0) in
+    let is : whole a after ≡ counted hearsLine (ran success (afterDone s d) (bothsOf d)) before = read-is s ws before a after p ∙ read-line s ws before g ∙ rw (done .0) in
     let own = boths-own d in
     let wrote : written hears (bothsOf d) ≡ numbers (handedOut (ownAnswersOf d)) = own-written (bothsOf d) ∙ rw own (report.numbers-written (ownAnswersOf d)) in
     let five : length (written hears (bothsOf d)) ≡ 5 * length (handedOut (ownAnswersOf d)) = ap length (own-written (bothsOf d)) ∙ rw own (report.five-each (ownAnswersOf d)) in
     record {
-      refusal = ap (λ (x : Long). x .line .refusal) is;
-      next = ap (λ (x : Long). x .line .next) is;
-      taken = ap (λ (x : Long). x .line .taken) is ∙ done .1;
-      reports = ap (λ (x : Long). x .line .reports) is ∙ ap (λ (x : List Answer). length (handedOut x)) own;
-      reply = ap (λ (x : Long). toldIn (x .line .reply)) is ∙ sym (rw (done .0) at (once ws s (length before) g .is)) ∙ boths-replies d;
+      refusal = ap (λ (x : Long). x .refusal) is;
+      next = ap (λ (x : Long). x .next) is;
+      taken = ap (λ (x : Long). x .taken) is ∙ done .1;
+      reports = ap (λ (x : Long). x .counts .reports) is ∙ ap (λ (k : Counts). k .reports) (sum-is (bothsOf d)) ∙ ap (λ (x : List Answer). length (handedOut x)) own;
+      reply = ap (λ (x : Long). toldIn (x .counts .reply)) is ∙ ap (λ (k : Counts). toldIn (k .reply)) (sum-is (bothsOf d)) ∙ sym (rw (done .0) at (once ws s (length before) g .is)) ∙ boths-replies d;
       wrote = ap (λ (x : Long). x .out) is ∙ rw (five, wrote);
-      still-good = rw (ap (λ (x : Long). x .line .next) is) (done .2);
+      still-good = rw (ap (λ (x : Long). x .next) is) (done .2);
     }
 
 -- legal items in two parts

@@ -3,7 +3,7 @@ use Prim.Native.Nat.{ℕ, _+_, _*_}
 use mathlib.Core.Path.{_≡_}
 use mathlib.Core.Bool.{Bool, true, not, _&&_}
 use mathlib.Core.List.{List, [], _∷_, _++_, map}
-use lib.ListN.{length, drop}
+use lib.ListN.{length, take, drop}
 use lib.Dec.{leb}
 use lib.IntN.{ℤ}
 use Rattle.frames.specs.Words.{silence}
@@ -13,7 +13,8 @@ use Rattle.reader.specs.Counts.{numbers}
 use Rattle.reader.specs.declared.Answer.{Answer}
 use Rattle.replies.specs.Replying.{isNone}
 use Rattle.replies.specs.Rules.{kindOf}
-use Rattle.replies.specs.Line.{toldIn, used, unused}
+use Rattle.fold.specs.Calls.{unused}
+use Rattle.replies.specs.Line.{toldIn, whole, hearsLine}
 use Rattle.replies.specs.Promises.{TellPromise, StepPromise, ReadPromise}
 use Rattle.replies.specs.declared.Asked.{Asked}
 use Rattle.replies.specs.declared.Reply.{Reply}
@@ -97,7 +98,7 @@ unfoldable pub CallsPromise : ToldReader → List Call → List ℤ → List Cal
 CallsPromise s [] before [] = Unit
 CallsPromise s [] before (c ∷ called) = ⊥
 CallsPromise s (call ∷ calls) before [] = ⊥
-CallsPromise s (long words ∷ calls) before (was-read a after ∷ called) = ReadPromise s words before a after × CallsPromise (a .next) calls (unused a after) called
+CallsPromise s (long words ∷ calls) before (was-read a after ∷ called) = ReadPromise s words before a after × CallsPromise (a .next) calls (unused hearsLine (whole a after)) called
 CallsPromise s (long words ∷ calls) before (was-told t ∷ called) = ⊥
 CallsPromise s (tell asked ∷ calls) before (was-read a after ∷ called) = ⊥
 CallsPromise s (tell asked ∷ calls) before (was-told t ∷ called) = TellPromise s asked t × CallsPromise (t .next) calls before called
@@ -125,7 +126,7 @@ repliesCalled (was-told t ∷ called) = repliesCalled called
 
 abbrev pub sliceAfter : List ℤ → List Called → List ℤ
 sliceAfter before [] = before
-sliceAfter before (was-read a after ∷ called) = used a after ++ sliceAfter (unused a after) called
+sliceAfter before (was-read a after ∷ called) = take (5 * a .reports) after ++ sliceAfter (unused hearsLine (whole a after)) called
 sliceAfter before (was-told t ∷ called) = sliceAfter before called
 
 -- calls that took every word, told these replies and wrote the reports found: those numbers, and then the old ones

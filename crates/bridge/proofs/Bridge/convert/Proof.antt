@@ -2,19 +2,19 @@
 use borrow.Author.Needs.{needs}
 use mathlib.Core.Path.{sym, _∙_}
 use borrow.Author.Tests.{not-true, not-false}
-use Rattle.bridge.specs.Promises.{convertOf}
+use Rattle.fold.specs.Calls.{call}
 use Rattle.bridge.proofs.Bridge.convert.Statement.{statement}
 use Rattle.bridge.proofs.Bridge.convert.Tie as tie
 
 returns : tie.Need-returns
-unfolding convertOf
+unfolding call
 returns c = rw (sym (c .before .before .good2 .ensures) ∙ not-true _ (c .before .if1 .taken), c .converted .ensures)
 
 line-requires : tie.Need-line-requires
 line-requires c κs = sym (c .before .before .good2 .ensures) ∙ not-false _ (c .before .if1 .left)
 
 returns-2 : tie.Need-returns-2
-unfolding convertOf
+unfolding call
 returns-2 c = let g = c .before .before .before .before in
     rw (sym (g .before .good2 .ensures) ∙ not-false _ (g .if1 .left)) (c .before .before .line .ensures)
 

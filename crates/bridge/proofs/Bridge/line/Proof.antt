@@ -8,25 +8,27 @@ use lib.ListN.{length, length-drop}
 use borrow.Author.Needs.{needs}
 use borrow.Rule.Slice.PartMut.{putMid}
 use Rattle.fold.proofs.Parts.{rest-is}
+use Rattle.fold.proofs.Loops as loops
 use Rattle.wire.proofs.Letters.{at-most-five}
 use Rattle.reader.proofs.Parts.{below-size}
 use Rattle.bridge.specs.Good.{good}
-use Rattle.bridge.specs.Line.{whole}
-use Rattle.bridge.specs.Parts.{Stands}
+use Rattle.fold.specs.Calls.{Stands}
+use Rattle.bridge.specs.Line.{whole, counts, converts}
 use Rattle.bridge.proofs.Keeps.{good-reader}
-use Rattle.bridge.proofs.Loop.{starts, far, more, unchanged, ends-before, ends-all}
+use Rattle.bridge.proofs.Counted.{lawful}
+use Rattle.bridge.proofs.Loop.{far}
 use Rattle.bridge.proofs.Bridge.line.Statement.{statement}
 use Rattle.bridge.proofs.Bridge.line.Tie as tie
 
 abbrev Inv-loop : tie.InvT-loop
 Inv-loop words out₀ b₀ at₀ used₀ reports₀ sent₀ dropped₀ out b at used reports sent dropped =
-    Stands b₀ words out₀ b at used reports sent dropped out × (good b ≡ true)
+    Stands converts b₀ words out₀ b at used (counts reports sent dropped) out × (good b ≡ true)
 
 abbrev μ-loop : tie.MeasureT-loop
 μ-loop words out₀ b₀ at₀ used₀ reports₀ sent₀ dropped₀ out b at used reports sent dropped = length words - at
 
 loop-holds : tie.Need-loop-holds Inv-loop μ-loop
-loop-holds c = let s = c .before .before in (starts (s .args .self) (s .args .words .now) (s .args .out .now), s .pre)
+loop-holds c = let s = c .before .before in (loops.stands-none converts lawful (s .args .self) (s .args .words .now) (s .args .out .now), s .pre)
 
 part-first-end : tie.Need-part-first-end Inv-loop μ-loop
 part-first-end c = search needs
@@ -44,21 +46,21 @@ first-requires : tie.Need-first-requires Inv-loop μ-loop
 first-requires c κs = let l = c .before .before .before .loop in (l .inv .1, rw (rest-is (c .before .before .before .before .before .before .args .words .now) (l .at), length-drop) (omega arith))
 
 same-length : tie.Need-same-length Inv-loop μ-loop
-same-length c = let s = c .before .before .before .before .before .before .before .before .before .loop .inv .0 in ap length (unchanged s (c .before .before .before .before .before .first .ensures) (c .before .if1 .taken)) ∙ far s .long
+same-length c = let s = c .before .before .before .before .before .before .before .before .before .loop .inv .0 in ap length (loops.unchanged converts lawful s (c .before .before .before .before .before .first .ensures) (c .before .if1 .taken)) ∙ far s .long
 
 returns : tie.Need-returns Inv-loop μ-loop
 returns c = let s = c .before .before .before .before .before .before .before .before .before .loop .inv .0 in
     let f = c .before .before .before .before .before .first .ensures in
-    rw (c .converted .ensures) (ap (whole _) (unchanged s f (c .before .if1 .taken)) ∙ ends-before s f (c .before .if1 .taken))
+    rw (c .converted .ensures) (ap (whole _) (loops.unchanged converts lawful s f (c .before .if1 .taken)) ∙ loops.ends-before converts lawful s f (c .before .if1 .taken))
 
 -- where it stands when a word was taken
 turn : (c : tie.After-struct-known2 Inv-loop μ-loop) → let f = c .before .before .before .before .before .before in
     let l = c .before .before .before .before .before .before .before .before .before .before .loop in
     let a = c .before .before .before .before .before .before .before .before .before .before .before .before .before .args in
     let t = f .first .result in
-    Stands (a .self) (a .words .now) (a .out .now) (t .next) (l .at + t .taken) (l .used + 3 * t .sent) (l .reports + t .reports) (l .sent + t .sent) (l .dropped + t .dropped)
+    Stands converts (a .self) (a .words .now) (a .out .now) (t .next) (l .at + t .taken) (l .used + 3 * t .sent) (counts (l .reports + t .reports) (l .sent + t .sent) (l .dropped + t .dropped))
     (putMid (l .used) (length (l .out) - l .used) (l .out) (f .first .last .1 .1 .0))
-turn c = more (c .before .before .before .before .before .before .before .before .before .before .loop .inv .0) (c .before .before .before .before .before .before .first .ensures)
+turn c = loops.more converts lawful (c .before .before .before .before .before .before .before .before .before .before .loop .inv .0) (c .before .before .before .before .before .before .first .ensures)
 
 add-at : tie.Need-add-at Inv-loop μ-loop
 add-at c = omega (arith, far (turn c), c .before .before .before .before .before .before .before .before .before .before .before .before .before .good .1 .0 .1)
@@ -90,7 +92,7 @@ same-length-2 : tie.Need-same-length-2 Inv-loop μ-loop
 same-length-2 c = far (c .before .before .loop .inv .0) .long
 
 returns-2 : tie.Need-returns-2 Inv-loop μ-loop
-returns-2 c = rw (c .converted2 .ensures) (ends-all (c .before .before .loop .inv .0) (c .before .loop-test .left))
+returns-2 c = rw (c .converted2 .ensures) (loops.ends-all converts lawful (c .before .before .loop .inv .0) (c .before .loop-test .left))
 
 pub line-spec : {M : Type 1} → statement M
 line-spec =

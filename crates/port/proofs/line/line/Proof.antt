@@ -5,21 +5,21 @@ use native.Mathlib.Omega.{arith}
 use lib.ListN.{length, length-take, length-drop}
 use borrow.Author.Needs.{needs}
 use borrow.Rule.Slice.PartMut.{putMid}
-use Rattle.fold.specs.Counting.{Stands}
-use Rattle.fold.proofs.Counting.{stands-none}
-use Rattle.port.specs.Line.{whole, counts}
-use Rattle.port.proofs.Loop.{one-each, far, more, unchanged, ends-before, ends-all}
+use Rattle.fold.specs.Calls.{Stands}
+use Rattle.fold.proofs.Loops.{stands-none}
+use Rattle.port.specs.Line.{whole, hearsBytes}
+use Rattle.port.proofs.Loop.{lawful, far, more, unchanged, ends-before, ends-all}
 use Rattle.port.proofs.line.line.Statement.{statement}
 use Rattle.port.proofs.line.line.Tie as tie
 
 abbrev Inv-loop : tie.InvT-loop
-Inv-loop raw out₀ p₀ at₀ used₀ out p at used = Stands counts p₀ raw out₀ p at used used 0 out
+Inv-loop raw out₀ p₀ at₀ used₀ out p at used = Stands hearsBytes p₀ raw out₀ p at used used out
 
 abbrev μ-loop : tie.MeasureT-loop
 μ-loop raw out₀ p₀ at₀ used₀ out p at used = length raw - at
 
 loop-holds : tie.Need-loop-holds Inv-loop μ-loop
-loop-holds c = let s = c .before .before in stands-none counts one-each (s .args .port) (s .args .raw .now) (s .args .out .now)
+loop-holds c = let s = c .before .before in stands-none hearsBytes lawful (s .args .port) (s .args .raw .now) (s .args .out .now)
 
 sub-first : tie.Need-sub-first Inv-loop μ-loop
 sub-first c = omega arith
@@ -55,7 +55,7 @@ returns c =
 turn : (c : tie.After-first Inv-loop μ-loop) → let l = c .before .before .before .before .loop in
     let a = c .before .before .before .before .before .before .before .args in
     let t = c .first .result in
-    Stands counts (a .port) (a .raw .now) (a .out .now) (t .next) (l .at + t .taken) (l .used + t .written) (l .used + t .written) 0
+    Stands hearsBytes (a .port) (a .raw .now) (a .out .now) (t .next) (l .at + t .taken) (l .used + t .written) (l .used + t .written)
     (putMid (l .used) (length (l .out) - l .used) (l .out) (c .first .last .1 .1 .0))
 turn c = more (c .before .before .before .before .loop .inv) (c .first .ensures)
 

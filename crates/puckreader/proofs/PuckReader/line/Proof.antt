@@ -6,23 +6,23 @@ use native.Mathlib.Omega.{arith}
 use lib.ListN.{length, length-take, length-drop}
 use borrow.Author.Needs.{needs}
 use borrow.Rule.Slice.PartMut.{putMid}
-use Rattle.fold.specs.Counting.{Stands}
-use Rattle.fold.proofs.Counting.{stands-none}
+use Rattle.fold.specs.Calls.{Stands, counts}
+use Rattle.fold.proofs.Loops as loops
 use Rattle.puckreader.specs.Good.{good}
-use Rattle.puckreader.specs.Line.{whole, counts}
-use Rattle.puckreader.proofs.Counting.{six-each}
-use Rattle.puckreader.proofs.Loop.{few, far, more, unchanged, ends-before, ends-all}
+use Rattle.puckreader.specs.Line.{whole, readsLine}
+use Rattle.puckreader.proofs.Counting.{lawful}
+use Rattle.puckreader.proofs.Loop.{few, far}
 use Rattle.puckreader.proofs.PuckReader.line.Statement.{statement}
 use Rattle.puckreader.proofs.PuckReader.line.Tie as tie
 
 abbrev Inv-loop : tie.InvT-loop
-Inv-loop words out₀ r₀ at₀ used₀ reports₀ dropped₀ out r at used reports dropped = Stands counts r₀ words out₀ r at used reports dropped out × (good r ≡ true)
+Inv-loop words out₀ r₀ at₀ used₀ reports₀ dropped₀ out r at used reports dropped = Stands readsLine r₀ words out₀ r at used (counts reports dropped) out × (good r ≡ true)
 
 abbrev μ-loop : tie.MeasureT-loop
 μ-loop words out₀ r₀ at₀ used₀ reports₀ dropped₀ out r at used reports dropped = length words - at
 
 loop-holds : tie.Need-loop-holds Inv-loop μ-loop
-loop-holds c = let s = c .before in (stands-none counts six-each (s .args .self) (s .args .words .now) (s .args .out .now), s .pre)
+loop-holds c = let s = c .before in (loops.stands-none readsLine lawful (s .args .self) (s .args .words .now) (s .args .out .now), s .pre)
 
 mul-first : tie.Need-mul-first Inv-loop μ-loop
 mul-first c = omega arith
@@ -49,21 +49,21 @@ same-length : tie.Need-same-length Inv-loop μ-loop
 same-length c =
     let f = c .before .before .before .before in
     let s = f .before .before .before .before .loop .inv .0 in
-    ap length (unchanged s (f .first .ensures) (c .before .if1 .taken)) ∙ far s .long
+    ap length (loops.unchanged readsLine lawful s (f .first .ensures) (c .before .if1 .taken)) ∙ far s .long
 
 returns : tie.Need-returns Inv-loop μ-loop
 returns c =
     let f = c .before .before .before .before in
     let s = f .before .before .before .before .loop .inv .0 in
-    rw (c .reading .ensures) (ap (whole _) (unchanged s (f .first .ensures) (c .before .if1 .taken)) ∙ ends-before s (f .first .ensures) (c .before .if1 .taken))
+    rw (c .reading .ensures) (ap (whole _) (loops.unchanged readsLine lawful s (f .first .ensures) (c .before .if1 .taken)) ∙ loops.ends-before readsLine lawful s (f .first .ensures) (c .before .if1 .taken))
 
 -- where it stands when a word was taken
 turn : (c : tie.After-first Inv-loop μ-loop) → let l = c .before .before .before .before .loop in
     let a = c .before .before .before .before .before .before .args in
     let t = c .first .result in
-    Stands counts (a .self) (a .words .now) (a .out .now) (t .next) (l .at + t .taken) (l .used + 6 * t .reports) (l .reports + t .reports) (l .dropped + t .dropped)
+    Stands readsLine (a .self) (a .words .now) (a .out .now) (t .next) (l .at + t .taken) (l .used + 6 * t .reports) (counts (l .reports + t .reports) (l .dropped + t .dropped))
     (putMid (l .used) (length (l .out) - l .used) (l .out) (c .first .last .1 .1 .0))
-turn c = more (c .before .before .before .before .loop .inv .0) (c .first .ensures)
+turn c = loops.more readsLine lawful (c .before .before .before .before .loop .inv .0) (c .first .ensures)
 
 add-at : tie.Need-add-at Inv-loop μ-loop
 add-at c = let f = c .before .before .before .before .before in omega (arith, far (turn f), f .before .before .before .before .before .before .good .1 .0 .1)
@@ -78,7 +78,7 @@ add-reports : tie.Need-add-reports Inv-loop μ-loop
 add-reports c = let f = c .before .before .before .before .before .before .before in omega (arith, far (turn f), f .before .before .before .before .before .before .good .1 .1 .0 .1)
 
 add-dropped : tie.Need-add-dropped Inv-loop μ-loop
-add-dropped c = let f = c .before .before .before .before .before .before .before .before in let s = f .before .before .before .before .before .before in omega (arith, few (s .pre) (turn f), s .good .1 .0 .1)
+add-dropped c = let f = c .before .before .before .before .before .before .before .before in let s = f .before .before .before .before .before .before in omega (arith, few (turn f) (s .pre), s .good .1 .0 .1)
 
 loop-less : tie.Need-loop-less Inv-loop μ-loop
 loop-less c = let f = c .before .before .before .before .before .before .before .before in omega (arith, far (turn f), c .before .before .before .before .before .if1 .left, c .before .before .before .before .before .before .before .before .before .before .before .loop-test .taken)
@@ -90,7 +90,7 @@ same-length-2 : tie.Need-same-length-2 Inv-loop μ-loop
 same-length-2 c = far (c .before .before .loop .inv .0) .long
 
 returns-2 : tie.Need-returns-2 Inv-loop μ-loop
-returns-2 c = rw (c .reading2 .ensures) (ends-all (c .before .before .loop .inv .0) (c .before .loop-test .left))
+returns-2 c = rw (c .reading2 .ensures) (loops.ends-all readsLine lawful (c .before .before .loop .inv .0) (c .before .loop-test .left))
 
 pub line-spec : {M : Type 1} → statement M
 line-spec =

@@ -4,17 +4,17 @@ use Rattle.puckreader.proofs.PuckReader.read.Statement.{statement}
 use Rattle.puckreader.proofs.PuckReader.read.Tie as tie
 use mathlib.Core.Path.{_∙_, sym}
 use borrow.Author.Tests.{not-true, not-false}
-use Rattle.puckreader.specs.Promises.{readOf}
+use Rattle.fold.specs.Calls.{call}
 
 returns : tie.Need-returns
-unfolding readOf
+unfolding call
 returns c = rw (sym (c .before .good2 .ensures) ∙ not-true _ (c .if1 .taken))
 
 line-requires : tie.Need-line-requires
 line-requires c κs = sym (c .before .before .good2 .ensures) ∙ not-false _ (c .before .if1 .left)
 
 returns-2 : tie.Need-returns-2
-unfolding readOf
+unfolding call
 returns-2 c = let b = c .before .before .before in rw (sym (b .before .good2 .ensures) ∙ not-false _ (b .if1 .left)) (c .before .line .ensures)
 
 pub read-spec : {M : Type 1} → statement M

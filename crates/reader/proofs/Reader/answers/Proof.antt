@@ -2,19 +2,19 @@
 use borrow.Author.Needs.{needs}
 use mathlib.Core.Path.{sym, _∙_}
 use borrow.Author.Tests.{not-true, not-false}
-use Rattle.reader.specs.Promises.{answersOf}
+use Rattle.fold.specs.Calls.{call}
 use Rattle.reader.proofs.Reader.answers.Statement.{statement}
 use Rattle.reader.proofs.Reader.answers.Tie as tie
 
 returns : tie.Need-returns
-unfolding answersOf
+unfolding call
 returns c = rw (c .so-far .ensures, sym (c .before .before .good2 .ensures) ∙ not-true _ (c .before .if1 .taken))
 
 told-requires : tie.Need-told-requires
 told-requires c κs = sym (c .before .before .good2 .ensures) ∙ not-false _ (c .before .if1 .left)
 
 returns-2 : tie.Need-returns-2
-unfolding answersOf
+unfolding call
 returns-2 c = let b = c .before .before .before in
     rw (sym (b .before .good2 .ensures) ∙ not-false _ (b .if1 .left)) (c .before .told .ensures)
 

@@ -1,6 +1,6 @@
 -- `begins`: what the test says.
 use Prim.Native.Nat.{_≤_}
-use mathlib.Core.Path.{_≡_, sym}
+use mathlib.Core.Path.{_≡_}
 use mathlib.Core.Bool.{not, _&&_}
 use lib.ListN.{length}
 use lib.Dec.{eqb, leb}

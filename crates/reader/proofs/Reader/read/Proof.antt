@@ -2,7 +2,7 @@
 use borrow.Author.Needs.{needs}
 use mathlib.Core.Path.{sym, _∙_}
 use borrow.Author.Tests.{not-true, not-false}
-use Rattle.reader.specs.Promises.{readOf}
+use Rattle.fold.specs.Calls.{call}
 use Rattle.reader.proofs.Parts.{sized}
 use Rattle.reader.proofs.Reader.read.Statement.{statement}
 use Rattle.reader.proofs.Reader.read.Tie as tie
@@ -11,7 +11,7 @@ good-requires : tie.Need-good-requires
 good-requires c κs = search needs
 
 returns : tie.Need-returns
-unfolding readOf
+unfolding call
 returns c = simp (sym (c .before .good2 .ensures) ∙ not-true _ (c .if1 .taken))
 
 size-requires : tie.Need-size-requires
@@ -31,7 +31,7 @@ same-length : tie.Need-same-length
 same-length c = search needs
 
 returns-2 : tie.Need-returns-2
-unfolding readOf
+unfolding call
 returns-2 c = let b = c .before .before .before .before .before in
     simp (sym (b .before .good2 .ensures) ∙ not-false _ (b .if1 .left)) (c .before .line .ensures)
 

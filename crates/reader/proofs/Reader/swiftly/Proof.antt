@@ -1,7 +1,7 @@
 -- `swiftly`: at the loop's head the reader is ready, and what is done, joined to what the rest of the line does, is the whole.
 use Prim.Native.Nat.{_-_, _+_, _*_, _/_}
 use mathlib.Core.Path.{_≡_, refl, sym, _∙_, ap}
-use mathlib.Core.Bool.{true, not, _&&_}
+use mathlib.Core.Bool.{not, _&&_}
 use native.Mathlib.Omega.{arith}
 use lib.ListN.{length, take, drop}
 use lib.Dec.{eqb}

@@ -7,7 +7,7 @@ use Rattle.reader.specs.Good as readers
 use Rattle.replies.specs.Replying as replying
 use Rattle.replies.specs.Good.{good}
 use Rattle.replies.specs.Promises as promises
-use Rattle.replies.specs.Promises.{readOf}
+use Rattle.fold.specs.Calls.{call}
 use Rattle.replies.proofs.ToldReader.read.Statement.{statement}
 use Rattle.replies.proofs.ToldReader.read.Tie as tie
 
@@ -15,7 +15,7 @@ good-requires : tie.Need-good-requires
 good-requires c κs = search needs
 
 returns : tie.Need-returns
-unfolding readOf
+unfolding call
 returns c = simp (sym (c .before .good2 .ensures) ∙ not-true _ (c .if1 .taken))
 
 line-requires : tie.Need-line-requires
@@ -27,7 +27,7 @@ same-length : tie.Need-same-length
 same-length c = search needs
 
 returns-2 : tie.Need-returns-2
-unfolding readOf
+unfolding call
 returns-2 c = let b = c .before .before .before in
     simp (sym (b .before .good2 .ensures) ∙ not-false _ (b .if1 .left)) (ap promises.left (c .before .line .ensures))
 
