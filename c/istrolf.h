@@ -68,8 +68,9 @@ typedef struct {
 } istrolf_report;
 
 /* ---- The port: what a tty hands over in, line words out. The tty marks errors (PARMRK and INPCK set; IGNPAR, IGNBRK,
- * BRKINT and ISTRIP clear): the byte FF comes as FF FF, a break as FF 00 00, a damaged byte x as FF 00 x. A break and a
- * damaged byte are ISTROLF_BREAK; so is FF with any other byte behind it, which no tty sends. A mark may be cut at any place.
+ * BRKINT and ISTRIP clear) and changes, answers and takes no byte (ICANON, ISIG, IEXTEN, IXON, IXOFF, ICRNL, INLCR, IGNCR
+ * and ECHO clear): the byte FF comes as FF FF, a break as FF 00 00, a damaged byte x as FF 00 x. A break and a damaged byte
+ * are ISTROLF_BREAK; so is FF with any other byte behind it, which no tty sends. Reads may cut a mark at any place.
  *
  * Silences. A false one inside a report of U, T or W makes reports that nobody sent; one that is left out does no harm.
  * Two rules decide everything:
@@ -117,7 +118,8 @@ istrolf_port_word istrolf_port_byte(istrolf_port port, uint8_t byte);
  * next word: call again with next, raw + taken, count - taken and new room. */
 istrolf_port_words istrolf_port_bytes(istrolf_port port, const uint8_t *raw, size_t count, uint16_t *out, size_t room);
 
-/* A wait in which nothing came: hand in the time that poll() was asked to wait, and only where it answered 0. */
+/* A wait in which nothing came: hand in the time that poll() was asked to wait, and only where it answered 0. Where it tells
+ * a silence, what has come of a mark is dropped: a tty hands over the rest of one without such a wait. */
 istrolf_port_word istrolf_port_quiet(istrolf_port port, uint32_t wait);
 
 /* Bytes are known to be lost, however many: a count of the driver's (TIOCGICOUNT) went up. It tells one ISTROLF_BREAK, and a

@@ -90,16 +90,9 @@ good-buttons b g = leb-true (b .settings .buttons) 7 (few (b .settings) (parts b
 pub good-shown : (b : BallBox) → good b ≡ true → toShow b ≤ 7
 good-shown b g = shown-small b (parts b g .memory) (good-buttons b g)
 
--- at most five bytes are going, and as many after latching
+-- at most five bytes are going
 pub good-length : (b : BallBox) → good b ≡ true → b .going .length ≤ 5
 good-length b g =
     let f = b .settings .format in
     let n = b .going .length in
     or-else (leb n 3) (eqb n (sizeBy f)) (λ e. omega (arith, leb-true n 3 e)) (λ e. omega (arith, eqb-true n (sizeBy f) e, at-most-five f)) (parts b g .going .known)
-
-pub latching-length : (b : BallBox) → b .going .length ≤ 5 → latching b .going .length ≤ 5
-unfolding latching latched goingFrom
-latching-length b h =
-    cases (λ (x : BallBox). x .going .length ≤ 5) (not (bytesLeft b) && wanted b)
-    (λ e. rw (bytes-by-length (b .settings .format)) (at-most-five (b .settings .format)))
-    (λ e. h)

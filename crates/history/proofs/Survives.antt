@@ -44,12 +44,6 @@ unfolding passagesOver goingOver boxAfter
 passages-then b g [] back = refl
 passages-then b g (e ∷ front) back = rw (passages-then (nextBox b e) (toldBy b e g .going) front back, append-assoc)
 
-pub going-then : (b : BallBox) (g : UnderWay Message) (front back : List Event)
-    → goingAfter b g (front ++ back) ≡ goingAfter (boxAfter b front) (goingAfter b g front) back
-unfolding goingOver boxAfter
-going-then b g [] back = refl
-going-then b g (e ∷ front) back = going-then (nextBox b e) (toldBy b e g .going) front back
-
 pub hosts-then : (test : ℕ → Bool) (front back : List Event) → allHosts test front ≡ true → allHosts test back ≡ true → allHosts test (front ++ back) ≡ true
 unfolding allHosts
 hosts-then test [] back h k = k

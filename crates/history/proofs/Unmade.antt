@@ -234,17 +234,6 @@ repeats-over u b g (e ∷ events) h a l =
     rw (finished-append shownIn (t .passages), finished-append latchedButtons (t .passages))
     (repeats-append (step-shows u b e g (h .good) (h .awake) l .seen) rest)
 
-pub last-over : (u : ℕ) (b : BallBox) (g : UnderWay Message) (events : List Event) → Streams b g → noneEmpties events ≡ true → Last u b g
-    → Last (lastOf u (shownBy (passagesOf b g events))) (boxAfter b events) (goingAfter b g events)
-unfolding allHosts passagesOver goingOver boxAfter
-last-over u b g [] h a l = l
-last-over u b g (e ∷ events) h a l =
-    let pass = hostsPass (λ byte. not (empties byte)) e in
-    let s = streams-step b e g h (left pass (noneEmpties events) a) in
-    let t = toldBy b e g in
-    rw (finished-append shownIn (t .passages), last-append u (shownBy (t .passages)))
-    (last-over (lastOf u (shownBy (t .passages))) (nextBox b e) (t .going) events (s .next) (right pass (noneEmpties events) a) (last-step u b e g h s l))
-
 -- What the box is told are the present state and then its changes, each once or more often.
 told-one : (b : BallBox) (n : ℕ) → Repeats (b .settings .buttons) (changeTo b (Buttons n)) (cond (leb n 7) (n ∷ []) [])
 told-one b n = go (leb n 7) refl (eqb n (b .settings .buttons)) refl

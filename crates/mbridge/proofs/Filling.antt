@@ -14,19 +14,13 @@ use Rattle.text.proofs.Filled.{both-filled, filled-all}
 use Rattle.text.proofs.Digits.{digits-long, places-few}
 use Rattle.mbridge.specs.Lines.{numbered, byteLine, byteLines}
 
--- bytes as they are, and their lines: one more
+-- the lines of bytes: one more
 module _ (t u all : Text) (bytes : List ℕ) (i : ℕ) (h : i < length bytes) where
-  pub same-again : u ≡ filled t (getD bytes i 0) → filledBy t (drop i bytes) ≡ all → filledBy u (drop (i + 1) bytes) ≡ all
-  same-again e f = rw (add-one, e) (rw (drop-cons bytes i 0 h) at f)
-
   pub lines-again : u ≡ filledBy t (byteLine (getD bytes i 0)) → filledBy t (byteLines (drop i bytes)) ≡ all → filledBy u (byteLines (drop (i + 1) bytes)) ≡ all
   unfolding byteLines
   lines-again e f = rw (add-one, e) (both-filled t (byteLine (getD bytes i 0)) (byteLines (drop (suc i) bytes)) ∙ (rw (drop-cons bytes i 0 h) at f))
 
 -- all of them
-pub same-all : (t all : Text) (bytes : List ℕ) (i : ℕ) → length bytes ≤ i → filledBy t (drop i bytes) ≡ all → t ≡ all
-same-all t all bytes i h f = rw (drop-of-length-le bytes h) at f
-
 pub lines-all : (t all : Text) (bytes : List ℕ) (i : ℕ) → length bytes ≤ i → filledBy t (byteLines (drop i bytes)) ≡ all → t ≡ all
 unfolding byteLines
 lines-all t all bytes i h f = rw (drop-of-length-le bytes h) at f
