@@ -81,8 +81,8 @@ fn end(turn: &mut u64, went: Went, out: &mut [u8]) -> bool
 {
     let lister = went.next;
     let listed = lister.finish(out);
-    let n = listed.written;
-    shell::show(turn, b"mlist: standard output", &out[..n])
+    let last = listed.written;
+    shell::show(turn, b"mlist: standard output", &out[..last])
 }
 
 // WHAT IS HANDED OUT IS THE LISTING OF THE INPUT.
