@@ -68,7 +68,8 @@ use Rattle.listing.specs.declared.Given.{Given}
 use Rattle.listing.proofs.Answers as listing
 use Rattle.listing.proofs.Refusals as listing-refusals
 use Rattle.listing.proofs.Calls as calls
-use Rattle.text.specs.Promises.{NonePromise, WithPromise, DecimalPromise, NumberPromise, PutPromise, ByteToPromise, BytesToPromise, DecimalToPromise}
+use Rattle.text.specs.Promises.{NonePromise, WithPromise, DecimalPromise, NumberPromise, LengthToPromise}
+use Rattle.text.specs.Promises.{PutPromise, ByteToPromise, BytesToPromise, DecimalToPromise}
 use Rattle.text.specs.declared.Text.{Text}
 use Rattle.text.proofs.Answers as text
 use Rattle.yard.specs.Good as yards
@@ -231,6 +232,9 @@ decimal-one t width x a b = text.one-decimal t width x
 
 pub number-one : (bytes : List ℕ) (width : ℕ) → One (NumberPromise bytes width)
 number-one bytes width a b = text.one-number bytes width
+
+pub length-to-one : (bytes : List ℕ) (stop : ℕ) → One (LengthToPromise bytes stop)
+length-to-one bytes stop a b = text.one-length-to bytes stop
 
 pub put-one : (t : Text) (at : ℕ) (before : List ℕ) → OneWith (PutPromise t at before)
 put-one t at before a b after behind = text.one-put t at before
@@ -714,7 +718,7 @@ pub rewrite-as-before : (r : Readback) (piece before after rest : List ℕ) (a b
     → readbacks.good r ≡ true
     → readback.RewritePromise r piece before a after
     → readback.RewritePromise r (take (a .taken) piece) before b rest
-    → readback-rewriting.rewriting b rest ≡ readback-rewriting.faultless (readback-rewriting.rewriting a after)
+    → readback-rewriting.rewriting b rest ≡ readback-pieces.faultless (readback-rewriting.rewriting a after)
 rewrite-as-before = readback-rewrites.rewrite-as-before
 
 pub readback-finish-refusals : (r : Readback) (left : ℕ) (a : Back)

@@ -39,7 +39,6 @@ use Rattle.salvage.specs.declared.Picked.{Picked}
 use Rattle.readback.specs.Steps as readbacks
 use Rattle.readback.specs.Pieces as pieces
 use Rattle.readback.specs.Pieces.{faultyLine}
-use Rattle.readback.specs.Rewriting as rewriting
 use Rattle.readback.specs.Rewriting.{tooWide}
 use Rattle.readback.specs.Promises as readback
 use Rattle.readback.specs.declared.Readback.{Readback}
@@ -183,7 +182,7 @@ readback-tests r piece before after a p = record { ordered = refl; one-of = go (
   where
     go : (t : Bool) → readbacks.good r ≡ t → (a .refusal ≡ success) ⊎ List·Memᴰ (a .refusal) (badState ∷ faultyLine ∷ [])
     go true g = ⊎-elim inl (λ e. inr (List·Memᴰ·tail (List·Memᴰ·head e))) (one.readback-ends r piece before after a g p)
-    go false g = inr (List·Memᴰ·head (ap (λ (w : pieces.Whole). w .back .refusal) (one.readback-bad-state r piece before after a g p)))
+    go false g = inr (List·Memᴰ·head (ap (λ (w : pieces.Whole ℤ). w .refusal) (one.readback-bad-state r piece before after a g p)))
 
 pub readback-finish-tests : (r : Readback) (left : ℕ) (a : Back) → readback.FinishPromise r left a → Tests (badState ∷ faultyLine ∷ []) (a .refusal)
 readback-finish-tests r left a p = record { ordered = refl; one-of = go (readbacks.good r) refl }
@@ -200,7 +199,7 @@ rewrite-tests r piece before after a p = record { ordered = refl; one-of = go (r
     go : (t : Bool) → readbacks.good r ≡ t → (a .refusal ≡ success) ⊎ List·Memᴰ (a .refusal) (badState ∷ faultyLine ∷ tooWide ∷ [])
     go true g =
         ⊎-elim inl (λ k. inr (List·Memᴰ·tail (⊎-elim List·Memᴰ·head (λ e. List·Memᴰ·tail (List·Memᴰ·head e)) k))) (one.rewrite-ends r piece before after a g p)
-    go false g = inr (List·Memᴰ·head (ap (λ (w : rewriting.Rewriting). w .told .refusal) (one.rewrite-bad-state r piece before after a g p)))
+    go false g = inr (List·Memᴰ·head (ap (λ (w : pieces.Whole ℕ). w .refusal) (one.rewrite-bad-state r piece before after a g p)))
 
 -- `Driver::feed`, `finish`
 pub drive-tests : (m : Driver) (input before after : List ℕ) (a : Driven)

@@ -3,16 +3,19 @@ use Prim.Native.Nat.{ℕ, _+_, _≤_, _<_}
 use mathlib.Core.Path.{_≡_, refl, sym, _∙_, ap, subst}
 use mathlib.Core.Bool.{true}
 use mathlib.Core.Logic.{_⊎_}
-use mathlib.Core.List.{List, [], _∷_, _++_, append-assoc, append-nil}
+use mathlib.Core.List.{List, [], _++_, append-nil}
 use native.Mathlib.Omega.{arith}
 use lib.ListN.{length, take, drop}
 use lib.Seq.{take-at}
 use Rattle.numbers.proofs.Choices.{cases}
+use Rattle.fold.specs.Pieces.{Call, Permitted, after, takenBy, writtenBy}
+use Rattle.fold.proofs.Pieces as in-pieces
+use Rattle.fold.proofs.Pieces.{EachCall}
 use Rattle.ballbox.specs.Box.{Bytes}
 use Rattle.driver.specs.Driving.{recordingOf}
 use Rattle.driver.specs.Feeding.{fresh, Feed, feedIn, closing, good}
 use Rattle.driver.specs.Promises.{enough, Whole, whole, written, untaken, feedOf, finishOf, FeedPromise, FinishPromise}
-use Rattle.driver.specs.Calls.{Call, Permitted, driverAfter, takenBy, writtenBy, Finish, PermittedAtEnd, driverAtEnd, writtenAtEnd, owing}
+use Rattle.driver.specs.Calls.{feedCalls, finishCalls, owing}
 use Rattle.driver.specs.declared.Driver.{Driver}
 use Rattle.driver.specs.declared.Driven.{Driven}
 use Rattle.driver.proofs.Kept.{Kept, kept-good, fresh-kept}
@@ -84,44 +87,36 @@ module _ (m : Driver) (before after : List ℕ) (a : Driven) (h : Kept m) (p : F
   pub ends-or-less : enough ≤ length before → (a .next .ended ≡ true) ⊎ (owing (a .next) < owing m)
   ends-or-less room = rw (call-next l before after a finishes) (end-on m (length before) h room)
 
--- what calls wrote, and what comes behind the bytes that they took
-calls : (ks : List Call) (rest : List ℕ) (m : Driver) → Kept m → Permitted m ks → Kept (driverAfter m ks) × (allOf m (takenBy ks ++ rest) ≡ writtenBy ks ++ allOf (driverAfter m ks) rest)
-calls [] rest m h p = (h, refl)
-calls (k ∷ ks) rest m h p =
-    let later = calls ks rest (k .answer .next) (next-kept m (k .piece) (k .before) (k .after) (k .answer) h (p .0) (p .1)) (p .2) in (
-      later .0,
-      rw append-assoc (call-goes m (k .piece) (k .before) (k .after) (k .answer) h (p .0) (p .1) (takenBy ks ++ rest))
-          ∙ ap (λ (l : List ℕ). take (k .answer .written) (k .after) ++ l) (later .1)
-          ∙ sym (append-assoc (take (k .answer .written) (k .after)) (writtenBy ks) (allOf (driverAfter (k .answer .next) ks) rest)),
-    )
+-- calls, one after the other: what comes of a fresh driver stays so, and they write a front of all that is to be
+-- written
+pub stays : EachCall feedCalls Kept (λ m piece after a. Kept (a .next))
+stays m piece before after a h p = next-kept m piece before after a h (p .0) (p .1)
 
--- and those of the end
-ends : (ks : List Finish) (m : Driver) → Kept m → PermittedAtEnd m ks → Kept (driverAtEnd m ks) × (allOf m [] ≡ writtenAtEnd ks ++ allOf (driverAtEnd m ks) [])
-ends [] m h p = (h, refl)
-ends (k ∷ ks) m h p =
-    let later = ends ks (k .answer .next) (last-kept m (k .before) (k .after) (k .answer) h (p .0)) (p .1) in (
-      later .0,
-      last-goes m (k .before) (k .after) (k .answer) h (p .0) ∙ ap (λ (l : List ℕ). take (k .answer .written) (k .after) ++ l) (later .1)
-          ∙ sym (append-assoc (take (k .answer .written) (k .after)) (writtenAtEnd ks) (allOf (driverAtEnd (k .answer .next) ks) [])),
-    )
+module _ (ks : List (Call Driven ℕ)) (p : Permitted feedCalls fresh ks) where
+  abbrev there : Driver
+  there = after feedCalls fresh ks
 
--- every driver that calls leave comes of a fresh one
-pub after-kept : (ks : List Call) → Permitted fresh ks → Kept (driverAfter fresh ks)
-after-kept ks p = calls ks [] fresh fresh-kept p .0
+  -- every driver that calls leave comes of a fresh one
+  after-kept : Kept there
+  after-kept = in-pieces.after-kept feedCalls Kept stays ks fresh fresh-kept p
 
--- IN CALLS: what a fresh driver wrote, with its end, is the recording of what it took
-pub in-calls : (ks : List Call) (es : List Finish) → Permitted fresh ks → PermittedAtEnd (driverAfter fresh ks) es → driverAtEnd (driverAfter fresh ks) es .ended ≡ true
-    → writtenBy ks ++ writtenAtEnd es ≡ recordingOf (takenBy ks)
-in-calls ks es p q e =
-    let fed = calls ks [] fresh fresh-kept p in
-    let closed = ends es (driverAfter fresh ks) (fed .0) q in
-    let last = driverAtEnd (driverAfter fresh ks) es in
-    sym (ap (λ (l : List ℕ). writtenBy ks ++ l) (closed .1 ∙ ap (λ (l : List ℕ). writtenAtEnd es ++ l) (quiet [] last (closed .0) e) ∙ append-nil (writtenAtEnd es)))
-    ∙ sym (fed .1) ∙ ap (allOf fresh) (append-nil (takenBy ks)) ∙ all-at-once (takenBy ks)
+  calls : (q : List ℕ) → allOf fresh (takenBy feedCalls ks ++ q) ≡ writtenBy feedCalls ks ++ allOf there q
+  calls q =
+      in-pieces.calls-write feedCalls Kept stays allOf (λ m piece before after a h p. call-goes m piece before after a h (p .0) (p .1)) ks q fresh fresh-kept p
 
--- NOTHING AFTER THE END: once it has ended, what it wrote is the recording, whatever the rest of the input is
-pub ended-early : (ks : List Call) (rest : List ℕ) → Permitted fresh ks → driverAfter fresh ks .ended ≡ true → writtenBy ks ≡ recordingOf (takenBy ks ++ rest)
-ended-early ks rest p e =
-    let fed = calls ks rest fresh fresh-kept p in
-    sym (append-nil (writtenBy ks)) ∙ ap (λ (l : List ℕ). writtenBy ks ++ l) (sym (quiet rest (driverAfter fresh ks) (fed .0) e))
-    ∙ sym (fed .1) ∙ all-at-once (takenBy ks ++ rest)
+  -- IN CALLS: what a fresh driver wrote, with its end, is the recording of what it took
+  pub in-calls : (es : List (Call Driven ℕ)) → Permitted finishCalls there es → after finishCalls there es .ended ≡ true
+      → writtenBy feedCalls ks ++ writtenBy finishCalls es ≡ recordingOf (takenBy feedCalls ks)
+  in-calls es q e =
+      let last = after finishCalls there es in
+      let kept = in-pieces.after-kept finishCalls Kept last-kept′ es there after-kept q in
+      let end = in-pieces.calls-wrote finishCalls Kept last-kept′ (λ m _. allOf m []) (λ m piece before after a h p _. last-goes m before after a h p) es [] there after-kept q (quiet [] last kept e) in
+      ap (λ (l : List ℕ). writtenBy feedCalls ks ++ l) end ∙ sym (calls []) ∙ ap (allOf fresh) (append-nil (takenBy feedCalls ks)) ∙ all-at-once (takenBy feedCalls ks)
+    where
+      last-kept′ : EachCall finishCalls Kept (λ m piece after a. Kept (a .next))
+      last-kept′ m piece before after a h p = last-kept m before after a h p
+
+  -- NOTHING AFTER THE END: once it has ended, what it wrote is the recording, whatever the rest of the input is
+  pub ended-early : (rest : List ℕ) → there .ended ≡ true → writtenBy feedCalls ks ≡ recordingOf (takenBy feedCalls ks ++ rest)
+  ended-early rest e =
+      sym (calls rest ∙ ap (λ (l : List ℕ). writtenBy feedCalls ks ++ l) (quiet rest there after-kept e) ∙ append-nil (writtenBy feedCalls ks)) ∙ all-at-once (takenBy feedCalls ks ++ rest)

@@ -15,7 +15,8 @@ use Rattle.fold.proofs.Laws.{stays}
 use Rattle.text.specs.Decimals.{plain, numberIn}
 use Rattle.text.specs.declared.Number.{Number}
 use Rattle.text.specs.declared.Number.the-variants.{None, Is}
-use Rattle.listing.specs.Lines.{newline, tab, lengthTo}
+use Rattle.text.specs.Lengths.{lengthTo}
+use Rattle.listing.specs.Lines.{newline, tab}
 use Rattle.listing.specs.Scanning.{mostLines}
 use Rattle.ballbox.specs.Box.{freshBox}
 use Rattle.ballbox.specs.Good as ball

@@ -13,7 +13,8 @@ use Rattle.text.specs.Decimals.{plain, numberIn}
 use Rattle.text.specs.declared.Number.{Number}
 use Rattle.text.specs.declared.Number.the-variants.{None, Is}
 use Rattle.text.proofs.Digits.{decimal-few, read-written}
-use Rattle.listing.specs.Lines.{tab, lengthTo}
+use Rattle.text.specs.Lengths.{lengthTo}
+use Rattle.listing.specs.Lines.{tab}
 use Rattle.listing.specs.Scanning.{mostLines}
 use Rattle.driver.specs.Lines.{letterF, letterM, letterN, letterC, letterS, formatIn, upTo, outside, motionOf, motionIn, withFields, saidBy}
 use Rattle.driver.specs.Feeding.{longest}

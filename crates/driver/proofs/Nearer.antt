@@ -3,11 +3,13 @@ use Prim.Native.Nat.{ℕ, _+_, _*_, _≤_, _<_}
 use mathlib.Core.Path.{_≡_, refl, ap}
 use mathlib.Core.Bool.{Bool, true, false, cond}
 use mathlib.Core.Logic.{_⊎_, inl, inr, ⊎-elim}
-use mathlib.Core.List.{List, [], _∷_}
+use mathlib.Core.List.{List}
 use native.Mathlib.Omega.{arith}
 use lib.Dec.{leb, eqb}
-use lib.ListN.{length, take, length-append, length-take}
+use lib.ListN.{length}
 use Rattle.numbers.proofs.Choices.{cases}
+use Rattle.fold.specs.Pieces.{Call, Permitted, after, takenBy}
+use Rattle.fold.proofs.Pieces as in-pieces
 use Rattle.listing.specs.Lines.{newline}
 use Rattle.listing.specs.Scanning.{mostLines}
 use Rattle.ballbox.specs.Box.{Bytes}
@@ -16,7 +18,7 @@ use Rattle.driver.specs.Lines.{saidBy}
 use Rattle.driver.specs.Driving.{lineDone}
 use Rattle.driver.specs.Feeding.{Turning, longest, atLine, fresh, unfinished, owedBy, besides, takenOf, byteOf, slotOf, feedIn}
 use Rattle.driver.specs.Promises.{Whole, FeedPromise}
-use Rattle.driver.specs.Calls.{Call, Permitted, driverAfter, takenBy}
+use Rattle.driver.specs.Calls.{feedCalls}
 use Rattle.driver.specs.declared.Order.{Order}
 use Rattle.driver.specs.declared.Order.the-variants as order
 use Rattle.driver.specs.declared.Driver.{Driver}
@@ -25,7 +27,7 @@ use Rattle.driver.proofs.Taken.{Took, none, slot, tick, no-slots, took}
 use Rattle.driver.proofs.Refusals.{feeds}
 use Rattle.driver.proofs.Kept.{Kept, kept-good, fresh-kept, slot-kept, tick-kept}
 use Rattle.driver.proofs.Pieces.{byte-tick}
-use Rattle.driver.proofs.Calls.{next-kept, after-kept}
+use Rattle.driver.proofs.Calls.{stays}
 
 -- how far a driver has come: sixteen bytes for each line passed, and those of the unfinished line
 abbrev pub passed : Driver → ℕ
@@ -100,22 +102,8 @@ module _ (m : Driver) (input before after : List ℕ) (a : Driven) (h : Kept m) 
       let w = feeds m input before after a (kept-good m h) p in
       rw (ap (λ (w : Whole). w .driven .next) w) (over b (took input m (no-slots input b) (length before)) e)
 
--- and calls, one after the other
-after-on : (ks : List Call) (m : Driver) → Kept m → Permitted m ks → m .ended ≡ true → driverAfter m ks .ended ≡ true
-after-on [] m h p e = e
-after-on (k ∷ ks) m h p e =
-    after-on ks (k .answer .next) (next-kept m (k .piece) (k .before) (k .after) (k .answer) h (p .0) (p .1)) (p .2)
-    (stays-ended m (k .piece) (k .before) (k .after) (k .answer) h (p .0) (p .1) e)
-
-nearer : (ks : List Call) (m : Driver) → Kept m → Permitted m ks → (driverAfter m ks .ended ≡ true) ⊎ (passed m + length (takenBy ks) ≤ passed (driverAfter m ks))
-nearer [] m h p = inr (omega arith)
-nearer (k ∷ ks) m h p =
-    let next = next-kept m (k .piece) (k .before) (k .after) (k .answer) h (p .0) (p .1) in
-    let part = take (k .answer .taken) (k .piece) in
-    ⊎-elim (λ e. inl (after-on ks (k .answer .next) next (p .2) e))
-    (λ n. ⊎-elim inl (λ l. inr (omega (arith, n, l, length-append part (takenBy ks), length-take (k .answer .taken) (k .piece)))) (nearer ks (k .answer .next) next (p .2)))
-    (goes-on m (k .piece) (k .before) (k .after) (k .answer) h (p .0) (p .1))
-
 -- HAS ENDED: after so many bytes every driver has ended
-pub has-ended : (ks : List Call) → Permitted fresh ks → mostBytes ≤ length (takenBy ks) → driverAfter fresh ks .ended ≡ true
-has-ended ks p k = ⊎-elim (λ e. e) (λ n. absurd (omega (arith, n, never-passed (driverAfter fresh ks) (after-kept ks p)))) (nearer ks fresh fresh-kept p)
+pub has-ended : (ks : List (Call Driven ℕ)) → Permitted feedCalls fresh ks → mostBytes ≤ length (takenBy feedCalls ks) → after feedCalls fresh ks .ended ≡ true
+has-ended ks p =
+    in-pieces.has-ended feedCalls Kept stays (λ m. m .ended ≡ true) passed (λ m piece before after a h p. stays-ended m piece before after a h (p .0) (p .1))
+    (λ m piece before after a h p. goes-on m piece before after a h (p .0) (p .1)) mostBytes never-passed ks fresh fresh-kept p

@@ -2,22 +2,21 @@
 use mathlib.Core.Path.{_≡_, refl}
 use mathlib.Core.Bool.{true, false, cond, _||_, true≢false}
 use mathlib.Core.List.{List, [], _∷_}
-use Prim.Native.Nat.{ℕ, suc, _+_, _<_, _≤_}
+use Prim.Native.Nat.{ℕ, _+_, _≤_}
 use native.Mathlib.Omega.{arith}
 use native.Mathlib.Nat.{not-suc-le-zero}
-use native.Mathlib.Numerals.{add-one}
 use lib.Dec.{eqb}
 use lib.IntN.{ℤ, pos, negsuc, natAbs}
 use lib.Signed.{ltZ}
 use lib.ListN.{length, getD, take, drop, drop-of-length-le}
-use lib.Seq.{drop-cons}
-use borrow.Author.Tests.{ltb-true, ltb-false, le-leb, lt-leb, eq-eqb, ne-eqb}
+use borrow.Author.Tests.{ltb-true, ltb-false, le-leb, lt-leb}
 use Rattle.numbers.proofs.Choices.{or-else, neither}
 use Rattle.wire.specs.Line.{known}
 use Rattle.text.specs.Decimals.{plain, readable, plusIn, placesOf, sizeIn, numberIn}
 use Rattle.text.specs.declared.Number.{Number}
 use Rattle.text.specs.declared.Number.the-variants.{None, Is}
-use Rattle.listing.specs.Lines.{tab, lengthTo}
+use Rattle.text.specs.Lengths.{lengthTo}
+use Rattle.listing.specs.Lines.{tab}
 use Rattle.driver.specs.Lines.{aloneIn, formatIn, upTo, motionOf, motionIn, withFields, saidBy}
 use Rattle.driver.specs.declared.Order.{Order}
 use Rattle.driver.specs.declared.Order.the-variants as order
@@ -33,20 +32,6 @@ module _ (bound : ℕ) (says : ℕ → Order) where
   is-up-to (pos n) h =
       let few = ltb-false bound n (neither (ltZ (pos n) (pos 0)) (ltZ (pos bound) (pos n)) h .1) in (refl, few, rw (le-leb n bound few))
   is-up-to (negsuc n) h = absurd (true≢false (neither true (ltZ (pos bound) (negsuc n)) h .0))
-
--- the bytes in front of the first that is this one, byte by byte
-module _ (bytes : List ℕ) (stop i : ℕ) (inv : i + lengthTo stop (drop i bytes) ≡ lengthTo stop bytes) where
-  next : i < length bytes → drop i bytes ≡ getD bytes i 0 ∷ drop (i + 1) bytes
-  next h = rw add-one (drop-cons bytes i 0 h)
-
-  pub found : i < length bytes → getD bytes i 0 ≡ stop → i ≡ lengthTo stop bytes
-  found h e = let k : i + 0 ≡ lengthTo stop bytes = rw (next h, eq-eqb (getD bytes i 0) stop e) at inv in omega arith
-
-  pub further : i < length bytes → (getD bytes i 0 ≡ stop → ⊥) → i + 1 + lengthTo stop (drop (i + 1) bytes) ≡ lengthTo stop bytes
-  further h n = let k : i + suc (lengthTo stop (drop (i + 1) bytes)) ≡ lengthTo stop bytes = rw (next h, ne-eqb (getD bytes i 0) stop n) at inv in omega arith
-
-  pub at-end : length bytes ≤ i → i ≡ lengthTo stop bytes
-  at-end h = let k : i + 0 ≡ lengthTo stop bytes = rw (drop-of-length-le bytes h) at inv in omega arith
 
 -- a movement: no second number
 no-number : numberIn plain [] ≡ None

@@ -11,7 +11,8 @@ use Rattle.wire.specs.Line.{known}
 use Rattle.text.specs.Decimals.{plain, numberIn}
 use Rattle.text.specs.declared.Number.{Number}
 use Rattle.text.specs.declared.Number.the-variants.{None, Is}
-use Rattle.listing.specs.Lines.{tab, lengthTo}
+use Rattle.text.specs.Lengths.{lengthTo}
+use Rattle.listing.specs.Lines.{tab}
 use Rattle.listing.specs.Scanning.{mostLines}
 use Rattle.ballbox.specs.declared.Event.the-variants.{Motion, Buttons, Host, Latch, Send, Period}
 use Rattle.driver.specs.declared.Order.{Order}

@@ -1,6 +1,5 @@
 // What a line of events says.
 ghost use mathlib.Core.Path.{_≡_};
-ghost use Rattle.listing.specs.Lines.{lengthTo};
 ghost use Rattle.driver.specs.Lines.{aloneIn, formatIn, buttonsIn, hostIn, slotsIn, motionOf, motionIn, withFields, saidBy};
 use crate::MOST_LINES;
 use crate::Order;
@@ -97,25 +96,11 @@ fn motion_of(x: Number, y: Number) -> Order
     }
 }
 
-// The bytes in front of the first that is this one, or all where none is.
-fn length_to(bytes: &[u8], stop: u8) -> usize
-    ensures { λ r. ⌜ r ≡ lengthTo stop (now (bytes .entry)) ⌝ }
-{
-    let mut i: usize = 0;
-    while i < bytes.len() {
-        if bytes[i] == stop {
-            return i;
-        }
-        i = i + 1;
-    }
-    i
-}
-
 // Up to the next tab, and behind it.
 fn motion(bytes: &[u8]) -> Order
     ensures { λ r. ⌜ r ≡ motionIn (now (bytes .entry)) ⌝ }
 {
-    let n = length_to(bytes, b'\t');
+    let n = text::length_to(bytes, b'\t');
     if n >= bytes.len() {
         return Order::Bad;
     }

@@ -3,17 +3,19 @@ use Prim.Native.Nat.{ℕ, _+_, _*_, _≤_, _<_}
 use mathlib.Core.Path.{_≡_, refl, sym, _∙_, ap, subst}
 use mathlib.Core.Bool.{Bool, true, false, true≢false}
 use mathlib.Core.Logic.{_⊎_, inl, inr, ⊎-elim}
-use mathlib.Core.List.{List, [], _∷_, _++_, append-assoc, append-nil}
+use mathlib.Core.List.{List, [], _∷_, _++_, append-nil}
 use native.Mathlib.Omega.{arith}
 use lib.Dec.{ltb}
-use lib.ListN.{length, getD, take, drop, length-append, length-take}
+use lib.ListN.{length, getD, take, drop}
 use lib.Seq.{take-at}
 use Rattle.numbers.proofs.Choices.{cases}
+use Rattle.fold.specs.Pieces.{Call, Permitted, after, takenBy, writtenBy}
+use Rattle.fold.proofs.Pieces as in-pieces
 use Rattle.listing.specs.Listing.{listingOf}
 use Rattle.listing.specs.Scanning.{passed, mostBytes}
 use Rattle.listing.specs.Feeding.{Feed, stopped, fresh, fedByte, lastOf, feedIn, finishIn, good}
 use Rattle.listing.specs.Promises.{enough, Whole, whole, written, feedOf, finishOf, FeedPromise, FinishPromise}
-use Rattle.listing.specs.Calls.{Call, Permitted, listerAfter, takenBy, writtenBy}
+use Rattle.listing.specs.Calls.{feedCalls}
 use Rattle.listing.specs.declared.Lister.{Lister}
 use Rattle.listing.specs.declared.Listed.{Listed}
 use Rattle.listing.proofs.Whole.{allOf, all-at-once}
@@ -83,6 +85,14 @@ module _ (m : Lister) (input before after : List ℕ) (a : Listed) (g : good m �
   pub tells-ended : a .ended ≡ a .next .scanner .ended
   tells-ended = call-ended f before after a feeds ∙ sym (ap (λ (m : Lister). m .scanner .ended) (call-next f before after a feeds))
 
+  -- what it wrote, and then what is written behind the bytes that it took
+  goes : (q : List ℕ) → allOf m (take (a .taken) input ++ q) ≡ take (a .written) after ++ allOf (a .next) q
+  goes q = rw (call-text f before after a feeds, call-next f before after a feeds, call-taken f before after a feeds) (pieces.fed input q m (length before))
+
+  -- once ended, it stays so
+  stays-over : m .scanner .ended ≡ true → a .next .scanner .ended ≡ true
+  stays-over e = ap (λ (m : Lister). m .scanner .ended) (call-next f before after a feeds) ∙ stays-ended input m (length before) e
+
   -- it has ended, or is as many bytes nearer to its end
   pub goes-on : (a .next .scanner .ended ≡ true) ⊎ (passed (m .scanner) + a .taken ≤ passed (a .next .scanner))
   goes-on =
@@ -131,57 +141,32 @@ module _ (m : Lister) (before after : List ℕ) (a : Listed) (g : good m ≡ tru
           let w = rw h at finishes in
           absurd (true≢false (sym (end-ends m) ∙ sym (call-ended (record { next = lastOf m .next; taken = 0; text = lastOf m .text }) before after a w) ∙ e))
 
-after-good : (ks : List Call) (m : Lister) → good m ≡ true → Permitted m ks → good (listerAfter m ks) ≡ true
-after-good [] m g h = g
-after-good (k ∷ ks) m g h = after-good ks (k .answer .next) (next-good m (k .piece) (k .before) (k .after) (k .answer) g (h .0)) (h .1)
+-- calls, one after the other: a good lister stays good, and they write a front of all that is to be written
+abbrev Good : Lister → Type 0
+Good m = good m ≡ true
 
--- what calls wrote, and what comes behind the bytes that they took
-calls : (ks : List Call) (rest : List ℕ) (m : Lister) → good m ≡ true → Permitted m ks → writtenBy ks ++ allOf (listerAfter m ks) rest ≡ allOf m (takenBy ks ++ rest)
-calls [] rest m g h = refl
-calls (k ∷ ks) rest m g h =
-    let w = feeds m (k .piece) (k .before) (k .after) (k .answer) g (h .0) in
-    let f = feedIn m (k .piece) (length (k .before)) in
-    let part = take (k .answer .taken) (k .piece) in
-    let later = calls ks rest (k .answer .next) (next-good m (k .piece) (k .before) (k .after) (k .answer) g (h .0)) (h .1) in
-    append-assoc (take (k .answer .written) (k .after)) (writtenBy ks) (allOf (listerAfter (k .answer .next) ks) rest)
-    ∙ ap (λ (l : List ℕ). take (k .answer .written) (k .after) ++ l) later
-    ∙ rw (call-text f (k .before) (k .after) (k .answer) w, call-next f (k .before) (k .after) (k .answer) w, call-taken f (k .before) (k .after) (k .answer) w, append-assoc)
-    (sym (pieces.fed (k .piece) (takenBy ks ++ rest) m (length (k .before))))
+after-good : (ks : List (Call Listed ℕ)) (m : Lister) → Good m → Permitted feedCalls m ks → Good (after feedCalls m ks)
+after-good = in-pieces.after-kept feedCalls Good next-good
+
+calls : (ks : List (Call Listed ℕ)) (q : List ℕ) → Permitted feedCalls fresh ks → allOf fresh (takenBy feedCalls ks ++ q) ≡ writtenBy feedCalls ks ++ allOf (after feedCalls fresh ks) q
+calls ks q h = in-pieces.calls-write feedCalls Good next-good allOf goes ks q fresh fresh-is-good h
 
 -- IN CALLS: what a fresh lister wrote, with its end, is the listing of what it took
-pub in-calls : (ks : List Call) (before after : List ℕ) (a : Listed) → Permitted fresh ks → FinishPromise (listerAfter fresh ks) before a after → a .ended ≡ true
-    → writtenBy ks ++ take (a .written) after ≡ listingOf (takenBy ks)
+pub in-calls : (ks : List (Call Listed ℕ)) (before end : List ℕ) (a : Listed) → Permitted feedCalls fresh ks → FinishPromise (after feedCalls fresh ks) before a end → a .ended ≡ true
+    → writtenBy feedCalls ks ++ take (a .written) end ≡ listingOf (takenBy feedCalls ks)
 unfolding allOf
-in-calls ks before after a h p e =
-    ap (λ (l : List ℕ). writtenBy ks ++ l) (ends-with (listerAfter fresh ks) before after a (after-good ks fresh fresh-is-good h) p e)
-    ∙ calls ks [] fresh fresh-is-good h ∙ ap (allOf fresh) (append-nil (takenBy ks)) ∙ all-at-once (takenBy ks)
+in-calls ks before end a h p e =
+    ap (λ (l : List ℕ). writtenBy feedCalls ks ++ l) (ends-with (after feedCalls fresh ks) before end a (after-good ks fresh fresh-is-good h) p e)
+    ∙ sym (calls ks [] h) ∙ ap (allOf fresh) (append-nil (takenBy feedCalls ks)) ∙ all-at-once (takenBy feedCalls ks)
 
 -- NOTHING AFTER THE END: once it has ended, what it wrote is the listing, whatever the rest of the input is
-pub ended-early : (ks : List Call) (rest : List ℕ) → Permitted fresh ks → listerAfter fresh ks .scanner .ended ≡ true → writtenBy ks ≡ listingOf (takenBy ks ++ rest)
+pub ended-early : (ks : List (Call Listed ℕ)) (rest : List ℕ) → Permitted feedCalls fresh ks → after feedCalls fresh ks .scanner .ended ≡ true
+    → writtenBy feedCalls ks ≡ listingOf (takenBy feedCalls ks ++ rest)
 ended-early ks rest h e =
-    sym (append-nil (writtenBy ks)) ∙ ap (λ (l : List ℕ). writtenBy ks ++ l) (sym (quiet rest (listerAfter fresh ks) e))
-    ∙ calls ks rest fresh fresh-is-good h ∙ all-at-once (takenBy ks ++ rest)
-
--- once ended, it stays so
-ended-after : (ks : List Call) (m : Lister) → good m ≡ true → Permitted m ks → m .scanner .ended ≡ true → listerAfter m ks .scanner .ended ≡ true
-ended-after [] m g h e = e
-ended-after (k ∷ ks) m g h e =
-    let w = feeds m (k .piece) (k .before) (k .after) (k .answer) g (h .0) in
-    let next = call-next (feedIn m (k .piece) (length (k .before))) (k .before) (k .after) (k .answer) w in
-    ended-after ks (k .answer .next) (next-good m (k .piece) (k .before) (k .after) (k .answer) g (h .0)) (h .1)
-    (ap (λ (m : Lister). m .scanner .ended) next ∙ stays-ended (k .piece) m (length (k .before)) e)
-
--- or each byte taken brought it nearer to its end
-nearer : (ks : List Call) (m : Lister) → good m ≡ true → Permitted m ks → (listerAfter m ks .scanner .ended ≡ true) ⊎ (passed (m .scanner) + length (takenBy ks) ≤ passed (listerAfter m ks .scanner))
-nearer [] m g h = inr (omega arith)
-nearer (k ∷ ks) m g h =
-    let next = next-good m (k .piece) (k .before) (k .after) (k .answer) g (h .0) in
-    let part = take (k .answer .taken) (k .piece) in
-    ⊎-elim (λ e. inl (ended-after ks (k .answer .next) next (h .1) e))
-    (λ n. ⊎-elim (λ e. inl e) (λ l. inr (omega (arith, n, l, length-append part (takenBy ks), length-take (k .answer .taken) (k .piece)))) (nearer ks (k .answer .next) next (h .1)))
-    (goes-on m (k .piece) (k .before) (k .after) (k .answer) g (h .0))
+    in-pieces.calls-wrote feedCalls Good next-good allOf goes ks rest fresh fresh-is-good h (quiet rest (after feedCalls fresh ks) e) ∙ all-at-once (takenBy feedCalls ks ++ rest)
 
 -- HAS ENDED: after so many bytes every lister has ended
-pub has-ended : (ks : List Call) → Permitted fresh ks → mostBytes ≤ length (takenBy ks) → listerAfter fresh ks .scanner .ended ≡ true
-has-ended ks h k =
-    ⊎-elim (λ e. e) (λ n. absurd (omega (arith, never-passed (listerAfter fresh ks .scanner) (kept (listerAfter fresh ks) (after-good ks fresh fresh-is-good h))))) (nearer ks fresh fresh-is-good h)
+pub has-ended : (ks : List (Call Listed ℕ)) → Permitted feedCalls fresh ks → mostBytes ≤ length (takenBy feedCalls ks) → after feedCalls fresh ks .scanner .ended ≡ true
+has-ended ks h =
+    in-pieces.has-ended feedCalls Good next-good (λ m. m .scanner .ended ≡ true) (λ m. passed (m .scanner)) stays-over goes-on mostBytes
+    (λ m g. never-passed (m .scanner) (kept m g)) ks fresh fresh-is-good h

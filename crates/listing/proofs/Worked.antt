@@ -6,6 +6,7 @@ use mathlib.Core.List.{List, [], _∷_, _++_, append-nil}
 use native.Mathlib.Omega.{arith}
 use lib.ListN.{length, take, replicate, length-replicate}
 use lib.Seq.{take-all}
+use Rattle.fold.specs.Pieces.{Call, after, takenBy, writtenBy}
 use Rattle.wire.specs.Reading.{readV}
 use Rattle.text.specs.Decimals.{digitsOf, sizeIn, placesOf, decimalOf, readable, plusIn, numberIn}
 use Rattle.reader.proofs.Computing as reader
@@ -17,9 +18,10 @@ use Rattle.listing.specs.Printing.{lineOf}
 use Rattle.listing.specs.Listing.{listingOf}
 use Rattle.listing.specs.Feeding.{fresh, frontOf, fedByte, lastOf, feedIn, finishIn, good}
 use Rattle.listing.specs.Promises.{enough, feedOf, finishOf}
-use Rattle.listing.specs.Calls.{Call, listerAfter, takenBy, writtenBy}
+use Rattle.listing.specs.Calls.{feedCalls}
 use Rattle.listing.specs.Examples.{paper}
 use Rattle.listing.specs.declared.Lister.{Lister}
+use Rattle.listing.specs.declared.Listed.{Listed}
 use Rattle.listing.proofs.Keeps.{fresh-is-good}
 use Rattle.listing.proofs.Calls.{takes-all, in-calls, ended-early, has-ended}
 
@@ -29,22 +31,22 @@ unfolding reader.computing feedOf finishOf feedIn finishIn lastOf fedByte frontO
 computing = tt
 
 -- a call with so many places, answered by the definition
-abbrev call : Lister → List ℕ → ℕ → Call
+abbrev call : Lister → List ℕ → ℕ → Call Listed ℕ
 call m piece room =
     let w = feedOf m piece (replicate room 0) in
     record { piece = piece; before = replicate room 0; answer = w .listed; after = w .out }
 
 -- F V/B 5, then /B 108/B 5/B 61/Q/ with twelve places, which stops before the newline of line 5, and then what is left
-abbrev first : Call
+abbrev first : Call Listed ℕ
 first = call fresh (70 ∷ 9 ∷ 86 ∷ 10 ∷ 66 ∷ 9 ∷ 53 ∷ []) 40
 
-abbrev second : Call
+abbrev second : Call Listed ℕ
 second = call (first .answer .next) (10 ∷ 66 ∷ 9 ∷ 49 ∷ 48 ∷ 56 ∷ 10 ∷ 66 ∷ 9 ∷ 53 ∷ 10 ∷ 66 ∷ 9 ∷ 54 ∷ 49 ∷ 10 ∷ 81 ∷ 10 ∷ []) 12
 
-abbrev third : Call
+abbrev third : Call Listed ℕ
 third = call (second .answer .next) (10 ∷ 81 ∷ 10 ∷ []) 40
 
-abbrev three : List Call
+abbrev three : List (Call Listed ℕ)
 three = first ∷ second ∷ third ∷ []
 
 pub stopped-short : second .answer .taken ≡ 15
@@ -53,7 +55,7 @@ stopped-short = refl
 
 -- an end with no room, and then one with forty places
 abbrev after-three : Lister
-after-three = listerAfter fresh three
+after-three = after feedCalls fresh three
 
 pub no-room : finishOf after-three [] .listed .ended ≡ false
 unfolding computing
@@ -63,12 +65,12 @@ pub room : finishOf after-three (replicate 40 0) .listed .ended ≡ true
 unfolding computing
 room = refl
 
-all-taken : takenBy three ≡ paper .input
+all-taken : takenBy feedCalls three ≡ paper .input
 unfolding computing
 all-taken = refl
 
 -- so that the calls and the end wrote the listing of the example
-pub in-three-calls : let end = finishOf after-three (replicate 40 0) in writtenBy three ++ take (end .listed .written) (end .out) ≡ listingOf (paper .input)
+pub in-three-calls : let end = finishOf after-three (replicate 40 0) in writtenBy feedCalls three ++ take (end .listed .written) (end .out) ≡ listingOf (paper .input)
 in-three-calls =
     let end = finishOf after-three (replicate 40 0) in
     in-calls three (replicate 40 0) (end .out) (end .listed) (refl, (refl, (refl, tt))) refl room ∙ ap listingOf all-taken

@@ -1,5 +1,5 @@
 -- The lines of an input, and what each says.
-use Prim.Native.Nat.{ℕ, suc, _+_, _<_}
+use Prim.Native.Nat.{ℕ, _+_, _<_}
 use mathlib.Core.Path.{_≡_}
 use mathlib.Core.Bool.{cond, _&&_}
 use mathlib.Core.List.{List, [], _∷_}
@@ -9,6 +9,7 @@ use lib.ListN.{getD, take}
 use Rattle.frames.specs.Words.{break, silence}
 use Rattle.wire.specs.Line.{known}
 use Rattle.text.specs.Decimals.{plain, numberIn}
+use Rattle.text.specs.Lengths.{lengthTo}
 use Rattle.text.specs.declared.Number.{Number}
 use Rattle.text.specs.declared.Number.the-variants.{None, Is}
 use Rattle.listing.specs.declared.Line.{Line}
@@ -31,12 +32,7 @@ unfoldable pub linesIn : List ℕ → List (List ℕ)
 linesIn [] = []
 linesIn (c ∷ cs) = cond (eqb c newline) ([] ∷ linesIn cs) (front c (linesIn cs))
 
--- the bytes in front of the first that is this one, or all where none is
-abbrev pub lengthTo : ℕ → List ℕ → ℕ
-lengthTo b [] = 0
-lengthTo b (c ∷ cs) = cond (eqb c b) 0 (suc (lengthTo b cs))
-
--- in front of the first newline
+-- the bytes in front of the first newline
 abbrev pub lengthIn : List ℕ → ℕ
 lengthIn = lengthTo newline
 

@@ -1,5 +1,5 @@
 -- The table of a piece of a listing in front of more: the rows of its items, and then what is written of the rest.
-use Prim.Native.Nat.{ℕ, _+_, _-_, _*_, _<_, _≤_}
+use Prim.Native.Nat.{ℕ, _*_, _≤_}
 use mathlib.Core.Path.{_≡_, refl, sym, _∙_, ap}
 use mathlib.Core.Bool.{Bool, true, false, not, _&&_}
 use mathlib.Core.Logic.{⊎-elim}
@@ -7,11 +7,11 @@ use mathlib.Core.List.{List, [], _∷_, _++_, append-assoc, append-nil}
 use native.Mathlib.Omega.{arith}
 use lib.Dec.{eqb}
 use lib.IntN.{ℤ}
-use lib.ListN.{length, take, drop, length-append, length-drop, take-append-drop}
-use borrow.Author.Tests.{eqb-true, eqb-false, eq-eqb}
+use lib.ListN.{length, drop}
+use borrow.Author.Tests.{eqb-true, eqb-false}
 use Rattle.numbers.proofs.Tested.{right}
-use Rattle.fold.specs.Fold.{Ran, written, places, run}
-use Rattle.fold.proofs.Laws.{over-taken, within}
+use Rattle.fold.specs.Fold.{Ran, places, run}
+use Rattle.fold.proofs.Laws.{over-taken}
 use Rattle.wire.specs.Numbers.{success}
 use Rattle.listing.specs.Items.{itemsIn}
 use Rattle.listing.specs.declared.Item.{Item}
@@ -19,18 +19,18 @@ use Rattle.listing.specs.declared.Given.{Given}
 use Rattle.listing.specs.declared.Given.the-variants.{Nothing, One}
 use Rattle.readback.specs.Items.{allNumbers, itemIn}
 use Rattle.readback.specs.Steps.{fresh, stepOf, good, said, above}
-use Rattle.readback.specs.Pieces.{cutIn, bodyOf, isWhole, reads, longest, linesOf, itemsAmong, faultAt, faultyLine, Whole}
+use Rattle.readback.specs.Pieces.{cutIn, bodyOf, isWhole, reads, readLines, linesOf, itemsAmong, faultyLine}
 use Rattle.readback.specs.Promises.{ReadPromise, FinishPromise}
-use Rattle.readback.specs.Held.{Ready, toGo}
+use Rattle.readback.specs.Held.{Ready}
 use Rattle.readback.specs.Whole.{Reading, reading, readingFrom, readingOf}
 use Rattle.readback.specs.declared.Readback.{Readback}
 use Rattle.readback.specs.declared.Back.{Back}
 use Rattle.readback.proofs.Again.{not-refused}
 use Rattle.readback.proofs.Calls as calls
-use Rattle.readback.proofs.Cuts.{lines-few}
 use Rattle.readback.proofs.Goodness.{step-ended, step-item, step-leaves, unread}
-use Rattle.readback.proofs.Loop.{five-in, five-each, reading-follows}
+use Rattle.readback.proofs.Loop.{five-in}
 use Rattle.readback.proofs.Onward as onward
+use Rattle.readback.proofs.OverLines.{written-there, more-lines}
 use Rattle.readback.proofs.Refusals.{good-read}
 use Rattle.readback.proofs.Values.{SmallGiven}
 use Rattle.mtable.specs.Table.{rowsOf, salvageRow, lastRow, headRow, tableOf, faultWords, toldOf}
@@ -71,7 +71,7 @@ twice : (t : Bool) → t && not t ≡ false
 twice true = refl
 twice false = refl
 
-few-five : (r : Readback) (l : List ℕ) → good r ≡ true → places reads r l ≤ 5
+pub few-five : (r : Readback) (l : List ℕ) → good r ≡ true → places reads r l ≤ 5
 few-five r l g = go (stepOf r (bodyOf l) .given)
   where
     go : (g : Given) → length (allNumbers (itemsIn g)) ≤ 5
@@ -93,22 +93,13 @@ module _ (r : Readback) (piece : List ℕ) (out after : List ℤ) (a : Back) (g 
   abbrev pub text : List ℕ
   text = salvageRow (a .next .salvage && not (r .salvage)) ++ rowsOf items
 
-  next-good : good (a .next) ≡ true
-  next-good = calls.next-good r piece out after a g p
-
   pub few-items : 5 * a .items ≤ length out
-  few-items = omega (arith, calls.call-items r piece out after a g p, five-each (f .answers), within reads (linesOf piece) r (length out) .1)
-
-  same-long : length after ≡ length out
-  same-long =
-      let w = written reads (f .answers) in
-      let is = calls.is r piece out after a g p in
-      omega (arith, ap (λ (w : Whole). length (w .out)) is, length-append w (drop (length w) out), length-drop (length w) out, within reads (linesOf piece) r (length out) .1)
+  few-items = written-there readLines calls.reads-lawful r piece out g p .0
 
   pub among : Among (a .items) after items
   among =
       record {
-        there = omega (arith, few-items, same-long);
+        there = omega (arith, written-there readLines calls.reads-lawful r piece out g p);
         small = over-taken reads (λ r ls gs next. good r ≡ true → AllSmall (itemsAmong gs)) (λ r g. tt)
             (λ r l ls gs next z ih g. small-append (itemsIn (reads .answer r l)) (itemsAmong gs) (small-given (reads .answer r l) (step-leaves r (bodyOf l) g .1)) (ih (step-leaves r (bodyOf l) g .0))) (linesOf piece) r (length out) g;
         are = calls.call-numbers r piece out after a g p;
@@ -118,26 +109,11 @@ module _ (r : Readback) (piece : List ℕ) (out after : List ℤ) (a : Back) (g 
       small-given Nothing s = tt
       small-given (One i) s = (s, tt)
 
-  pub taken-there : a .taken ≤ length piece
-  taken-there = omega (arith, calls.call-taken r piece out after a g p, lines-few piece (length (f .answers)))
-
-  more-lines : a .next .lines ≡ r .lines + length (f .answers)
-  more-lines =
-      ap (λ (n : Readback). n .lines) (calls.call-next r piece out after a g p)
-      ∙ over-taken reads (λ r ls answers next. next .lines ≡ r .lines + length answers) (λ r. omega arith)
-      (λ r l ls answers next z ih. omega (arith, ih, onward.one-more r (bodyOf l) (good-line r l (eq-eqb (reads .refusal r l) success z)))) (linesOf piece) r (length out)
-
-  says : (q : List ℕ) → readingFrom r (cutIn (piece ++ q)) ≡ (let k = readingFrom (a .next) (cutIn (drop (a .taken) piece ++ q)) in reading (k .salvage) (items ++ k .items) (k .fault))
-  says q =
-      let d = drop (a .taken) piece in
-      let parts : piece ++ q ≡ take (a .taken) piece ++ (d ++ q) = ap (λ (l : List ℕ). l ++ q) (sym (take-append-drop (a .taken) piece)) ∙ append-assoc (take (a .taken) piece) d q in
-      ap (λ (l : List ℕ). readingFrom r (cutIn l)) parts ∙ calls.call-says r piece out after a g p (d ++ q)
-
   pub goes : (q : List ℕ) → rest r piece q ≡ text ++ rest (a .next) (drop (a .taken) piece) q
   goes q =
       let d = drop (a .taken) piece in
       let k = readingFrom (a .next) (cutIn (d ++ q)) in
-      ap (λ (k : Reading). salvageRow (k .salvage && not (r .salvage)) ++ rowsOf (k .items) ++ lastRow (k .fault)) (says q)
+      ap (λ (k : Reading). salvageRow (k .salvage && not (r .salvage)) ++ rowsOf (k .items) ++ lastRow (k .fault)) (calls.piece-says r piece out after a g p q)
       ∙ ap (λ (l : List ℕ). salvageRow (k .salvage && not (r .salvage)) ++ l ++ lastRow (k .fault)) (rows-append items (k .items))
       ∙ go k (eqb (a .next .lines) 0) refl (says-still (cutIn (d ++ q)) (a .next))
     where
@@ -149,9 +125,10 @@ module _ (r : Readback) (piece : List ℕ) (out after : List ℤ) (a : Back) (g 
           rw (same, twice (a .next .salvage)) (simp append-assoc)
       go k true t h =
           let z = eqb-true (a .next .lines) 0 t in
-          let r-none : r .salvage ≡ false = unread r g (omega (arith, z, more-lines)) .1 in
-          let n-none : a .next .salvage ≡ false = unread (a .next) next-good z .1 in
-          let nothing : rowsOf items ≡ [] = ap rowsOf (empty (f .answers) (omega (arith, z, more-lines))) in
+          let more = more-lines readLines calls.reads-lawful r piece out g p in
+          let r-none : r .salvage ≡ false = unread r g (omega (arith, z, more)) .1 in
+          let n-none : a .next .salvage ≡ false = unread (a .next) (calls.next-good r piece out after a g p) z .1 in
+          let nothing : rowsOf items ≡ [] = ap rowsOf (empty (f .answers) (omega (arith, z, more))) in
           simp (r-none, n-none, nothing)
         where
           empty : (gs : List Given) → length gs ≡ 0 → itemsAmong gs ≡ []
@@ -159,7 +136,7 @@ module _ (r : Readback) (piece : List ℕ) (out after : List ℤ) (a : Back) (g 
           empty (g ∷ gs) e = absurd (omega arith)
 
   pub told-behind : (q : List ℕ) → tells r piece q ≡ tells (a .next) (drop (a .taken) piece) q
-  told-behind q = ap (λ (k : Reading). faultWords (k .fault)) (says q)
+  told-behind q = ap (λ (k : Reading). faultWords (k .fault)) (calls.piece-says r piece out after a g p q)
 
   -- a fault, whatever follows
   module _ (some : a .refusal ≡ 0 → ⊥) where
@@ -167,7 +144,7 @@ module _ (r : Readback) (piece : List ℕ) (out after : List ℤ) (a : Back) (g 
     seven = ⊎-elim (λ z. absurd (some z)) (λ e. e) (good-read r piece out after a g p)
 
     pub at-fault : (a .line ≡ 0 → ⊥)
-    at-fault z = omega (arith, z, calls.call-line r piece out after a g p ∙ ap (λ (n : ℕ). faultAt n (a .next)) seven)
+    at-fault z = omega (arith, z, calls.told-at r piece out after a g p seven)
 
     pub fault-row : (q : List ℕ) → rest r piece q ≡ text ++ lastRow (a .line)
     fault-row q =
@@ -175,21 +152,6 @@ module _ (r : Readback) (piece : List ℕ) (out after : List ℤ) (a : Back) (g 
 
     pub fault-told : (q : List ℕ) → tells r piece q ≡ faultWords (a .line)
     fault-told q = ap (λ (k : Reading). faultWords (k .fault)) (calls.fault-says r piece out after a g p seven q)
-
-  -- with five places for each byte, and no fault, the front of a line is left, and the listing is nearer to its end
-  module _ (enough : 5 * length piece ≤ length out) (fine : a .refusal ≡ 0) where
-    fine-run : f .refusal ≡ 0
-    fine-run = sym (calls.call-refusal r piece out after a g p) ∙ fine
-
-    pub left-over : Ready (a .next) (drop (a .taken) piece)
-    left-over =
-        let u = onward.left-over reads reading-follows (λ r l z. z) r piece (length out) g 5 few-five enough fine-run in
-        record { sound = next-good; part = rw (calls.call-taken r piece out after a g p) (u .0); few = rw (calls.call-taken r piece out after a g p) (u .1) }
-
-    pub nearer : (held : ℕ) → held < length piece → held ≤ longest → toGo (a .next) (length piece - a .taken) < toGo r held
-    nearer held h few =
-        let n = onward.nearer reads reading-follows (λ r l z. z) r piece (length out) g 5 few-five enough fine-run held h few in
-        rw (calls.call-taken r piece out after a g p, calls.call-next r piece out after a g p) n
 
 -- THE WHOLE TABLE is the head line and what a fresh reader is still to write
 pub begins : (q : List ℕ) → tableOf q ≡ headRow ++ rest fresh [] q

@@ -17,13 +17,14 @@ use Rattle.shell.specs.declared.Got.{Got}
 use Rattle.shell.proofs.Laws as standing
 use Rattle.shell.proofs.Held.{holds, both}
 use Rattle.readback.specs.Steps.{good, fresh}
-use Rattle.readback.specs.Pieces.{cutIn, longest}
+use Rattle.readback.specs.Pieces.{cutIn, longest, readLines}
 use Rattle.readback.specs.Promises.{ReadPromise, finishOf}
 use Rattle.readback.specs.Held.{Ready, toGo}
 use Rattle.readback.specs.Whole.{readingFrom}
 use Rattle.readback.specs.declared.Readback.{Readback}
 use Rattle.readback.specs.declared.Back.{Back}
 use Rattle.readback.proofs.Calls as calls
+use Rattle.readback.proofs.OverLines.{taken-there, left-over, nearer}
 use Rattle.readback.proofs.Goodness.{fresh-is-good}
 use Rattle.mtable.specs.Table.{rowsOf, salvageRow, lastRow, headRow, faultWords}
 use Rattle.mtable.specs.Program.{mtable}
@@ -71,7 +72,7 @@ module _ (t t′ : ℕ) (r : Readback) (all : ℕ) (input : List ℕ) (out after
   room = omega (arith, long)
 
   pub taken-fits : a .taken ≤ all
-  taken-fits = omega (arith, pieces.taken-there r piece out after a g p, long)
+  taken-fits = omega (arith, taken-there readLines calls.reads-lawful r piece out g p, long)
 
   abbrev went : Went
   went = record { next = a .next; held = all - a .taken; on = well && eqb (a .refusal) 0; well = well; fault = a .line }
@@ -80,7 +81,7 @@ module _ (t t′ : ℕ) (r : Readback) (all : ℕ) (input : List ℕ) (out after
   fine y = eqb-true _ _ (right well (eqb (a .refusal) 0) y)
 
   pub falls : (held : ℕ) → held < all → held ≤ longest → went .on ≡ true → toGo (a .next) (all - a .taken) < toGo r held
-  falls held b f y = let n = pieces.nearer r piece out after a g p room (fine y) held (omega (arith, long)) f in rw long at n
+  falls held b f y = let n = nearer readLines calls.reads-lawful r piece out g p 5 pieces.few-five room (fine y) held (omega (arith, long)) f in rw long at n
 
   module _ (h : Handed (mtable .output) t t′ well text) where
     stands-on : well ≡ true → Stands mtable t′ (rest (a .next) left-of) (tells r piece)
@@ -97,7 +98,7 @@ module _ (t t′ : ℕ) (r : Readback) (all : ℕ) (input : List ℕ) (out after
         let held = holds all (a .taken) input input′ taken-fits there m in
         record {
           sound = calls.next-good r piece out after a g p;
-          ready = λ y. subst (Ready (a .next)) (sym held) (pieces.left-over r piece out after a g p room (fine y));
+          ready = λ y. subst (Ready (a .next)) (sym held) (left-over readLines calls.reads-lawful r piece out g p 5 pieces.few-five room (fine y));
           stands = λ y. rw held (standing.reworded mtable t′ (rest (a .next) left-of) (rest (a .next) left-of) (tells r piece) (tells (a .next) left-of)
               (stands-on (left well (eqb (a .refusal) 0) y)) (λ q. refl) (pieces.told-behind r piece out after a g p));
           closes = λ n w. go (eqb (a .refusal) 0) refl n w;

@@ -19,11 +19,14 @@ use Rattle.readback.specs.Steps.{good, fresh}
 use Rattle.readback.specs.Pieces.{cutIn, longest}
 use Rattle.readback.specs.Promises.{RewritePromise}
 use Rattle.readback.specs.Held.{Ready, toGo}
+use Rattle.readback.specs.Rewriting.{rewriteLines}
 use Rattle.readback.specs.Other.{otherFrom}
 use Rattle.readback.specs.declared.Readback.{Readback}
 use Rattle.readback.specs.declared.Rewritten.{Rewritten}
 use Rattle.readback.proofs.Goodness.{fresh-is-good}
-use Rattle.readback.proofs.Other.{taken-there, written-there, goes, no-more, left-over, nearer, no-newline}
+use Rattle.readback.proofs.Other.{goes, no-more, no-newline}
+use Rattle.readback.proofs.OverLines.{taken-there, written-there, left-over, nearer}
+use Rattle.readback.proofs.Rewrites.{rewrites-lawful, few-places}
 use Rattle.mwidth.specs.Told.{tellOf, whyOf, toldFrom}
 use Rattle.mwidth.specs.Program.{mwidth}
 use Rattle.mwidth.specs.Blocks.{rest, tells, lastWords, Left}
@@ -33,10 +36,10 @@ use Rattle.mwidth.proofs.Words.{told-behind, told-refused, told-end}
 -- what was written and taken is there
 module _ (r : Readback) (all : ℕ) (input out after : List ℕ) (a : Rewritten) (there : all ≤ length input) (g : good r ≡ true) (p : RewritePromise r (take all input) out a after) where
   pub fits : a .written ≤ length after
-  fits = written-there r (take all input) out after a g p
+  fits = omega (arith, written-there rewriteLines rewrites-lawful r (take all input) out g p)
 
   pub taken-fits : a .taken ≤ all
-  taken-fits = omega (arith, taken-there r (take all input) out after a g p, length-take-le all input there)
+  taken-fits = omega (arith, taken-there rewriteLines rewrites-lawful r (take all input) out g p, length-take-le all input there)
 
 -- what was read is rewritten, written, and the rest of it held
 module _ (t t′ : ℕ) (r : Readback) (all : ℕ) (input out after input′ : List ℕ) (a : Rewritten) (well : Bool) (there : all ≤ length input) (enough : 40 * length input ≤ length out)
@@ -75,7 +78,7 @@ module _ (t t′ : ℕ) (r : Readback) (all : ℕ) (input out after input′ : L
   leaves m =
       let held = holds all (a .taken) input input′ (taken-fits r all input out after a there g p) there m in
       record {
-        ready = λ y. subst (Ready (a .next)) (sym held) (left-over r piece out after a g p room (fine y));
+        ready = λ y. subst (Ready (a .next)) (sym held) (left-over rewriteLines rewrites-lawful r piece out g p 40 few-places room (fine y));
         stands = λ y. rw held (standing.reworded mwidth t′ (rest (a .next) left-of) (rest (a .next) left-of) (tells r piece) (tells (a .next) left-of)
             (stands-on (left well (eqb (a .refusal) 0) y)) (λ q. refl) (told-behind r piece out after a g p));
         closes = λ n w. go (eqb (a .refusal) 0) refl n w;
@@ -87,7 +90,7 @@ module _ (t t′ : ℕ) (r : Readback) (all : ℕ) (input out after input′ : L
       go false u n w = rw u (closes-here w (eqb-false (a .refusal) 0 u))
 
   pub falls : (held : ℕ) → held < all → held ≤ longest → went .on ≡ true → toGo (a .next) (all - a .taken) < toGo r held
-  falls held b f y = let n = nearer r piece out after a g p room (fine y) held (omega (arith, long)) f in rw long at n
+  falls held b f y = let n = nearer rewriteLines rewrites-lawful r piece out g p 40 few-places room (fine y) held (omega (arith, long)) f in rw long at n
 
 -- what was held, and what a read brought behind it
 module _ (t t′ : ℕ) (r : Readback) (held : ℕ) (input after : List ℕ) (got : Got) (there : held ≤ length input) (few : longest < length input) (k : Ready r (take held input))

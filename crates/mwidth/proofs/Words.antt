@@ -18,14 +18,16 @@ use Rattle.text.proofs.Filled.{both-filled, filled-all}
 use Rattle.wire.specs.Numbers.{success}
 use Rattle.readback.specs.Steps.{good}
 use Rattle.readback.specs.Pieces.{cutIn, cutOff, isWhole, longest, faultyLine, back}
-use Rattle.readback.specs.Rewriting.{rewrites}
+use Rattle.readback.specs.Rewriting.{rewrites, rewriteLines}
 use Rattle.readback.specs.Promises.{finishOf, FinishPromise, RewritePromise}
 use Rattle.readback.specs.Held.{Ready}
 use Rattle.readback.specs.declared.Readback.{Readback}
 use Rattle.readback.specs.declared.Rewritten.{Rewritten}
 use Rattle.readback.specs.declared.Back.{Back}
 use Rattle.readback.proofs.Cuts.{cut-none, not-whole}
-use Rattle.readback.proofs.Other.{over-call, front-and-rest, refused-line, told-line}
+use Rattle.readback.proofs.Other.{refused-line}
+use Rattle.readback.proofs.OverLines.{over-piece, told-line}
+use Rattle.readback.proofs.Rewrites.{rewrites-lawful}
 use Rattle.mwidth.specs.Told.{ofLine, isTooWide, isFaulty, isMissing, tellOf, whyOf, toldFrom}
 use Rattle.mwidth.specs.Blocks.{tells, atEnd, lastWords}
 use Rattle.mwidth.specs.declared.Went.{Went}
@@ -44,15 +46,14 @@ module _ (r : Readback) (l : List ℕ) (ls : List (List ℕ)) where
 module _ (r : Readback) (piece out after : List ℕ) (a : Rewritten) (g : good r ≡ true) (p : RewritePromise r piece out a after) where
   pub told-behind : (q : List ℕ) → tells r piece q ≡ tells (a .next) (drop (a .taken) piece) q
   told-behind q =
-      ap (λ (l : List ℕ). toldFrom r (cutIn l)) (front-and-rest r piece out after a g p q)
-      ∙ over-call (λ r ls next more. toldFrom r ls ≡ toldFrom next more) (λ r ls. refl) (λ r l ls next more z ih. goes-on r l ls z ∙ ih) r piece out after a g p (drop (a .taken) piece ++ q)
+      over-piece rewriteLines rewrites-lawful r piece out g p (λ r ls texts next more. toldFrom r ls ≡ toldFrom next more) (λ r ls. refl) (λ r l ls texts next more z ih. goes-on r l ls z ∙ ih) q
 
   pub told-refused : (a .refusal ≡ 0 → ⊥) → (q : List ℕ) → tells r piece q ≡ tellOf (a .line) (whyOf (a .refusal))
   told-refused some q =
       let k = refused-line r piece out after a g p some q in
       told-behind q ∙ ap (toldFrom (a .next)) (k .cut) ∙ told-here (a .next) (k .line) (k .later) (λ z. some (sym (k .number) ∙ z))
       ∙ ap (λ (t : Bool). tellOf (a .next .lines + 1) (cond t isMissing (whyOf (rewrites .refusal (a .next) (k .line))))) (k .uncut)
-      ∙ ap (λ (n : ℕ). tellOf (a .next .lines + 1) (whyOf n)) (k .number) ∙ ap (λ (n : ℕ). tellOf n (whyOf (a .refusal))) (sym (told-line r piece out after a g p some))
+      ∙ ap (λ (n : ℕ). tellOf (a .next .lines + 1) (whyOf n)) (k .number) ∙ ap (λ (n : ℕ). tellOf n (whyOf (a .refusal))) (sym (told-line rewriteLines rewrites-lawful r piece out g p some))
 
 -- the end: the front of a line, or nothing
 ends-with : (r : Readback) (held : ℕ) → good r ≡ true → atEnd r held ≡ cond (r .ended && eqb held 0) [] (tellOf (r .lines + 1) isMissing)

@@ -9,7 +9,8 @@ use lib.IntN.{ℤ, pos, negsuc, natAbs}
 use lib.ListN.{length, length-append}
 use lib.Seq.{take-at, drop-at}
 use borrow.Author.Tests.{lt-ltb, le-ltb}
-use Rattle.listing.specs.Lines.{newline, lengthTo, linesIn}
+use Rattle.text.specs.Lengths.{lengthTo}
+use Rattle.listing.specs.Lines.{newline, linesIn}
 use Rattle.listing.specs.Scanning.{mostAt, width}
 use Rattle.listing.specs.Printing.{fieldsOf, fieldOf, Form, formOf, headOf, lineOf, firstLetter, openingOf, allBytes}
 use Rattle.listing.specs.Listing.{itemsAt, listingAt, listingOf}

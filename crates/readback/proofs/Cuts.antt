@@ -1,5 +1,5 @@
 -- The lines of bytes: the first, those behind it, and a line that was cut off.
-use Prim.Native.Nat.{ℕ, zero, suc, _+_, _<_, _≤_}
+use Prim.Native.Nat.{ℕ, zero, suc, _<_, _≤_}
 use mathlib.Core.Path.{_≡_, refl, sym, _∙_, ap}
 use mathlib.Core.Bool.{Bool, true, false}
 use mathlib.Core.List.{List, [], _∷_, _++_, append-assoc}
@@ -9,7 +9,9 @@ use lib.ListN.{length, take, drop, length-append}
 use lib.Seq.{length-take-le, take-take}
 use borrow.Author.Tests.{lt-ltb, le-ltb, le-leb, lt-leb}
 use Rattle.numbers.proofs.Choices.{cases}
-use Rattle.listing.specs.Lines.{newline, lengthTo, front}
+use Rattle.text.specs.Lengths.{lengthTo}
+use Rattle.text.proofs.Lengths.{same-length-to}
+use Rattle.listing.specs.Lines.{newline, front}
 use Rattle.readback.specs.Pieces.{cutIn, bytesIn, isWhole, bodyOf, longest, cutOff, handed, linesOf}
 
 -- no newline
@@ -39,24 +41,15 @@ cut-line (c ∷ l) h = go (eqb c newline) refl (cut-line l)
     go false b ih = let k : suc (lengthTo newline l) < suc (length l) = rw b at h in rw b (ap (front c) (ih (omega arith)))
 
 -- the first line is whole
-pub same-length-to : (l : List ℕ) → lengthTo newline (take (suc (lengthTo newline l)) l) ≡ lengthTo newline l
-same-length-to [] = refl
-same-length-to (c ∷ l) = go (eqb c newline) refl (same-length-to l)
-  where
-    go : (t : Bool) → eqb c newline ≡ t → lengthTo newline (take (suc (lengthTo newline l)) l) ≡ lengthTo newline l
-        → lengthTo newline (take (suc (lengthTo newline (c ∷ l))) (c ∷ l)) ≡ lengthTo newline (c ∷ l)
-    go true b ih = rw b
-    go false b ih = rw b (ap suc ih)
-
 module _ (l : List ℕ) (there : lengthTo newline l < length l) where
   pub first-long : length (take (suc (lengthTo newline l)) l) ≡ suc (lengthTo newline l)
   first-long = length-take-le (suc (lengthTo newline l)) l (omega arith)
 
   pub first-whole : isWhole (take (suc (lengthTo newline l)) l) ≡ true
-  first-whole = let k = take (suc (lengthTo newline l)) l in lt-ltb (lengthTo newline k) (length k) (omega (arith, same-length-to l, first-long))
+  first-whole = let k = take (suc (lengthTo newline l)) l in lt-ltb (lengthTo newline k) (length k) (omega (arith, same-length-to newline l, first-long))
 
   pub first-body : bodyOf (take (suc (lengthTo newline l)) l) ≡ take (lengthTo newline l) l
-  first-body = rw (same-length-to l) (take-take (lengthTo newline l) (suc (lengthTo newline l)) l (omega arith))
+  first-body = rw (same-length-to newline l) (take-take (lengthTo newline l) (suc (lengthTo newline l)) l (omega arith))
 
   pub lines-line : linesOf l ≡ take (suc (lengthTo newline l)) l ∷ linesOf (drop (suc (lengthTo newline l)) l)
   unfolding linesOf

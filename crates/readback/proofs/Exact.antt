@@ -4,11 +4,13 @@ use Prim.Native.Nat.{ℕ, zero, suc, _+_}
 use mathlib.Core.Path.{_≡_, refl, sym, _∙_, ap, subst}
 use mathlib.Core.Bool.{Bool, true, false, true≢false}
 use mathlib.Core.Logic.{⊎-elim}
-use mathlib.Core.List.{List, [], _∷_, _++_, append-assoc, append-nil}
+use mathlib.Core.List.{List, [], _∷_, _++_, append-nil}
 use native.Mathlib.Omega.{arith}
 use lib.Dec.{leb, eqb}
-use lib.ListN.{take, drop}
+use lib.ListN.{drop}
 use borrow.Author.Tests.{leb-true, le-leb, lt-ltb, eqb-true, eqb-false, eq-eqb}
+use Rattle.fold.specs.Pieces.{Call, Permitted, after, takenBy, writtenBy}
+use Rattle.fold.proofs.Pieces as in-pieces
 use Rattle.wire.specs.Numbers.{success}
 use Rattle.listing.specs.Scanning.{mostAt, width}
 use Rattle.listing.specs.Printing.{formOf, lineOf, openingOf, allBytes}
@@ -17,19 +19,20 @@ use Rattle.listing.specs.declared.Item.the-variants as item
 use Rattle.readback.specs.Items.{Numbered, Proper}
 use Rattle.readback.specs.Steps.{widthKnown, fresh, openedAt, passedBy, above, good}
 use Rattle.readback.specs.Pieces.{cutIn, faultyLine, reads}
-use Rattle.readback.specs.Rewriting.{otherWidth, fitsAt, rewrites}
+use Rattle.readback.specs.Rewriting.{otherWidth, fitsAt, rewrites, rewriteLines}
 use Rattle.readback.specs.Promises.{RewritePromise}
-use Rattle.readback.specs.Rewrites.{Rewrite, PermittedRewrites, tookBy, wroteBy}
+use Rattle.readback.specs.Calls.{rewriteCalls}
 use Rattle.readback.specs.Whole.{readingFrom, readingOf, printed, Listed}
-use Rattle.readback.specs.Other.{otherFrom, otherOf, Fits, rewriterAfter}
+use Rattle.readback.specs.Other.{otherFrom, otherOf, Fits}
 use Rattle.readback.specs.declared.Readback.{Readback}
 use Rattle.readback.specs.declared.Rewritten.{Rewritten}
 use Rattle.readback.proofs.Again.{accepted}
 use Rattle.readback.proofs.AsItWas.{cut-first, line-whole, letter-plain, item-step, first-plain, first-step}
 use Rattle.readback.proofs.Goodness.{known-is, fresh-is-good}
-use Rattle.readback.proofs.Other.{over-call, goes-on, taken-read, faulty-read, front-and-rest, refused-line, calls-good, in-any-calls}
-use Rattle.readback.proofs.Rewrites.{other-known}
-use Rattle.readback.proofs.SameItems.{next-good, took}
+use Rattle.readback.proofs.Other.{goes-on, refused-line, calls-good, in-any-calls}
+use Rattle.readback.proofs.OverLines.{over-call, over-piece}
+use Rattle.readback.proofs.Rewrites.{other-known, rewrites-lawful, taken-read, faulty-read}
+use Rattle.readback.proofs.SameItems.{next-good}
 
 -- every line is taken
 abbrev AllTaken : Readback → List (List ℕ) → Type 0
@@ -178,33 +181,29 @@ fits-here w k (item.Over ∷ is) last h = (refl, rw h tt)
 twice : (w : ℕ) → widthKnown w ≡ true → otherWidth (otherWidth w) ≡ w
 twice = known-both (λ (w : ℕ). otherWidth (otherWidth w) ≡ w) refl refl
 
--- CALLS ONE AFTER THE OTHER
+-- CALLS ONE AFTER THE OTHER: what holds over the lines of each
 module _ (P : Readback → List (List ℕ) → Readback → List (List ℕ) → Type 0) (same : (r : Readback) (ls : List (List ℕ)) → P r ls r ls)
     (line : (r : Readback) (l : List ℕ) (ls : List (List ℕ)) (next : Readback) (more : List (List ℕ)) → rewrites .refusal r l ≡ 0 → P (rewrites .next r l) ls next more → P r (l ∷ ls) next more)
     (both : (r : Readback) (ls : List (List ℕ)) (s : Readback) (ms : List (List ℕ)) (t : Readback) (ns : List (List ℕ)) → P r ls s ms → P s ms t ns → P r ls t ns) where
-  over-calls : (ks : List Rewrite) (q : List ℕ) (r : Readback) → good r ≡ true → PermittedRewrites r ks → P r (cutIn (tookBy ks ++ q)) (rewriterAfter r ks) (cutIn q)
-  over-calls [] q r g h = same r (cutIn q)
-  over-calls (k ∷ ks) q r g h =
-      let first = take (k .answer .taken) (k .piece) in
-      let next = k .answer .next in
-      rw (append-assoc first (tookBy ks) q)
-      (both r (cutIn (first ++ (tookBy ks ++ q))) next (cutIn (tookBy ks ++ q)) (rewriterAfter next ks) (cutIn q)
-      (over-call P same line r (k .piece) (k .before) (k .after) (k .answer) g (h .0) (tookBy ks ++ q))
-      (over-calls ks q next (next-good r (k .piece) (k .before) (k .after) (k .answer) g (h .0)) (h .1)))
+  over-calls : (ks : List (Call Rewritten ℕ)) (q : List ℕ) → Permitted rewriteCalls fresh ks → P fresh (cutIn (takenBy rewriteCalls ks ++ q)) (after rewriteCalls fresh ks) (cutIn q)
+  over-calls ks q h =
+      in-pieces.over-calls rewriteCalls (λ r. good r ≡ true) next-good (λ r p w t q. P r (cutIn p) t (cutIn q)) (λ r q. same r (cutIn q))
+      (λ r p w s q v t rest one two. both r (cutIn p) s (cutIn q) t (cutIn rest) one two)
+      (λ r piece out after a g p. over-call rewriteLines rewrites-lawful r piece out g p (λ r ls texts next more. P r ls next more) same (λ r l ls texts. line r l ls)) ks q fresh fresh-is-good h
 
 -- what follows is all taken where all is; all is, where what follows is; and the fault, if there is one, is in what follows
-taken-behind : (ks : List Rewrite) (q : List ℕ) → PermittedRewrites fresh ks → AllTaken fresh (cutIn (tookBy ks ++ q)) → AllTaken (rewriterAfter fresh ks) (cutIn q)
-taken-behind ks q = over-calls (λ r ls next more. AllTaken r ls → AllTaken next more) (λ r ls h. h) (λ r l ls next more z ih h. ih (h .1)) (λ r ls s ms t ns a b h. b (a h)) ks q fresh fresh-is-good
+taken-behind : (ks : List (Call Rewritten ℕ)) (q : List ℕ) → Permitted rewriteCalls fresh ks → AllTaken fresh (cutIn (takenBy rewriteCalls ks ++ q)) → AllTaken (after rewriteCalls fresh ks) (cutIn q)
+taken-behind ks q = over-calls (λ r ls next more. AllTaken r ls → AllTaken next more) (λ r ls h. h) (λ r l ls next more z ih h. ih (h .1)) (λ r ls s ms t ns a b h. b (a h)) ks q
 
-taken-before : (ks : List Rewrite) (q : List ℕ) → PermittedRewrites fresh ks → AllTaken (rewriterAfter fresh ks) (cutIn q) → AllTaken fresh (cutIn (tookBy ks ++ q))
+taken-before : (ks : List (Call Rewritten ℕ)) (q : List ℕ) → Permitted rewriteCalls fresh ks → AllTaken (after rewriteCalls fresh ks) (cutIn q) → AllTaken fresh (cutIn (takenBy rewriteCalls ks ++ q))
 taken-before ks q =
-    over-calls (λ r ls next more. AllTaken next more → AllTaken r ls) (λ r ls h. h) (λ r l ls next more z ih h. (z, ih h)) (λ r ls s ms t ns a b h. a (b h)) ks q fresh fresh-is-good
+    over-calls (λ r ls next more. AllTaken next more → AllTaken r ls) (λ r ls h. h) (λ r l ls next more z ih h. (z, ih h)) (λ r ls s ms t ns a b h. a (b h)) ks q
 
-fault-behind : (ks : List Rewrite) (q : List ℕ) → PermittedRewrites fresh ks → readingFrom fresh (cutIn (tookBy ks ++ q)) .fault ≡ readingFrom (rewriterAfter fresh ks) (cutIn q) .fault
+fault-behind : (ks : List (Call Rewritten ℕ)) (q : List ℕ) → Permitted rewriteCalls fresh ks → readingFrom fresh (cutIn (takenBy rewriteCalls ks ++ q)) .fault ≡ readingFrom (after rewriteCalls fresh ks) (cutIn q) .fault
 unfolding readingFrom
 fault-behind ks q =
     over-calls (λ r ls next more. readingFrom r ls .fault ≡ readingFrom next more .fault) (λ r ls. refl)
-    (λ r l ls next more z ih. rw (eq-eqb (reads .refusal r l) success (taken-read r l z)) ih) (λ r ls s ms t ns a b. a ∙ b) ks q fresh fresh-is-good
+    (λ r l ls next more z ih. rw (eq-eqb (reads .refusal r l) success (taken-read r l z)) ih) (λ r ls s ms t ns a b. a ∙ b) ks q
 
 -- A LISTING WITHOUT A FAULT
 module _ (bytes : List ℕ) (e : readingOf bytes .fault ≡ 0) where
@@ -236,19 +235,19 @@ module _ (bytes : List ℕ) (e : readingOf bytes .fault ≡ 0) where
       ∙ ap (λ (u : ℕ). printed (k .salvage) u (k .items)) (twice w (a .known)) ∙ a .again
 
   -- in any calls, whatever the cuts and the rooms
-  pub exact-in-calls : OtherFits → (ks : List Rewrite) → PermittedRewrites fresh ks → tookBy ks ≡ bytes → wroteBy ks ≡ sameItems
+  pub exact-in-calls : OtherFits → (ks : List (Call Rewritten ℕ)) → Permitted rewriteCalls fresh ks → takenBy rewriteCalls ks ≡ bytes → writtenBy rewriteCalls ks ≡ sameItems
   exact-in-calls f ks h all = in-any-calls ks h ∙ ap otherOf all ∙ exact f
 
-  pub back-in-calls : OtherFits → (ks ms : List Rewrite) → PermittedRewrites fresh ks → PermittedRewrites fresh ms → tookBy ks ≡ bytes → tookBy ms ≡ wroteBy ks → wroteBy ms ≡ bytes
+  pub back-in-calls : OtherFits → (ks ms : List (Call Rewritten ℕ)) → Permitted rewriteCalls fresh ks → Permitted rewriteCalls fresh ms → takenBy rewriteCalls ks ≡ bytes → takenBy rewriteCalls ms ≡ writtenBy rewriteCalls ks → writtenBy rewriteCalls ms ≡ bytes
   back-in-calls f ks ms h n all back = in-any-calls ms n ∙ ap otherOf (back ∙ in-any-calls ks h ∙ ap otherOf all) ∙ there-and-back f
 
   -- NEVER REFUSED where its numbers fit; never for a fault; and where calls took all of it, its numbers fit
-  module _ (ks : List Rewrite) (piece rest out after : List ℕ) (a : Rewritten) (h : PermittedRewrites fresh ks) (p : RewritePromise (rewriterAfter fresh ks) piece out a after)
-      (all : tookBy ks ++ (piece ++ rest) ≡ bytes) where
+  module _ (ks : List (Call Rewritten ℕ)) (piece rest out left : List ℕ) (a : Rewritten) (h : Permitted rewriteCalls fresh ks) (p : RewritePromise (after rewriteCalls fresh ks) piece out a left)
+      (all : takenBy rewriteCalls ks ++ (piece ++ rest) ≡ bytes) where
     abbrev r : Readback
-    r = rewriterAfter fresh ks
+    r = after rewriteCalls fresh ks
 
-    behind : (P : List ℕ → Type 0) → P bytes → P (tookBy ks ++ (piece ++ rest))
+    behind : (P : List ℕ → Type 0) → P bytes → P (takenBy rewriteCalls ks ++ (piece ++ rest))
     behind P b = subst P (sym all) b
 
     pub never-refused : OtherFits → a .refusal ≡ 0
@@ -259,11 +258,10 @@ module _ (bytes : List ℕ) (e : readingOf bytes .fault ≡ 0) where
         go false n =
             let some = eqb-false (a .refusal) 0 n in
             let g = calls-good ks fresh fresh-is-good h in
-            let k = refused-line r piece out after a g p some rest in
+            let k = refused-line r piece out left a g p some rest in
             let taken = taken-behind ks (piece ++ rest) h (behind (λ (l : List ℕ). AllTaken fresh (cutIn l)) (all-written f .0)) in
             let later : AllTaken (a .next) (cutIn (drop (a .taken) piece ++ rest)) =
-            over-call (λ r ls next more. AllTaken r ls → AllTaken next more) (λ r ls h. h) (λ r l ls next more z ih h. ih (h .1)) r piece out after a g p (drop (a .taken) piece ++ rest)
-            (subst (λ (l : List ℕ). AllTaken r (cutIn l)) (front-and-rest r piece out after a g p rest) taken) in
+            over-piece rewriteLines rewrites-lawful r piece out g p (λ r ls texts next more. AllTaken r ls → AllTaken next more) (λ r ls h. h) (λ r l ls texts next more z ih h. ih (h .1)) rest taken in
             let here : AllTaken (a .next) (k .line ∷ k .later) = subst (AllTaken (a .next)) (k .cut) later in
             absurd (some (sym (k .number) ∙ here .0))
 
@@ -272,19 +270,18 @@ module _ (bytes : List ℕ) (e : readingOf bytes .fault ≡ 0) where
     never-faulty seven =
         let some : a .refusal ≡ 0 → ⊥ = λ z. omega (arith, z, seven) in
         let g = calls-good ks fresh fresh-is-good h in
-        let k = refused-line r piece out after a g p some rest in
+        let k = refused-line r piece out left a g p some rest in
         let faulty = faulty-read (a .next) (k .line) (k .number ∙ seven) in
         let at : readingFrom (a .next) (k .line ∷ k .later) .fault ≡ a .next .lines + 1 = rw faulty in
         let later : readingFrom r (cutIn (piece ++ rest)) .fault ≡ readingFrom (a .next) (cutIn (drop (a .taken) piece ++ rest)) .fault =
-        ap (λ (l : List ℕ). readingFrom r (cutIn l) .fault) (front-and-rest r piece out after a g p rest)
-        ∙ over-call (λ r ls next more. readingFrom r ls .fault ≡ readingFrom next more .fault) (λ r ls. refl)
-        (λ r l ls next more z ih. rw (eq-eqb (reads .refusal r l) success (taken-read r l z)) ih) r piece out after a g p (drop (a .taken) piece ++ rest) in
+        over-piece rewriteLines rewrites-lawful r piece out g p (λ r ls texts next more. readingFrom r ls .fault ≡ readingFrom next more .fault) (λ r ls. refl)
+        (λ r l ls texts next more z ih. rw (eq-eqb (reads .refusal r l) success (taken-read r l z)) ih) rest in
         omega (arith, behind (λ (l : List ℕ). readingOf l .fault ≡ 0) e, fault-behind ks (piece ++ rest) h, later, ap (λ (ls : List (List ℕ)). readingFrom (a .next) ls .fault) (k .cut), at)
 
-  pub all-fit : (ks : List Rewrite) → PermittedRewrites fresh ks → tookBy ks ≡ bytes → OtherFits
+  pub all-fit : (ks : List (Call Rewritten ℕ)) → Permitted rewriteCalls fresh ks → takenBy rewriteCalls ks ≡ bytes → OtherFits
   unfolding cutIn
   all-fit ks h all =
       let a = accepted bytes e in
       let k = readingOf bytes in
-      let taken : AllTaken fresh (cutIn bytes) = subst (λ (l : List ℕ). AllTaken fresh (cutIn l)) (append-nil (tookBy ks) ∙ all) (taken-before ks [] h tt) in
+      let taken : AllTaken fresh (cutIn bytes) = subst (λ (l : List ℕ). AllTaken fresh (cutIn l)) (append-nil (takenBy rewriteCalls ks) ∙ all) (taken-before ks [] h tt) in
       printed-fits (k .salvage) (a .width) (k .items) (a .known) (a .listed) (subst (λ (l : List ℕ). AllTaken fresh (cutIn l)) (sym (a .again)) taken)

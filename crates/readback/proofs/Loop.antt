@@ -12,13 +12,14 @@ use borrow.Author.Tests.{ne-eqb}
 use Rattle.fold.specs.Fold.{MachineOver, ran, written, places, run}
 use Rattle.fold.proofs.Laws.{taken, stops}
 use Rattle.fold.proofs.Parts.{none, one, joins, part-room, part-long, part-left, part-ends}
-use Rattle.listing.specs.Lines.{newline, lengthTo}
+use Rattle.text.specs.Lengths.{lengthTo}
+use Rattle.listing.specs.Lines.{newline}
 use Rattle.listing.specs.Items.{itemsIn}
 use Rattle.listing.specs.declared.Given.{Given}
 use Rattle.listing.specs.declared.Given.the-variants.{Nothing, One}
 use Rattle.readback.specs.Items.{allNumbers}
 use Rattle.readback.specs.Steps.{stepOf, good}
-use Rattle.readback.specs.Pieces.{cutIn, bytesIn, bodyOf, faultyLine, reads, longest, linesOf, itemsAmong, back, faultAt, whole, piecesOf}
+use Rattle.readback.specs.Pieces.{cutIn, bytesIn, bodyOf, faultyLine, reads, longest, linesOf, itemsAmong, back, faultAt, whole, readLines, piecesOf}
 use Rattle.readback.specs.Parts.{Stands, Begin, Begins}
 use Rattle.readback.specs.declared.Readback.{Readback}
 use Rattle.readback.specs.declared.Step.{Step}
@@ -192,18 +193,18 @@ module _ {r₀ : Readback} {input : List ℕ} {out₀ : List ℤ} {r : Readback}
   pub far-read : (at ≤ length input) × (used ≡ 5 * items) × (used ≤ length out₀) × (length out ≡ length out₀)
   far-read = let f = far reads reading-follows (s .stands) in (f .0, s .five, f .1, f .2)
 
-  ends-read : (n : ℕ) → run reads r₀ (linesOf input) (length out₀) ≡ ran n r (s .stands .answers) → whole (back n r at items (faultAt n r)) out ≡ piecesOf r₀ input out₀
+  ends-read : (n : ℕ) → run reads r₀ (linesOf input) (length out₀) ≡ ran n r (s .stands .answers) → whole (back n r at items (faultAt n r)) out ≡ piecesOf readLines r₀ input out₀
   unfolding piecesOf
   ends-read n all =
       let t = s .stands in
       let many : items ≡ length (itemsAmong (t .answers)) = omega (arith, s .five, t .part .places-are, five-each (t .answers)) in
       rw (all, t .taken-are, many, t .part .wrote, t .part .places-are)
 
-  pub ends-read-all : length input ≤ at → whole (back 0 r at items 0) out ≡ piecesOf r₀ input out₀
+  pub ends-read-all : length input ≤ at → whole (back 0 r at items 0) out ≡ piecesOf readLines r₀ input out₀
   ends-read-all h = ends-read 0 (ends-all reads reading-follows (s .stands) h)
 
   module _ (t : Back) {last : List ℤ} (b : Begins r (drop at input) (drop used out) t last) where
-    pub ends-read-before : t .taken ≡ 0 → whole (back (t .refusal) r at items (t .line)) out ≡ piecesOf r₀ input out₀
+    pub ends-read-before : t .taken ≡ 0 → whole (back (t .refusal) r at items (t .line)) out ≡ piecesOf readLines r₀ input out₀
     ends-read-before z = rw (b .line-is z) (ends-read (t .refusal) (ends-before reads reading-follows (s .stands) b z))
 
     pub more-read : StandsRead r₀ input out₀ (t .next) (at + t .taken) (used + 5 * t .items) (items + t .items) (take used out ++ last)

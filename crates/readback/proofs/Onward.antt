@@ -14,7 +14,9 @@ use Rattle.numbers.proofs.Tested.{left, right}
 use Rattle.fold.specs.Fold.{MachineOver, Ran, behind, written, places, takes, run}
 use Rattle.fold.proofs.Laws.{join, up-to, within, over-taken, stays, stops}
 use Rattle.wire.specs.Numbers.{success}
-use Rattle.listing.specs.Lines.{newline, lengthTo, front}
+use Rattle.text.specs.Lengths.{lengthTo}
+use Rattle.text.proofs.Lengths.{to-within, to-append, same-length-to}
+use Rattle.listing.specs.Lines.{newline, front}
 use Rattle.listing.specs.declared.Given.{Given}
 use Rattle.listing.specs.declared.Given.the-variants.{Nothing, One}
 use Rattle.readback.specs.Items.{itemIn, widthIn, salvageIn}
@@ -23,11 +25,10 @@ use Rattle.readback.specs.Pieces.{cutIn, bytesIn, isWhole, bodyOf, fault
 use Rattle.readback.specs.Held.{toGo}
 use Rattle.readback.specs.declared.Readback.{Readback}
 use Rattle.readback.proofs.Again.{not-refused}
-use Rattle.readback.proofs.Cuts.{cut-none, cut-line, lines-line, lines-short, lines-long, first-whole, first-body, first-long, same-length-to, not-whole}
+use Rattle.readback.proofs.Cuts.{cut-none, cut-line, lines-line, lines-short, lines-long, first-whole, first-body, first-long, not-whole}
 use Rattle.readback.proofs.Goodness.{step-leaves, step-ended, step-first, step-item, few-lines}
 use Rattle.readback.proofs.Loop.{Follows}
 use Rattle.readback.proofs.Short.{long-faulty}
-use Rattle.readback.proofs.Values.{to-within}
 use Rattle.readback.proofs.Wholes.{Wholes, cut-whole, lines-wholes, lines-front, lines-whole}
 
 -- a good line is one more
@@ -71,16 +72,7 @@ unfolding linesOf
 few-handed l = omega (arith, handed-less (cutIn l), few-cut l)
 
 -- bytes by what they begin with: a whole line, a line that is too long for any, the front of a line, or nothing
-to-append : (l q : List ℕ) → lengthTo newline l ≡ length l → lengthTo newline (l ++ q) ≡ length l + lengthTo newline q
-to-append [] q e = omega arith
-to-append (c ∷ l) q e = go (eqb c newline) refl (to-append l q)
-  where
-    go : (t : Bool) → eqb c newline ≡ t → (lengthTo newline l ≡ length l → lengthTo newline (l ++ q) ≡ length l + lengthTo newline q)
-        → lengthTo newline (c ∷ l ++ q) ≡ suc (length l) + lengthTo newline q
-    go true b ih = absurd (omega (arith, rw b at e))
-    go false b ih = let k : suc (lengthTo newline l) ≡ suc (length l) = rw b at e in rw b (omega (arith, ih (omega arith)))
-
-no-bytes : (l : List ℕ) → length l ≡ 0 → linesOf l ≡ []
+pub no-bytes : (l : List ℕ) → length l ≡ 0 → linesOf l ≡ []
 unfolding linesOf cutIn
 no-bytes [] z = refl
 no-bytes (c ∷ l) z = absurd (omega arith)
@@ -155,7 +147,7 @@ module _ {A X : Type 0} (m : MachineOver (List ℕ) Readback A X) (follows : Fol
         let k = suc (lengthTo newline d) in
         let l = take k d in
         let front : d ++ q ≡ l ++ (drop k d ++ q) = ap (λ (b : List ℕ). b ++ q) (sym (take-append-drop k d)) ∙ append-assoc l (drop k d) q in
-        let tidy : length l ≤ suc (lengthTo newline l) = omega (arith, first-long d there, same-length-to d) in
+        let tidy : length l ≤ suc (lengthTo newline l) = omega (arith, first-long d there, same-length-to newline d) in
         record {
           line = l;
           later = cutIn (drop k d ++ q);
@@ -181,7 +173,7 @@ module _ {A X : Type 0} (m : MachineOver (List ℕ) Readback A X) (follows : Fol
             let l = d ++ q in
             let k = lengthTo newline l in
             let there = ltb-true k (length l) b in
-            let body : longest < length (take k l) = omega (arith, length-take-le k l (omega arith), to-append d q e) in
+            let body : longest < length (take k l) = omega (arith, length-take-le k l (omega arith), to-append newline d q e) in
             record {
               line = take (suc k) l;
               later = cutIn (drop (suc k) l);
@@ -224,7 +216,7 @@ module _ {A X : Type 0} (m : MachineOver (List ℕ) Readback A X) (follows : Fol
     abbrev later : Ran Readback A
     later = run m (f .next) (linesOf d) room-left
 
-    wholes : Wholes ws
+    pub wholes : Wholes ws
     wholes = lines-whole m whole-line r piece room
 
     front-and-rest : (q : List ℕ) → piece ++ q ≡ bytesIn ws ++ (d ++ q)
@@ -272,7 +264,7 @@ module _ {A X : Type 0} (m : MachineOver (List ℕ) Readback A X) (follows : Fol
         let here : run m (f .next) (l ∷ ls) room-left .refusal ≡ m .refusal (f .next) l = rw (stops m (f .next) l room-left (λ z. absurd (some z))) in
         sym same-refusal ∙ ap (λ (k : List (List ℕ)). run m (f .next) k room-left .refusal) e ∙ here
 
-    more-lines : f .next .lines ≡ r .lines + length (f .answers)
+    pub more-lines : f .next .lines ≡ r .lines + length (f .answers)
     more-lines =
         over-taken m (λ r ls answers next. next .lines ≡ r .lines + length answers) (λ r. omega arith)
         (λ r l ls answers next z ih.

@@ -4,29 +4,24 @@ use Prim.Native.Nat.{ℕ, _+_}
 use mathlib.Core.Path.{_≡_, refl, sym, _∙_, ap, subst}
 use mathlib.Core.Bool.{true, false, _&&_}
 use mathlib.Core.Logic.{_⊎_, inl, inr, ⊎-elim}
-use mathlib.Core.List.{List, [], _∷_, append-nil, List·Memᴰ·head, List·Memᴰ·tail}
-use native.Mathlib.Omega.{arith}
+use mathlib.Core.List.{List, [], _∷_, List·Memᴰ·head, List·Memᴰ·tail}
 use lib.Dec.{eqb}
 use lib.IntN.{ℤ}
 use lib.ListN.{length, take}
-use lib.Seq.{take-all}
 use Rattle.numbers.proofs.Choices.{cases}
-use Rattle.fold.specs.Fold.{Ran, run}
-use Rattle.fold.proofs.Laws.{up-to}
 use Rattle.wire.specs.Numbers.{success, RefusesRightly, accepted, refusal}
-use Rattle.listing.specs.declared.Given.{Given}
 use Rattle.readback.specs.Steps.{good}
-use Rattle.readback.specs.Pieces.{cutIn, bytesIn, faultyLine, reads, linesOf, back, whole, faultless, counted}
-use Rattle.readback.specs.Promises.{refused, readOf, finishOf, FreshPromise, ReadPromise, FinishPromise}
+use Rattle.readback.specs.Pieces.{faultyLine, linesOf, back, whole, faultless, readLines}
+use Rattle.readback.specs.Promises.{refused, finishOf, FreshPromise, ReadPromise, FinishPromise}
 use Rattle.readback.specs.declared.Readback.{Readback}
 use Rattle.readback.specs.declared.Back.{Back}
 use Rattle.readback.proofs.Goodness as goodness
-use Rattle.readback.proofs.Calls.{is, number-of, call-refusal, call-bytes}
-use Rattle.readback.proofs.Wholes.{taken-whole, taken-long, lines-wholes}
+use Rattle.readback.proofs.Calls.{reads-lawful, number-of}
+use Rattle.readback.proofs.OverLines as over-lines
+use Rattle.readback.proofs.OverLines.{refusal-is}
 
 pub bad-state-read : (r : Readback) (piece : List ℕ) (before after : List ℤ) (a : Back) → good r ≡ false → ReadPromise r piece before a after → whole a after ≡ whole (refused r) before
-unfolding readOf
-bad-state-read r piece before after a g p = rw g at p
+bad-state-read r piece before after a = over-lines.bad-state readLines r piece before
 
 pub bad-state-finish : (r : Readback) (left : ℕ) (a : Back) → good r ≡ false → FinishPromise r left a → a ≡ refused r
 unfolding finishOf
@@ -35,7 +30,8 @@ bad-state-finish r left a g p = rw g at p
 -- a good reader
 pub good-read : (r : Readback) (piece : List ℕ) (before after : List ℤ) (a : Back) → good r ≡ true → ReadPromise r piece before a after → (a .refusal ≡ success) ⊎ (a .refusal ≡ faultyLine)
 good-read r piece before after a g p =
-    ⊎-elim (λ e. inl (call-refusal r piece before after a g p ∙ e)) (λ e. inr (call-refusal r piece before after a g p ∙ e)) (number-of (linesOf piece) r (length before))
+    let e = refusal-is readLines reads-lawful r piece before g p in
+    ⊎-elim (λ z. inl (e ∙ z)) (λ seven. inr (e ∙ seven)) (number-of (linesOf piece) r (length before))
 
 pub good-finish : (r : Readback) (left : ℕ) (a : Back) → good r ≡ true → FinishPromise r left a → (a .refusal ≡ success) ⊎ (a .refusal ≡ faultyLine)
 unfolding finishOf
@@ -60,16 +56,6 @@ finish-refusals r left a p =
     (cases P (good r) (λ _. cases P (r .ended && eqb left 0) (λ _. accepted refl) (λ _. refusal (List·Memᴰ·tail (List·Memᴰ·head refl)))) (λ _. refusal (List·Memᴰ·head refl)))
 
 -- AS IT STANDS: with a fault, a call gives what a call of the bytes taken gives, but for the number and the line
-pub no-lines : linesOf [] ≡ []
-unfolding linesOf cutIn
-no-lines = refl
-
 pub as-before : (r : Readback) (piece : List ℕ) (before after rest : List ℤ) (a b : Back) → good r ≡ true → ReadPromise r piece before a after → ReadPromise r (take (a .taken) piece) before b rest
     → whole b rest ≡ faultless (whole a after)
-as-before r piece before after rest a b g p q =
-    let f = run reads r (linesOf piece) (length before) in
-    let ws = take (length (f .answers)) (linesOf piece) in
-    let lines : linesOf (take (a .taken) piece) ≡ ws = ap linesOf (call-bytes r piece before after a g p ∙ sym (append-nil (bytesIn ws))) ∙ lines-wholes ws [] (taken-whole r piece (length before)) ∙ rw no-lines (append-nil ws) in
-    is r (take (a .taken) piece) before rest b g q ∙ ap (λ (ls : List (List ℕ)). counted (run reads r ls (length before)) ls before) lines
-    ∙ ap (λ (k : Ran Readback Given). counted k ws before) (up-to reads (linesOf piece) r (length before))
-    ∙ rw (take-all (length (f .answers)) ws (omega (arith, taken-long r piece (length before)))) refl ∙ ap faultless (sym (is r piece before after a g p))
+as-before r piece before after rest a b = over-lines.as-before readLines reads-lawful r piece before

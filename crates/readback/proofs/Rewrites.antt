@@ -1,7 +1,7 @@
--- The lines of a piece, rewritten: the text of a line, and what the first line of a piece does.
-use Prim.Native.Nat.{ℕ, _+_, _-_, _*_, _<_, _≤_, _^_}
+-- The lines of a piece, rewritten: the text of a line, its number, and what the first line of a piece does.
+use Prim.Native.Nat.{ℕ, _+_, _*_, _<_, _≤_, _^_}
 use mathlib.Core.Path.{_≡_, refl, sym, _∙_, ap, subst}
-use mathlib.Core.Bool.{Bool, true, false, cond}
+use mathlib.Core.Bool.{Bool, true, false, cond, _&&_, true≢false}
 use mathlib.Core.Logic.{⊎-elim}
 use mathlib.Core.List.{List, [], _∷_, _++_}
 use native.Mathlib.Omega.{arith}
@@ -12,13 +12,16 @@ use lib.ListN.{length, take, drop, length-append}
 use lib.Signed.{ltZ}
 use borrow.Author.Tests.{ltb-false}
 use Rattle.numbers.proofs.Choices.{cases, neither}
-use Rattle.fold.specs.Fold.{ran, run}
+use Rattle.fold.specs.Fold.{ran, written, places, run}
+use Rattle.fold.proofs.Laws.{written-append}
+use Rattle.wire.specs.Numbers.{success}
 use Rattle.text.specs.Growth.{textOf, fitsAt, putOf}
 use Rattle.text.specs.Decimals.{plain}
 use Rattle.text.specs.declared.Text.{Text}
 use Rattle.text.proofs.Laws.{put-none}
 use Rattle.text.proofs.Digits.{decimal-few}
-use Rattle.listing.specs.Lines.{newline, lengthTo}
+use Rattle.text.specs.Lengths.{lengthTo}
+use Rattle.listing.specs.Lines.{newline}
 use Rattle.listing.specs.Scanning.{width, mostLines}
 use Rattle.listing.specs.Printing.{fieldOf, fieldsOf, Form, formOf, openingOf, headOf, lineOf, lineAt}
 use Rattle.listing.specs.declared.Field.{Field}
@@ -30,13 +33,15 @@ use Rattle.listing.proofs.Feeds.{size, put-room, put-wrote, put-short}
 use Rattle.readback.specs.Fields.{low, high}
 use Rattle.readback.specs.Items.{Sixteen}
 use Rattle.readback.specs.Steps.{oldWidth, widthKnown, stepOf, good}
-use Rattle.readback.specs.Pieces.{bodyOf, faultyLine, reads, linesOf, faultAt}
-use Rattle.readback.specs.Rewriting.{otherWidth, tooWide, givenFits, rewrites, rewriting, rewritten, rewrittenOf}
+use Rattle.readback.specs.Pieces.{isWhole, bodyOf, faultyLine, reads, linesOf, faultAt, piecesOf}
+use Rattle.readback.specs.Other.{TooWide}
+use Rattle.readback.specs.Rewriting.{otherWidth, tooWide, givenFits, widthBehind, rewrites, rewriteLines, rewriting, rewritten}
 use Rattle.readback.specs.Parts.{Stands, Begin, Rewrites}
 use Rattle.readback.specs.declared.Readback.{Readback}
 use Rattle.readback.specs.declared.Step.{Step}
 use Rattle.readback.specs.declared.Rewritten.{Rewritten}
 use Rattle.readback.proofs.Values.{SmallGiven}
+use Rattle.readback.proofs.OverLines.{Lawful}
 use Rattle.readback.proofs.Goodness.{known-is, known-few, step-leaves}
 use Rattle.readback.proofs.Loop.{firstLine, step-is, refusal-is, Follows, ends-all, ends-before, refused-stop, room-stop, line-taken}
 
@@ -80,6 +85,44 @@ few-line t w h (One item.Over) s = few-form w h (formOf item.Over) tt (omega ari
 
 pub rewriting-follows : Follows rewrites
 rewriting-follows = record { next-is = λ r l. refl; faulty-is = λ r l e. rw e }
+
+-- the number of a line, by what is read of it and whether that fits
+module _ (r : Readback) (l : List ℕ) where
+  by-reading : (P : ℕ → ℕ → Bool → Type 0) → P success success true → P success tooWide false → ((u : Bool) → P faultyLine faultyLine u)
+      → P (reads .refusal r l) (rewrites .refusal r l) (givenFits (widthBehind r l) (reads .answer r l))
+  by-reading P fits wide faulty = go (isWhole l && stepOf r (bodyOf l) .good) (givenFits (widthBehind r l) (reads .answer r l))
+    where
+      go : (t u : Bool) → P (cond t success faultyLine) (cond (eqb (cond t success faultyLine) success) (cond u success tooWide) faultyLine) u
+      go true true = fits
+      go true false = wide
+      go false u = faulty u
+
+  pub taken-read : rewrites .refusal r l ≡ 0 → reads .refusal r l ≡ 0
+  taken-read = by-reading (λ n k u. k ≡ 0 → n ≡ 0) (λ _. refl) (λ _. refl) (λ u e. absurd (omega (arith, e)))
+
+  pub faulty-read : rewrites .refusal r l ≡ faultyLine → reads .refusal r l ≡ faultyLine
+  faulty-read = by-reading (λ n k u. k ≡ faultyLine → n ≡ faultyLine) (λ e. absurd (omega (arith, e))) (λ e. absurd (omega (arith, e))) (λ u _. refl)
+
+  pub wide-is : rewrites .refusal r l ≡ tooWide → TooWide r l
+  wide-is = by-reading (λ n k u. k ≡ tooWide → (n ≡ success) × (u ≡ false)) (λ e. absurd (omega (arith, e))) (λ _. (refl, refl)) (λ u e. absurd (omega (arith, e)))
+
+  pub is-wide : TooWide r l → rewrites .refusal r l ≡ tooWide
+  is-wide w =
+      by-reading (λ n k u. n ≡ success → u ≡ false → k ≡ tooWide) (λ _ e. absurd (true≢false e)) (λ _ _. refl) (λ u e. absurd (omega (arith, e))) (w .0) (w .1)
+
+  pub few-places : good r ≡ true → places rewrites r l ≤ 40
+  few-places g =
+      few-line (reads .next r l .salvage) (widthBehind r l) (known-few (widthBehind r l) (other-known (reads .next r l .width))) (reads .answer r l) (step-leaves r (bodyOf l) g .1)
+
+-- rewriting, as a call over lines
+pub rewrites-lawful : Lawful rewriteLines
+rewrites-lawful =
+    record {
+      follows = rewriting-follows;
+      reading = taken-read;
+      plus = λ l k. ap length (written-append rewrites l k) ∙ length-append (written rewrites l) (written rewrites k);
+      filled = λ l. refl;
+    }
 
 -- the first line of a piece, whose step is known
 module _ (r : Readback) (piece out : List ℕ) (g : good r ≡ true) (s : Step) (there : lengthTo newline piece < length piece) (is : s ≡ stepOf r (take (lengthTo newline piece) piece)) (e : s .good ≡ true) where
@@ -125,13 +168,13 @@ module _ (r : Readback) (piece out : List ℕ) (g : good r ≡ true) (s : Step) 
 
 -- where the loop ends
 module _ {r₀ : Readback} {input out₀ : List ℕ} {r : Readback} {at used : ℕ} {out : List ℕ} (s : Stands rewrites r₀ input out₀ r at used out) where
-  ends-rewriting : (n : ℕ) → run rewrites r₀ (linesOf input) (length out₀) ≡ ran n r (s .answers) → rewriting (rewritten n r at used (faultAt n r)) out ≡ rewrittenOf r₀ input out₀
-  unfolding rewrittenOf
+  ends-rewriting : (n : ℕ) → run rewrites r₀ (linesOf input) (length out₀) ≡ ran n r (s .answers) → rewriting (rewritten n r at used (faultAt n r)) out ≡ piecesOf rewriteLines r₀ input out₀
+  unfolding piecesOf
   ends-rewriting n all = rw (all, s .taken-are, s .part .wrote, s .part .places-are)
 
-  pub ends-rewriting-all : length input ≤ at → rewriting (rewritten 0 r at used 0) out ≡ rewrittenOf r₀ input out₀
+  pub ends-rewriting-all : length input ≤ at → rewriting (rewritten 0 r at used 0) out ≡ piecesOf rewriteLines r₀ input out₀
   ends-rewriting-all h = ends-rewriting 0 (ends-all rewrites rewriting-follows s h)
 
   pub ends-rewriting-before : (t : Rewritten) {last : List ℕ} → Rewrites r (drop at input) (drop used out) t last → t .taken ≡ 0
-      → rewriting (rewritten (t .refusal) r at used (t .line)) out ≡ rewrittenOf r₀ input out₀
+      → rewriting (rewritten (t .refusal) r at used (t .line)) out ≡ piecesOf rewriteLines r₀ input out₀
   ends-rewriting-before t b z = rw (b .line-is z) (ends-rewriting (t .refusal) (ends-before rewrites rewriting-follows s b z))

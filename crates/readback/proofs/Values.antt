@@ -1,5 +1,5 @@
 -- Fields of a line: where they end, what bounds their values have, and fields one behind the other as the code reads them.
-use Prim.Native.Nat.{ℕ, suc, _+_, _-_, _<_, _≤_}
+use Prim.Native.Nat.{ℕ, _+_, _-_, _<_, _≤_}
 use mathlib.Core.Path.{_≡_, refl, sym, _∙_}
 use mathlib.Core.Bool.{Bool, true, false, cond, _&&_, _||_, true≢false}
 use mathlib.Core.List.{List, [], _∷_}
@@ -18,7 +18,8 @@ use Rattle.numbers.proofs.Tested.{left, right}
 use Rattle.text.specs.Decimals.{plain, numberIn}
 use Rattle.text.specs.declared.Number.{Number}
 use Rattle.text.specs.declared.Number.the-variants.{None, Is}
-use Rattle.listing.specs.Lines.{tab, lengthTo}
+use Rattle.text.specs.Lengths.{lengthTo}
+use Rattle.listing.specs.Lines.{tab}
 use Rattle.listing.specs.Scanning.{mostLines}
 use Rattle.listing.specs.Printing.{letterD, letterR, letterH, letterE}
 use Rattle.listing.specs.declared.Middle.{Middle}
@@ -33,25 +34,6 @@ use Rattle.readback.specs.declared.Kind.the-variants as kind
 use Rattle.readback.specs.declared.Value.{Value}
 use Rattle.readback.specs.declared.Took.{Took}
 use Rattle.readback.specs.declared.Five.{Five}
-
--- no more bytes stand in front of the first than there are
-pub to-within : (stop : ℕ) (l : List ℕ) → lengthTo stop l ≤ length l
-to-within stop [] = omega arith
-to-within stop (c ∷ l) = cases (λ (n : ℕ). n ≤ suc (length l)) (eqb c stop) (λ _. omega arith) (λ _. omega (arith, to-within stop l))
-
--- byte by byte
-module _ (bytes : List ℕ) (stop i : ℕ) (inv : i + lengthTo stop (drop i bytes) ≡ lengthTo stop bytes) where
-  next : i < length bytes → drop i bytes ≡ getD bytes i 0 ∷ drop (i + 1) bytes
-  next h = rw add-one (drop-cons bytes i 0 h)
-
-  pub found : i < length bytes → getD bytes i 0 ≡ stop → i ≡ lengthTo stop bytes
-  found h e = let k : i + 0 ≡ lengthTo stop bytes = rw (next h, eq-eqb (getD bytes i 0) stop e) at inv in omega arith
-
-  pub further : i < length bytes → (getD bytes i 0 ≡ stop → ⊥) → i + 1 + lengthTo stop (drop (i + 1) bytes) ≡ lengthTo stop bytes
-  further h n = let k : i + suc (lengthTo stop (drop (i + 1) bytes)) ≡ lengthTo stop bytes = rw (next h, ne-eqb (getD bytes i 0) stop n) at inv in omega arith
-
-  pub at-end : length bytes ≤ i → i ≡ lengthTo stop bytes
-  at-end h = let k : i + 0 ≡ lengthTo stop bytes = rw (drop-of-length-le bytes h) at inv in omega arith
 
 -- bounds of values
 abbrev pub UpTo : ℕ → ℤ → Type 0

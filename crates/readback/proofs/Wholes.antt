@@ -1,27 +1,24 @@
 -- Whole lines in front of more bytes: they are cut off as they were, and what they gave comes in front.
-use Prim.Native.Nat.{ℕ, zero, suc, _+_, _-_, _<_, _≤_}
+use Prim.Native.Nat.{ℕ, zero, suc, _<_, _≤_}
 use mathlib.Core.Path.{_≡_, refl, sym, _∙_, ap}
 use mathlib.Core.Bool.{Bool, true, false}
 use mathlib.Core.List.{List, [], _∷_, _++_, append-assoc}
 use native.Mathlib.Omega.{arith}
 use lib.Dec.{eqb}
-use lib.ListN.{length, take, drop, length-append, take-append-drop}
-use lib.Seq.{take-add, take-at, drop-at, length-take-le}
-use borrow.Author.Tests.{ltb-true, lt-ltb, eq-eqb}
+use lib.ListN.{length, take, length-append}
+use lib.Seq.{take-add, take-at, drop-at}
+use borrow.Author.Tests.{ltb-true, lt-ltb}
 use Rattle.numbers.proofs.Choices.{cases}
-use Rattle.numbers.proofs.Tested.{left}
-use Rattle.fold.specs.Fold.{MachineOver, Ran, behind, written, run}
-use Rattle.fold.proofs.Laws.{join, up-to, within, over-taken}
-use Rattle.wire.specs.Numbers.{success}
-use Rattle.listing.specs.Lines.{newline, lengthTo, front}
+use Rattle.fold.specs.Fold.{MachineOver, run}
+use Rattle.fold.proofs.Laws.{over-taken}
+use Rattle.text.specs.Lengths.{lengthTo}
+use Rattle.listing.specs.Lines.{newline, front}
 use Rattle.listing.specs.declared.Item.{Item}
-use Rattle.listing.specs.declared.Given.{Given}
-use Rattle.readback.specs.Steps.{stepOf}
-use Rattle.readback.specs.Pieces.{cutIn, bytesIn, isWhole, bodyOf, reads, cutOff, handed, linesOf, itemsAmong}
-use Rattle.readback.specs.Whole.{Reading, reading, readingFrom}
+use Rattle.readback.specs.Pieces.{cutIn, bytesIn, isWhole, cutOff, handed, linesOf}
+use Rattle.readback.specs.Whole.{Reading, reading}
 use Rattle.readback.specs.declared.Readback.{Readback}
 use Rattle.readback.proofs.Cuts.{bytes-cut}
-use Rattle.readback.proofs.Again.{Tidy, cut-tidy, not-refused}
+use Rattle.readback.proofs.Again.{Tidy, cut-tidy}
 
 -- lines that are whole, and have no newline but their last byte
 abbrev pub Wholes : List (List ℕ) → Type 0
@@ -88,46 +85,6 @@ lines-whole m whole r piece room =
     over-taken m (λ r ls answers next. Tidy ls → Wholes ls) (λ r h. tt) (λ r l ls answers next z ih h. (whole r l z, h .0, ih (h .1))) (linesOf piece) r room
     (tidy-take (linesOf piece) (length (run m r (linesOf piece) room .answers)) (tidy-handed (cutIn piece) (cut-tidy piece)))
 
--- lines that a reader took
-module _ (r : Readback) (piece : List ℕ) (room : ℕ) where
-  abbrev f : Ran Readback Given
-  f = run reads r (linesOf piece) room
-
-  abbrev ws : List (List ℕ)
-  ws = take (length (f .answers)) (linesOf piece)
-
-  abbrev t : ℕ
-  t = length (bytesIn ws)
-
-  pub taken-front : take t piece ≡ bytesIn ws
-  taken-front = lines-front piece (length (f .answers))
-
-  pub taken-whole : Wholes ws
-  taken-whole = lines-whole reads (λ r l z. left (isWhole l) (stepOf r (bodyOf l) .good) (not-refused r l (eq-eqb (reads .refusal r l) success z))) r piece room
-
-  pub front-and-rest : (q : List ℕ) → piece ++ q ≡ bytesIn ws ++ (drop t piece ++ q)
-  front-and-rest q = ap (λ (l : List ℕ). l ++ q) (sym (take-append-drop t piece)) ∙ append-assoc (take t piece) (drop t piece) q ∙ ap (λ (l : List ℕ). l ++ (drop t piece ++ q)) taken-front
-
-  pub taken-long : length (f .answers) ≡ length ws
-  taken-long = sym (length-take-le (length (f .answers)) (linesOf piece) (within reads (linesOf piece) r room .0))
-
-  -- the lines of a piece and more are those taken, and then those of what was left and more
-  pub lines-both : (q : List ℕ) → linesOf (piece ++ q) ≡ ws ++ linesOf (drop t piece ++ q)
-  lines-both q = ap linesOf (front-and-rest q) ∙ lines-wholes ws (drop t piece ++ q) taken-whole
-
-  pub joins : (q : List ℕ) → run reads r (linesOf (piece ++ q)) room ≡ behind (f .answers) (run reads (f .next) (linesOf (drop t piece ++ q)) (room - length (written reads (f .answers))))
-  joins q =
-      let all = up-to reads (linesOf piece) r room in
-      let j = join reads (linesOf (drop t piece ++ q)) ws r room (ap (λ (f : Ran Readback Given). length (f .answers)) all ∙ taken-long) in
-      ap (λ (ls : List (List ℕ)). run reads r ls room) (lines-both q) ∙ j ∙ rw all
-
 -- what lines gave in front of what the rest says
 abbrev pub before : List Item → Reading → Reading
 before is k = reading (k .salvage) (is ++ k .items) (k .fault)
-
-pub reading-taken : (r : Readback) (lines : List (List ℕ)) (room : ℕ) (more : List (List ℕ)) → let f = run reads r lines room in
-    readingFrom r (take (length (f .answers)) lines ++ more) ≡ before (itemsAmong (f .answers)) (readingFrom (f .next) more)
-unfolding readingFrom
-reading-taken r lines room more =
-    over-taken reads (λ r ls answers next. readingFrom r (ls ++ more) ≡ before (itemsAmong answers) (readingFrom next more)) (λ r. refl)
-    (λ r l ls answers next z ih. rw (eq-eqb (reads .refusal r l) success z, ih, append-assoc)) lines r room

@@ -1,35 +1,16 @@
--- Calls of a reader of listings, one after the other, with whatever answers the promise permits.
+-- Calls of a reader of listings, one after the other, with whatever answers the promises permit.
 use Prim.Native.Nat.{ℕ, _*_}
-use mathlib.Core.List.{List, [], _∷_, _++_}
 use lib.IntN.{ℤ}
-use lib.ListN.{take}
-use Rattle.readback.specs.Promises.{ReadPromise}
+use Rattle.fold.specs.Pieces.{InPieces}
+use Rattle.readback.specs.Promises.{ReadPromise, RewritePromise}
 use Rattle.readback.specs.declared.Readback.{Readback}
 use Rattle.readback.specs.declared.Back.{Back}
+use Rattle.readback.specs.declared.Rewritten.{Rewritten}
 
--- a call of `read`: the piece of the listing, the lent slice before and after, and the answer
-pub record Call : Type 0 where
-  pub piece : List ℕ
-  pub before : List ℤ
-  pub answer : Back
-  pub after : List ℤ
+-- `read`: five numbers an item
+abbrev pub readCalls : InPieces Readback Back ℤ
+readCalls = record { Promise = ReadPromise; next = λ a. a .next; taken = λ a. a .taken; written = λ a. 5 * a .items }
 
--- each call has the reader that came back from the one before
-abbrev pub Permitted : Readback → List Call → Type 0
-Permitted r [] = Unit {0}
-Permitted r (k ∷ ks) = ReadPromise r (k .piece) (k .before) (k .answer) (k .after) × Permitted (k .answer .next) ks
-
--- the reader after them
-abbrev pub readerAfter : Readback → List Call → Readback
-readerAfter r [] = r
-readerAfter r (k ∷ ks) = readerAfter (k .answer .next) ks
-
--- the bytes of the listing that they took
-abbrev pub takenBy : List Call → List ℕ
-takenBy [] = []
-takenBy (k ∷ ks) = take (k .answer .taken) (k .piece) ++ takenBy ks
-
--- the numbers that they wrote
-abbrev pub writtenBy : List Call → List ℤ
-writtenBy [] = []
-writtenBy (k ∷ ks) = take (5 * k .answer .items) (k .after) ++ writtenBy ks
+-- `rewrite`
+abbrev pub rewriteCalls : InPieces Readback Rewritten ℕ
+rewriteCalls = record { Promise = RewritePromise; next = λ a. a .next; taken = λ a. a .taken; written = λ a. a .written }

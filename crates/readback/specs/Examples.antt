@@ -13,8 +13,7 @@ use Rattle.listing.specs.declared.Item.the-variants as item
 use Rattle.readback.specs.Fields.{valueIn, fieldIn, fieldsIn}
 use Rattle.readback.specs.Items.{droppedIn, reportIn, keptIn, badIn, itemIn, widthIn, salvageIn}
 use Rattle.readback.specs.Steps.{readback, fresh, stepOf, good}
-use Rattle.readback.specs.Pieces.{cutIn, linesOf}
-use Rattle.readback.specs.Rewriting.{rewrittenOf}
+use Rattle.readback.specs.Pieces.{cutIn, linesOf, piecesOf, callOf}
 use Rattle.readback.specs.Promises.{rewriteOf}
 use Rattle.readback.specs.Whole.{reading, readingFrom, readingOf}
 
@@ -107,7 +106,7 @@ five-digits = refl
 
 -- what small listings are rewritten to, with sixty places
 unfoldable pub rewriting-computes : Unit {0}
-unfolding computing rewriteOf rewrittenOf run linesOf good lineOf decimalOf digitsOf
+unfolding computing callOf piecesOf run linesOf good lineOf decimalOf digitsOf
 rewriting-computes = tt
 
 -- L 4/D 0002 1/H 0/ to L 6/D 000002 1/H 0/
@@ -121,12 +120,14 @@ unfolding rewriting-computes
 salvage-narrower = refl
 
 -- L 6/D 010000 1/ to L 4/, and 15 at line 2
-too-wide : let w = rewriteOf fresh (76 ∷ 9 ∷ 54 ∷ 10 ∷ 68 ∷ 9 ∷ 48 ∷ 49 ∷ 48 ∷ 48 ∷ 48 ∷ 48 ∷ 9 ∷ 49 ∷ 10 ∷ []) (replicate 60 0) .told in (w .refusal ∷ w .line ∷ w .written ∷ [] ≡ 15 ∷ 2 ∷ 4 ∷ [])
+too-wide : let w = rewriteOf fresh (76 ∷ 9 ∷ 54 ∷ 10 ∷ 68 ∷ 9 ∷ 48 ∷ 49 ∷ 48 ∷ 48 ∷ 48 ∷ 48 ∷ 9 ∷ 49 ∷ 10 ∷ []) (replicate 60 0) in
+    (w .refusal ∷ w .line ∷ w .count ∷ [] ≡ 15 ∷ 2 ∷ 4 ∷ [])
 unfolding rewriting-computes
 too-wide = refl
 
 -- L 6/D 010000 0/: it is faulty before it does not fit
-seven-first : let w = rewriteOf fresh (76 ∷ 9 ∷ 54 ∷ 10 ∷ 68 ∷ 9 ∷ 48 ∷ 49 ∷ 48 ∷ 48 ∷ 48 ∷ 48 ∷ 9 ∷ 48 ∷ 10 ∷ []) (replicate 60 0) .told in (w .refusal ∷ w .line ∷ w .written ∷ [] ≡ 7 ∷ 2 ∷ 4 ∷ [])
+seven-first : let w = rewriteOf fresh (76 ∷ 9 ∷ 54 ∷ 10 ∷ 68 ∷ 9 ∷ 48 ∷ 49 ∷ 48 ∷ 48 ∷ 48 ∷ 48 ∷ 9 ∷ 48 ∷ 10 ∷ []) (replicate 60 0) in
+    (w .refusal ∷ w .line ∷ w .count ∷ [] ≡ 7 ∷ 2 ∷ 4 ∷ [])
 unfolding rewriting-computes
 seven-first = refl
 

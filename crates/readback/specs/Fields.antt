@@ -9,7 +9,8 @@ use lib.Signed.{ltZ}
 use Rattle.text.specs.Decimals.{plain, numberIn}
 use Rattle.text.specs.declared.Number.{Number}
 use Rattle.text.specs.declared.Number.the-variants.{None, Is}
-use Rattle.listing.specs.Lines.{tab, lengthTo}
+use Rattle.text.specs.Lengths.{lengthTo}
+use Rattle.listing.specs.Lines.{tab}
 use Rattle.listing.specs.Scanning.{mostLines}
 use Rattle.readback.specs.declared.Kind.{Kind}
 use Rattle.readback.specs.declared.Kind.the-variants as kind

@@ -4,7 +4,8 @@ use mathlib.Core.Path.{_≡_}
 use mathlib.Core.Bool.{true}
 use mathlib.Core.List.{List}
 use lib.ListN.{length}
-use Rattle.listing.specs.Lines.{newline, lengthTo}
+use Rattle.text.specs.Lengths.{lengthTo}
+use Rattle.listing.specs.Lines.{newline}
 use Rattle.listing.specs.Scanning.{mostLines}
 use Rattle.readback.specs.Steps.{good}
 use Rattle.readback.specs.Pieces.{longest}

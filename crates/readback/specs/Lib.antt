@@ -1,6 +1,7 @@
--- Listings read back: the fields of a line (Fields), its item (Items), a line in its place (Steps), the lines of a piece (Pieces, Parts), what is promised
--- (Promises), calls one after the other (Calls, Rewrites), what the whole of a listing says (Whole) and what is written of it at the other width (Other), and
--- what is held of it between reads (Held), with examples.
+-- Listings read back: the fields of a line (Fields), its item (Items), a line in its place (Steps), the lines of a
+-- piece (Pieces, Parts), what is promised (Promises), calls one after the other (Calls), what the whole of a listing
+-- says (Whole) and what is written of it at the other width (Other), and what is held of it between reads (Held), with
+-- examples.
 pub mod Fields
 pub mod Items
 pub mod Steps
@@ -9,7 +10,6 @@ pub mod Rewriting
 pub mod Parts
 pub mod Promises
 pub mod Calls
-pub mod Rewrites
 pub mod Other
 pub mod Held
 pub mod Whole

@@ -9,7 +9,6 @@ use Rattle.listing.specs.declared.Item.{Item}
 use Rattle.readback.specs.Steps.{fresh}
 use Rattle.readback.specs.Pieces.{cutIn, reads}
 use Rattle.readback.specs.Rewriting.{fitsAt, givenFits, widthBehind, rewrites}
-use Rattle.readback.specs.Rewrites.{Rewrite}
 use Rattle.readback.specs.declared.Readback.{Readback}
 
 -- its lines at the other width, up to the first that is faulty or whose number does not fit: "what stood before it is written"
@@ -28,8 +27,3 @@ Fits w (i ∷ is) = (fitsAt w i ≡ true) × Fits w is
 -- a line that is read without a fault, and whose number does not fit the other width
 abbrev pub TooWide : Readback → List ℕ → Type 0
 TooWide r l = (reads .refusal r l ≡ success) × (givenFits (widthBehind r l) (reads .answer r l) ≡ false)
-
--- the reader after calls
-abbrev pub rewriterAfter : Readback → List Rewrite → Readback
-rewriterAfter r [] = r
-rewriterAfter r (k ∷ ks) = rewriterAfter (k .answer .next) ks

@@ -1,19 +1,20 @@
--- The lines of a piece of a listing, one after the other: a machine over lines.
-use Prim.Native.Nat.{ℕ, _+_}
+-- The lines of a piece of a listing, one after the other: a machine over lines, and a call of it.
+use Prim.Native.Nat.{ℕ, _+_, _*_}
 use mathlib.Core.Bool.{Bool, not, cond, _&&_}
 use mathlib.Core.List.{List, [], _∷_, _++_}
 use lib.Dec.{ltb, leb, eqb}
 use lib.IntN.{ℤ}
 use lib.ListN.{length, take, drop}
 use Rattle.fold.specs.Fold.{MachineOver, Ran, written, run}
-use Rattle.wire.specs.Numbers.{success}
-use Rattle.listing.specs.Lines.{newline, lengthTo, front}
+use Rattle.wire.specs.Numbers.{success, badState}
+use Rattle.text.specs.Lengths.{lengthTo}
+use Rattle.listing.specs.Lines.{newline, front}
 use Rattle.listing.specs.Scanning.{width}
 use Rattle.listing.specs.Items.{itemsIn}
 use Rattle.listing.specs.declared.Item.{Item}
 use Rattle.listing.specs.declared.Given.{Given}
 use Rattle.readback.specs.Items.{allNumbers}
-use Rattle.readback.specs.Steps.{stepOf}
+use Rattle.readback.specs.Steps.{stepOf, good}
 use Rattle.readback.specs.declared.Readback.{Readback}
 use Rattle.readback.specs.declared.Back.{Back}
 
@@ -68,31 +69,64 @@ abbrev pub itemsAmong : List Given → List Item
 itemsAmong [] = []
 itemsAmong (g ∷ gs) = itemsIn g ++ itemsAmong gs
 
-abbrev pub back : ℕ → Readback → ℕ → ℕ → ℕ → Back
-back refusal next taken items line = record { refusal = refusal; next = next; taken = taken; items = items; line = line }
-
 -- a fault is told by its line: the one behind those that have passed
 abbrev pub faultAt : ℕ → Readback → ℕ
 faultAt refusal r = cond (eqb refusal success) 0 (r .lines + 1)
 
--- what a call gives back, and every number of the lent slice after it
-pub record Whole : Type 0 where
-  pub back : Back
-  pub out : List ℤ
-
-abbrev pub whole : Back → List ℤ → Whole
-whole back out = record { back = back; out = out }
+-- what a call gives back, a number, the reader, the bytes taken, a count and the line of a fault; and every place of
+-- the lent slice after it
+pub record Whole (X : Type 0) : Type 0 where
+  pub refusal : ℕ
+  pub next : Readback
+  pub taken : ℕ
+  pub count : ℕ
+  pub line : ℕ
+  pub out : List X
 
 -- the same without its fault: no number, and no line
-abbrev pub faultless : Whole → Whole
-faultless w = whole (back success (w .back .next) (w .back .taken) (w .back .items) 0) (w .out)
+abbrev pub faultless : {X : Type 0} → Whole X → Whole X
+faultless w = record { refusal = success; next = w .next; taken = w .taken; count = w .count; line = 0; out = w .out }
 
--- the lines taken: their bytes, their items at the front of the slice, and a fault behind them
-abbrev pub counted : Ran Readback Given → List (List ℕ) → List ℤ → Whole
-counted f lines out =
-    whole (back (f .refusal) (f .next) (length (bytesIn (take (length (f .answers)) lines))) (length (itemsAmong (f .answers))) (faultAt (f .refusal) (f .next)))
-    (written reads (f .answers) ++ drop (length (written reads (f .answers))) out)
+-- it ends here, with a number: no more is taken, and nothing more written
+abbrev pub stopped : {X : Type 0} → ℕ → Readback → List X → Whole X
+stopped n r out = record { refusal = n; next = r; taken = 0; count = 0; line = 0; out = out }
 
--- "it stops before an item there is no room for and tells the bytes taken"
-unfoldable pub piecesOf : Readback → List ℕ → List ℤ → Whole
-piecesOf r piece out = counted (run reads r (linesOf piece) (length out)) (linesOf piece) out
+-- a call over lines: a machine, what it counts of its answers, and the places that so many fill
+pub record OverLines (A X : Type 0) : Type 0 where
+  pub machine : MachineOver (List ℕ) Readback A X
+  pub count : List A → ℕ
+  pub places : ℕ → ℕ
+
+module _ {A X : Type 0} (c : OverLines A X) where
+  -- the lines taken: their bytes, what they write at the front of the slice, and a fault behind them
+  abbrev pub counted : Ran Readback A → List (List ℕ) → List X → Whole X
+  counted f lines out =
+      let text = written (c .machine) (f .answers) in
+      record {
+        refusal = f .refusal;
+        next = f .next;
+        taken = length (bytesIn (take (length (f .answers)) lines));
+        count = c .count (f .answers);
+        line = faultAt (f .refusal) (f .next);
+        out = text ++ drop (length text) out;
+      }
+
+  -- "it stops before an item there is no room for and tells the bytes taken"; "what stood before it is written, as at a
+  -- bad word of a long read"
+  unfoldable pub piecesOf : Readback → List ℕ → List X → Whole X
+  piecesOf r piece out = counted (run (c .machine) r (linesOf piece) (length out)) (linesOf piece) out
+
+  -- "a state that breaks the rules below", 6, before all: "A refusal returns the old state [..] and counts of 0", and
+  -- the slice is as it was
+  unfoldable pub callOf : Readback → List ℕ → List X → Whole X
+  callOf r piece out = cond (good r) (piecesOf r piece out) (stopped badState r out)
+
+-- `read`: the items of lines, each of five numbers
+abbrev pub readLines : OverLines Given ℤ
+readLines = record { machine = reads; count = λ gs. length (itemsAmong gs); places = λ n. 5 * n }
+
+abbrev pub back : ℕ → Readback → ℕ → ℕ → ℕ → Back
+back refusal next taken items line = record { refusal = refusal; next = next; taken = taken; items = items; line = line }
+
+abbrev pub whole : Back → List ℤ → Whole ℤ
+whole b out = record { refusal = b .refusal; next = b .next; taken = b .taken; count = b .items; line = b .line; out = out }

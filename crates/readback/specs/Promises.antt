@@ -7,8 +7,8 @@ use lib.Dec.{eqb}
 use lib.IntN.{ℤ}
 use Rattle.wire.specs.Numbers.{success, badState}
 use Rattle.readback.specs.Steps.{fresh, good}
-use Rattle.readback.specs.Pieces.{faultyLine, back, Whole, whole, piecesOf}
-use Rattle.readback.specs.Rewriting.{Rewriting, rewriting, rewritten, rewrittenOf}
+use Rattle.readback.specs.Pieces.{faultyLine, back, Whole, whole, readLines, callOf}
+use Rattle.readback.specs.Rewriting.{rewriting, rewriteLines}
 use Rattle.readback.specs.declared.Readback.{Readback}
 use Rattle.readback.specs.declared.Rewritten.{Rewritten}
 use Rattle.readback.specs.declared.Back.{Back}
@@ -22,8 +22,8 @@ abbrev pub FreshPromise : Readback → Type 0
 FreshPromise answer = answer ≡ fresh
 
 -- `Readback::read(self, input, out)`
-unfoldable pub readOf : Readback → List ℕ → List ℤ → Whole
-readOf r input out = cond (good r) (piecesOf r input out) (whole (refused r) out)
+abbrev pub readOf : Readback → List ℕ → List ℤ → Whole ℤ
+readOf = callOf readLines
 
 abbrev pub ReadPromise : Readback → List ℕ → List ℤ → Back → List ℤ → Type 0
 ReadPromise r input before answer after = whole answer after ≡ readOf r input before
@@ -37,8 +37,8 @@ abbrev pub FinishPromise : Readback → ℕ → Back → Type 0
 FinishPromise r left answer = answer ≡ finishOf r left
 
 -- `Readback::rewrite(self, input, out)`
-unfoldable pub rewriteOf : Readback → List ℕ → List ℕ → Rewriting
-rewriteOf r input out = cond (good r) (rewrittenOf r input out) (rewriting (rewritten badState r 0 0 0) out)
+abbrev pub rewriteOf : Readback → List ℕ → List ℕ → Whole ℕ
+rewriteOf = callOf rewriteLines
 
 abbrev pub RewritePromise : Readback → List ℕ → List ℕ → Rewritten → List ℕ → Type 0
 RewritePromise r input before answer after = rewriting answer after ≡ rewriteOf r input before

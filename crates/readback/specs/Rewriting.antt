@@ -1,10 +1,10 @@
 -- A listing rewritten at the other width, line by line: "A listing rewritten at the other width shows the same items."
 use Prim.Native.Nat.{ℕ}
 use mathlib.Core.Bool.{Bool, true, cond}
-use mathlib.Core.List.{List, _++_}
+use mathlib.Core.List.{List}
 use lib.Dec.{leb, eqb}
-use lib.ListN.{length, take, drop}
-use Rattle.fold.specs.Fold.{MachineOver, Ran, written, run}
+use lib.ListN.{length}
+use Rattle.fold.specs.Fold.{MachineOver, written}
 use Rattle.wire.specs.Numbers.{success}
 use Rattle.listing.specs.Scanning.{mostAt, width}
 use Rattle.listing.specs.Printing.{lineAt}
@@ -13,7 +13,7 @@ use Rattle.listing.specs.declared.Item.the-variants as item
 use Rattle.listing.specs.declared.Given.{Given}
 use Rattle.listing.specs.declared.Given.the-variants.{Nothing, One}
 use Rattle.readback.specs.Steps.{oldWidth}
-use Rattle.readback.specs.Pieces.{faultyLine, reads, bytesIn, linesOf, faultAt}
+use Rattle.readback.specs.Pieces.{faultyLine, reads, Whole, OverLines}
 use Rattle.readback.specs.declared.Readback.{Readback}
 use Rattle.readback.specs.declared.Rewritten.{Rewritten}
 
@@ -52,28 +52,12 @@ rewrites =
       writes = λ text. text;
     }
 
--- what a call gives back, and every byte of the lent slice after it
-pub record Rewriting : Type 0 where
-  pub told : Rewritten
-  pub out : List ℕ
-
-abbrev pub rewriting : Rewritten → List ℕ → Rewriting
-rewriting told out = record { told = told; out = out }
+-- `rewrite`: the lines at the other width, byte by byte
+abbrev pub rewriteLines : OverLines (List ℕ) ℕ
+rewriteLines = record { machine = rewrites; count = λ texts. length (written rewrites texts); places = λ n. n }
 
 abbrev pub rewritten : ℕ → Readback → ℕ → ℕ → ℕ → Rewritten
 rewritten refusal next taken count line = record { refusal = refusal; next = next; taken = taken; written = count; line = line }
 
--- the same without its fault: no number, and no line
-abbrev pub faultless : Rewriting → Rewriting
-faultless w = rewriting (rewritten success (w .told .next) (w .told .taken) (w .told .written) 0) (w .out)
-
--- the lines taken: their bytes, those written at the front of the slice, and a fault behind them
-abbrev pub counted : Ran Readback (List ℕ) → List (List ℕ) → List ℕ → Rewriting
-counted f lines out =
-    let text = written rewrites (f .answers) in
-    rewriting (rewritten (f .refusal) (f .next) (length (bytesIn (take (length (f .answers)) lines))) (length text) (faultAt (f .refusal) (f .next)))
-    (text ++ drop (length text) out)
-
--- "what stood before it is written, as at a bad word of a long read"
-unfoldable pub rewrittenOf : Readback → List ℕ → List ℕ → Rewriting
-rewrittenOf r piece out = counted (run rewrites r (linesOf piece) (length out)) (linesOf piece) out
+abbrev pub rewriting : Rewritten → List ℕ → Whole ℕ
+rewriting t out = record { refusal = t .refusal; next = t .next; taken = t .taken; count = t .written; line = t .line; out = out }

@@ -2,7 +2,6 @@
 ghost use mathlib.Core.Path.{_≡_};
 ghost use Prim.Native.Nat.{_+_};
 ghost use lib.ListN.{drop};
-ghost use Rattle.listing.specs.Lines.{lengthTo};
 ghost use Rattle.readback.specs.Fields.{none, within, lineIn, counts, threeOf, pressedIn, overIn, valueIn, took, fieldIn};
 use crate::Kind;
 use crate::Took;
@@ -19,20 +18,6 @@ const LOW: i64 = -32_768;
 
 // The width of numbers that have no leading zeros.
 const PLAIN: usize = 1;
-
-// The bytes in front of the first that is this one, or all where none is.
-pub(crate) fn length_to(bytes: &[u8], stop: u8) -> usize
-    ensures { λ r. ⌜ r ≡ lengthTo stop (now (bytes .entry)) ⌝ }
-{
-    let mut i: usize = 0;
-    while i < bytes.len() {
-        if bytes[i] == stop {
-            return i;
-        }
-        i = i + 1;
-    }
-    i
-}
 
 // No field of the kind.
 fn none() -> Value
@@ -131,7 +116,7 @@ pub(crate) fn field(kind: Kind, width: usize, line: &[u8], at: usize) -> Took
     if at < line.len() {
         if line[at] == b'\t' {
             let start = at + 1;
-            let end = start + length_to(&line[start..], b'\t');
+            let end = start + text::length_to(&line[start..], b'\t');
             let v = value(kind, width, &line[start..end]);
             return Took {
                 good: v.good,

@@ -6,12 +6,11 @@ ghost use Prim.Native.Nat.{_<_, _≤_};
 ghost use lib.ListN.{length, drop};
 ghost use Rattle.readback.specs.Items.{Small, numbersOf};
 ghost use Rattle.readback.specs.Steps.{good};
-ghost use Rattle.readback.specs.Pieces.{back, whole, piecesOf};
+ghost use Rattle.readback.specs.Pieces.{back, whole, readLines, piecesOf};
 ghost use Rattle.readback.specs.Parts.{Begins};
 ghost use Rattle.readback.specs.Promises.{FreshPromise, ReadPromise, FinishPromise};
 use crate::Back;
 use crate::Readback;
-use crate::fields::length_to;
 use crate::items::numbers;
 use listing::Given;
 use listing::Item;
@@ -91,7 +90,7 @@ impl Readback {
         requires { ⌜ (good self ≡ true) × (0 < length (now input)) ⌝ }
         ensures { λ r. ⌜ Begins self (now (input .entry)) (now (out .entry)) r (now (out .exit)) ⌝ }
     {
-        let n = length_to(input, b'\n');
+        let n = text::length_to(input, b'\n');
         if n == input.len() {
             if n <= LONGEST {
                 return back(0, self, 0, 0, 0);
@@ -119,7 +118,7 @@ impl Readback {
     // The lines, one after the other.
     fn lines(self, input: &[u8], out: &mut [i32]) -> Back
         requires { ⌜ good self ≡ true ⌝ }
-        ensures { λ r. ⌜ whole r (now (out .exit)) ≡ piecesOf self (now (input .entry)) (now (out .entry)) ⌝ }
+        ensures { λ r. ⌜ whole r (now (out .exit)) ≡ piecesOf readLines self (now (input .entry)) (now (out .entry)) ⌝ }
     {
         let mut r = self;
         let mut at: usize = 0;

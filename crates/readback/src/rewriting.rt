@@ -5,12 +5,12 @@ ghost use Prim.Native.Nat.{_<_};
 ghost use lib.ListN.{length};
 ghost use Rattle.listing.specs.Scanning.{mostAt};
 ghost use Rattle.readback.specs.Steps.{widthKnown, good};
-ghost use Rattle.readback.specs.Rewriting.{otherWidth, fitsAt, givenFits, rewriting, rewritten, rewrittenOf};
+ghost use Rattle.readback.specs.Rewriting.{otherWidth, fitsAt, givenFits, rewriting, rewritten, rewriteLines};
+ghost use Rattle.readback.specs.Pieces.{piecesOf};
 ghost use Rattle.readback.specs.Parts.{Rewrites};
 ghost use Rattle.readback.specs.Promises.{RewritePromise};
 use crate::Readback;
 use crate::Rewritten;
-use crate::fields::length_to;
 use crate::pieces::LONGEST;
 use listing::Given;
 use listing::Item;
@@ -84,7 +84,7 @@ impl Readback {
         requires { ⌜ (good self ≡ true) × (0 < length (now input)) ⌝ }
         ensures { λ r. ⌜ Rewrites self (now (input .entry)) (now (out .entry)) r (now (out .exit)) ⌝ }
     {
-        let n = length_to(input, b'\n');
+        let n = text::length_to(input, b'\n');
         if n == input.len() {
             if n <= LONGEST {
                 return rewritten(0, self, 0, 0, 0);
@@ -111,7 +111,7 @@ impl Readback {
     // The lines, one after the other.
     fn rewrite_lines(self, input: &[u8], out: &mut [u8]) -> Rewritten
         requires { ⌜ good self ≡ true ⌝ }
-        ensures { λ r. ⌜ rewriting r (now (out .exit)) ≡ rewrittenOf self (now (input .entry)) (now (out .entry)) ⌝ }
+        ensures { λ r. ⌜ rewriting r (now (out .exit)) ≡ piecesOf rewriteLines self (now (input .entry)) (now (out .entry)) ⌝ }
     {
         let mut r = self;
         let mut at: usize = 0;

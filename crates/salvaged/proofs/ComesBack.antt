@@ -8,6 +8,7 @@ use lib.IntN.{ℤ}
 use lib.ListN.{length, take, drop}
 use lib.Seq.{take-at}
 use Rattle.frames.specs.Words.{isByte}
+use Rattle.fold.specs.Pieces.{Call, Permitted, after, takenBy, writtenBy}
 use Rattle.wire.specs.Line.{sizeBy}
 use Rattle.wire.specs.Numbers.{success}
 use Rattle.choosing.specs.Pieces as piece
@@ -25,7 +26,7 @@ use Rattle.listing.proofs.Ordered.{Ordered}
 use Rattle.readback.specs.Items.{allNumbers}
 use Rattle.readback.specs.Steps.{fresh}
 use Rattle.readback.specs.Promises.{ReadPromise, FinishPromise}
-use Rattle.readback.specs.Calls.{Call, Permitted, readerAfter, takenBy, writtenBy}
+use Rattle.readback.specs.Calls.{readCalls}
 use Rattle.readback.specs.Whole.{reading, readingOf, printed}
 use Rattle.readback.specs.declared.Back.{Back}
 use Rattle.readback.proofs.AsItWas.{printed-read, ordered-listed}
@@ -118,20 +119,20 @@ as-it-was input =
     ∙ printed-read true 5 (itemsOf (logOf input)) refl (ordered-listed width (λ n h. (omega (arith, h), omega (arith, h))) (itemsOf (logOf input)) 0 (ordered input))
 
 -- THROUGH BOTH: whatever is written of a salvage, all of it, in whatever calls of the reader
-module _ (input before : List ℕ) (s : Salvaged) (after : List ℕ) (p : ListPromise input before s after) (all : s .whole ≡ true) where
+module _ (input before : List ℕ) (s : Salvaged) (out : List ℕ) (p : ListPromise input before s out) (all : s .whole ≡ true) where
   abbrev text : List ℕ
-  text = take (s .written) after
+  text = take (s .written) out
 
   says : readingOf text ≡ reading true (itemsOf (logOf input)) 0
   says =
-      let t = all-there input before s after p all in
+      let t = all-there input before s out p all in
       ap readingOf (ap (λ (l : List ℕ). take (s .written) l) (t .text) ∙ take-at (salvageOf input) (drop (length (salvageOf input)) before) (s .written) (sym (t .long))) ∙ as-it-was input
 
   -- comes back as the numbers of its items, without a fault, as a salvage's; and no call is refused
-  pub comes-back : (ks : List Call) (a : Back) → Permitted fresh ks → takenBy ks ≡ text → FinishPromise (readerAfter fresh ks) 0 a
-      → (writtenBy ks ≡ allNumbers (itemsOf (logOf input))) × (a .line ≡ 0) × (readerAfter fresh ks .salvage ≡ true)
+  pub comes-back : (ks : List (Call Back ℤ)) (a : Back) → Permitted readCalls fresh ks → takenBy readCalls ks ≡ text → FinishPromise (after readCalls fresh ks) 0 a
+      → (writtenBy readCalls ks ≡ allNumbers (itemsOf (logOf input))) × (a .line ≡ 0) × (after readCalls fresh ks .salvage ≡ true)
   comes-back = all-back text true (itemsOf (logOf input)) says
 
-  pub none-refused : (ks : List Call) (piece rest : List ℕ) (out left : List ℤ) (a : Back) → Permitted fresh ks → ReadPromise (readerAfter fresh ks) piece out a left
-      → takenBy ks ++ (piece ++ rest) ≡ text → a .refusal ≡ success
+  pub none-refused : (ks : List (Call Back ℤ)) (piece rest : List ℕ) (room left : List ℤ) (a : Back) → Permitted readCalls fresh ks → ReadPromise (after readCalls fresh ks) piece room a left
+      → takenBy readCalls ks ++ (piece ++ rest) ≡ text → a .refusal ≡ success
   none-refused = all-taken text true (itemsOf (logOf input)) says

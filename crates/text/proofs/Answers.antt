@@ -6,7 +6,7 @@ use mathlib.Core.List.{List}
 use lib.IntN.{ℤ}
 use Rattle.text.specs.Growth.{slice}
 use Rattle.text.proofs.Laws.{put-none}
-use Rattle.text.specs.Promises.{NonePromise, WithPromise, DecimalPromise, NumberPromise, PutPromise, ByteToPromise, BytesToPromise, DecimalToPromise}
+use Rattle.text.specs.Promises.{NonePromise, WithPromise, DecimalPromise, NumberPromise, PutPromise, ByteToPromise, BytesToPromise, DecimalToPromise, LengthToPromise}
 use Rattle.text.specs.declared.Number.{Number}
 use Rattle.text.specs.declared.Text.{Text}
 
@@ -44,3 +44,6 @@ one-bytes-to before at bytes p q = same-slice (p ∙ sym q)
 pub one-decimal-to : (before : List ℕ) (at width : ℕ) (x : ℤ) {a b : ℕ} {left right : List ℕ} → DecimalToPromise before at width x a left
     → DecimalToPromise before at width x b right → (a ≡ b) × (left ≡ right)
 one-decimal-to before at width x p q = same-slice (p ∙ sym q)
+
+pub one-length-to : (bytes : List ℕ) (stop : ℕ) {a b : ℕ} → LengthToPromise bytes stop a → LengthToPromise bytes stop b → a ≡ b
+one-length-to bytes stop p q = p ∙ sym q

@@ -6,6 +6,7 @@ use mathlib.Core.List.{List}
 use lib.IntN.{ℤ}
 use Rattle.text.specs.Growth.{none, grown, grownBy, slice, filled, filledBy, fitsAt, putOf}
 use Rattle.text.specs.Decimals.{decimalOf, numberIn}
+use Rattle.text.specs.Lengths.{lengthTo}
 use Rattle.text.specs.declared.Number.{Number}
 use Rattle.text.specs.declared.Text.{Text}
 
@@ -40,3 +41,7 @@ BytesToPromise before at bytes r after = slice after r ≡ filledBy (slice befor
 -- `Text::decimal_to(out, at, width, x)`: the decimal of a number to a slice, and the place behind it
 abbrev pub DecimalToPromise : List ℕ → ℕ → ℕ → ℤ → ℕ → List ℕ → Type 0
 DecimalToPromise before at width x r after = slice after r ≡ filledBy (slice before at) (decimalOf width x)
+
+-- `length_to(bytes, stop)`: the bytes in front of the first that is this one, or all where none is
+abbrev pub LengthToPromise : List ℕ → ℕ → ℕ → Type 0
+LengthToPromise bytes stop r = r ≡ lengthTo stop bytes

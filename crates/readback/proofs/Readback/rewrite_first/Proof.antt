@@ -6,12 +6,13 @@ use native.Mathlib.Omega.{arith}
 use lib.ListN.{length, take}
 use lib.Seq.{length-take-le}
 use borrow.Author.Tests.{not-true, not-false}
-use Rattle.listing.specs.Lines.{newline, lengthTo}
+use Rattle.text.specs.Lengths.{lengthTo}
+use Rattle.text.proofs.Lengths.{to-within}
+use Rattle.listing.specs.Lines.{newline}
 use Rattle.listing.specs.Printing.{lineAt}
 use Rattle.text.specs.Growth.{textOf}
 use Rattle.readback.specs.Steps.{stepOf}
 use Rattle.readback.specs.Rewriting.{otherWidth, givenFits, rewrites}
-use Rattle.readback.proofs.Values.{to-within}
 use Rattle.readback.proofs.Goodness.{few-lines}
 use Rattle.readback.proofs.Loop.{cut-stop, long-stop, faulty-stop}
 use Rattle.readback.proofs.Rewrites.{other-known, rewriting-follows, wide-stop, short-stop, text-taken}

@@ -7,8 +7,10 @@ use lib.ListN.{length, drop, length-drop}
 use mir.Syntax.{w64}
 use mir.Val.{toZ, ofZ}
 use Rattle.fold.proofs.Parts.{rest-is}
-use Rattle.listing.specs.Lines.{tab, lengthTo}
-use Rattle.readback.proofs.Values.{to-within, no-field, no-tab, a-field}
+use Rattle.text.specs.Lengths.{lengthTo}
+use Rattle.text.proofs.Lengths.{to-within}
+use Rattle.listing.specs.Lines.{tab}
+use Rattle.readback.proofs.Values.{no-field, no-tab, a-field}
 use Rattle.readback.proofs.fields.field.Statement.{statement}
 use Rattle.readback.proofs.fields.field.Tie as tie
 

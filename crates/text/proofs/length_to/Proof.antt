@@ -4,10 +4,10 @@ use mathlib.Core.Path.{_≡_}
 use native.Mathlib.Omega.{arith}
 use native.Mathlib.Nat.{zero-add}
 use lib.ListN.{length, drop}
-use Rattle.listing.specs.Lines.{lengthTo}
-use Rattle.driver.proofs.Reading.{found, further, at-end}
-use Rattle.driver.proofs.lines.length_to.Statement.{statement}
-use Rattle.driver.proofs.lines.length_to.Tie as tie
+use Rattle.text.specs.Lengths.{lengthTo}
+use Rattle.text.proofs.Lengths.{found, further, at-end}
+use Rattle.text.proofs.length_to.Statement.{statement}
+use Rattle.text.proofs.length_to.Tie as tie
 
 abbrev Inv-loop : tie.InvT-loop
 Inv-loop bytes stop i₀ i = (i ≤ length bytes) × (i + lengthTo stop (drop i bytes) ≡ lengthTo stop bytes)
