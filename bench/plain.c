@@ -1,80 +1,8 @@
-/* Reader, encoder, box and lister in plain C99, written from the paper and its change requests 1, 3, 5, 6, 13 and 14, as a C programmer would write them. */
-#include "plain.h"
+/* Reader, encoder, box and lister in plain C99, written from the paper and its change requests 1, 3, 5, 6, 13 and 14,
+ * as a C programmer would write them. */
+#include "formats.h"
+#include "text.h"
 #include <string.h>
-
-/* What goes by the letter of a format is inlined, so that plain_read, which calls it with constants, has a loop for each format. */
-#define INLINE static inline __attribute__((always_inline))
-
-/* ---- Formats */
-
-INLINE unsigned size_of(uint8_t letter) {
-    switch (letter) {
-    case 'S': case 'V': case 'T': return 3;
-    case 'A': case 'B': case 'U': case 'W': return 5;
-    default: return 0;
-    }
-}
-
-INLINE int is_marked(uint8_t letter) { return letter == 'S' || letter == 'V' || letter == 'A' || letter == 'B'; }
-
-static int odd(uint8_t byte) { return __builtin_parity(byte); }
-
-static int digit(uint8_t c) { return c >= '0' && c <= '9' ? c - '0' : c >= 'A' && c <= 'F' ? c - 'A' + 10 : -1; }
-
-/* May this byte stand at this place? */
-INLINE int fits(uint8_t letter, unsigned place, uint8_t byte) {
-    switch (letter) {
-    case 'S': return place == 0 ? (byte & 0xE0) == 0x80 : byte < 0x80;
-    case 'V': return (byte & 0xC0) == (place == 0 ? 0x40 : 0);
-    case 'A':
-    case 'B': return (place == 0 ? (byte & 0x63) == 0x40 : (byte & 0x40) == 0) && !odd(byte);
-    case 'U': return place > 0 || (byte & 0xF8) == 0x80;
-    case 'T': return place > 0 || byte < 8;
-    case 'W': return place > 0 ? digit(byte) >= 0 : byte >= '0' && byte <= '7';
-    default: return 0;
-    }
-}
-
-/* A number of so many bits, two's complement. */
-static int16_t signed_of(unsigned value, unsigned bits) { return (int16_t)(value >> (bits - 1) ? (int)value - (1 << bits) : (int)value); }
-
-/* The five numbers of a report: buttons, x1, y1, x2, y2. */
-INLINE void decode(uint8_t letter, const uint8_t *b, int16_t *out) {
-    out[3] = out[4] = 0;
-    switch (letter) {
-    case 'S':
-        out[0] = b[0] & 7;
-        out[1] = b[0] & 16 ? b[1] : -b[1];
-        out[2] = b[0] & 8 ? b[2] : -b[2];
-        break;
-    case 'V':
-        out[0] = (b[0] >> 3 & 4) | (b[0] >> 4 & 1);
-        out[1] = signed_of((b[0] & 3u) << 6 | b[1], 8);
-        out[2] = -signed_of((b[0] & 12u) << 4 | b[2], 8);
-        break;
-    case 'A':
-    case 'B': {
-        unsigned x = (b[2] & 63u) << 6 | (b[1] & 63u), y = (b[4] & 63u) << 6 | (b[3] & 63u);
-        out[0] = b[0] >> 2 & 7;
-        out[1] = letter == 'A' ? (int16_t)x : signed_of(x, 12);
-        out[2] = letter == 'A' ? (int16_t)y : signed_of(y, 12);
-        break;
-    }
-    case 'U':
-        out[0] = ~b[0] & 7;
-        for (int i = 1; i < 5; i++) out[i] = signed_of(b[i], 8);
-        break;
-    case 'T':
-        out[0] = b[0];
-        out[1] = signed_of(b[1], 8), out[2] = signed_of(b[2], 8);
-        break;
-    case 'W':
-        out[0] = b[0] - '0';
-        out[1] = signed_of((unsigned)(digit(b[2]) << 4 | digit(b[1])), 8);
-        out[2] = signed_of((unsigned)(digit(b[4]) << 4 | digit(b[3])), 8);
-        break;
-    }
-}
 
 /* ---- The encoder */
 
@@ -134,13 +62,6 @@ uint8_t plain_encode(uint8_t letter, const istrolf_report *p, uint8_t *buffer, s
 }
 
 /* ---- The reader */
-
-INLINE int good_reader(uint8_t letter, const istrolf_reader *r) {
-    if (r->count >= size_of(letter) || r->awaiting > (r->count == 0 && !is_marked(letter))) return 0;
-    for (unsigned i = 0; i < 5; i++)
-        if (i < r->count ? !fits(letter, i, r->kept[i]) : r->kept[i] != 0) return 0;
-    return 1;
-}
 
 /* The words of a line to a reader of this format. */
 INLINE uint8_t read_in(uint8_t letter, istrolf_reader *r, const uint16_t *words, size_t count, int16_t *out, size_t room, plain_counts *counts) {
@@ -398,18 +319,6 @@ static uint8_t *put_text(uint8_t *to, const char *text) {
     return to;
 }
 
-/* A decimal of so many digits at least. */
-static uint8_t *put_number(uint8_t *to, int number, int width) {
-    uint8_t digits[12];
-    int count = 0;
-    unsigned left = number < 0 ? 0u - (unsigned)number : (unsigned)number;
-    if (number < 0) *to++ = '-';
-    do digits[count++] = (uint8_t)('0' + left % 10);
-    while ((left /= 10) > 0 || count < width);
-    while (count > 0) *to++ = digits[--count];
-    return to;
-}
-
 static uint8_t *put_line(uint8_t *to, const char *letter, uint32_t line) { return put_number(put_text(to, letter), (int)line, 6); }
 
 static uint8_t *put_report(uint8_t *to, uint8_t format, uint32_t line, const int16_t *p) {
@@ -421,22 +330,10 @@ static uint8_t *put_report(uint8_t *to, uint8_t format, uint32_t line, const int
     return put_text(put_number(put_text(to, "\t"), p[2] + p[4], 1), "\n");
 }
 
-/* The word of a line, or -1. */
-static int word_on(const uint8_t *line, size_t length) {
-    int byte = 0;
-    if (length == 1) return line[0] == 'X' ? ISTROLF_BREAK : line[0] == 'Q' ? ISTROLF_SILENCE : -1;
-    if (length < 3 || line[0] != 'B' || line[1] != '\t' || (line[2] == '0' && length > 3)) return -1;
-    for (size_t i = 2; i < length; i++) {
-        if (line[i] < '0' || line[i] > '9') return -1;
-        byte = 10 * byte + (line[i] - '0');
-    }
-    return byte < 256 ? byte : -1;
-}
-
 /* A whole line, of which five bytes are held at most, and its text. */
 static uint8_t *take_line(istrolf_lister *m, uint8_t *to) {
     size_t length = m->count;
-    int word = length <= 5 ? word_on(m->held, length) : -1;
+    int word = word_on(m->held, length);
     m->count = 0;
     if (m->line == MOST_LINES) {
         m->ended = 1;
