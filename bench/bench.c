@@ -21,7 +21,7 @@ void __attribute__((noinline)) mark(void) { kept = 0; }
 
 static double best(run *f) {
     double least = 1e9;
-    for (int turn = 0; turn < 9; turn++) {
+    for (int turn = 0; turn < 7; turn++) {
         int runs = 0;
         clock_t start = clock(), time;
         do kept = f(WORDS), runs++;

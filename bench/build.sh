@@ -47,18 +47,20 @@ build_bench() {
 # can_count: whether instructions can be counted here
 can_count() { [ -z "$emulator" ] && valgrind --tool=callgrind --help > /dev/null 2>&1; }
 
-# counts PROGRAM WORD ..: each stream's name with its instructions a word; the dumps stand in the order of the calls of
-# mark, three for a stream
+# counts NAME PROGRAM WORD ..: each stream's name with its instructions a word, to the file NAME; the dumps stand in the
+# order of the calls of mark, three for a stream
 counts() {
-    rm -rf "$built/dumps" && mkdir -p "$built/dumps" || return
-    valgrind -q --tool=callgrind "--callgrind-out-file=$built/dumps/out" --dump-after=mark \
-        "$tools/lib/ld-linux-x86-64.so.2" --library-path "$tools/lib" "$@" > "$built/names" || return
-    awk -F '\t' -v out="$built/dumps/out." '{
+    to=$built/$1
+    shift
+    rm -rf "$to" "$to.dumps" && mkdir -p "$to.dumps" || return
+    valgrind -q --tool=callgrind "--callgrind-out-file=$to.dumps/out" --dump-after=mark \
+        "$tools/lib/ld-linux-x86-64.so.2" --library-path "$tools/lib" "$@" > "$to.names" || return
+    awk -F '\t' -v out="$to.dumps/out." '{
         for (i = 1; i <= 3; i++) {
             file = out (++n)
             while ((getline line < file) > 0) if (line ~ /^totals:/) { split(line, part, " "); total[i] = part[2] }
             close(file)
         }
         printf "%s\t%s\t%s\t%.2f\n", $1, $2, $3, (total[3] - total[2]) / $4
-    }' "$built/names"
+    }' "$to.names" > "$to.counts" && mv "$to.counts" "$to"
 }

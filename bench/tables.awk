@@ -1,10 +1,11 @@
 # The results of bench/run as tables: a line is count or time, who, part, stream, format and a number. Who is ours, or a
-# compiler of plain C with its optimisation. Of ours the least counts, and of C the least of all compilers, which the
-# row names. A part may lack its counts or its times: it has no columns of them, and empty ones in the first table.
+# compiler of plain C with its optimisation. Of ours the least counts. The C of a row is that of the fewest instructions,
+# or, where none are counted, of the least time; the row names it. A part may lack its counts or its times: it has no
+# columns of them, and empty ones in the first table.
 
-# A row's numbers: ours, C, whose it is, and the ratio.
-function four(kind, key) {
-    return sprintf(" %.1f | %.1f | %s | %.2f |", ours[kind, key], c[kind, key], by[kind, key], ours[kind, key] / c[kind, key])
+# A row's numbers: ours, C, and the ratio.
+function three(kind, key) {
+    return sprintf(" %.1f | %.1f | %.2f |", ours[kind, key], c[kind, key, by[key]], ours[kind, key] / c[kind, key, by[key]])
 }
 
 # Of a part and a kind: the geometric mean of the ratios, the least and the greatest.
@@ -13,7 +14,7 @@ function range(kind, part,   i, r, least, most, a, b) {
     least = 1e9
     for (i = 1; i <= rows; i++) {
         if (part_of[i] != part) continue
-        r = ours[kind, key_of[i]] / c[kind, key_of[i]]
+        r = ours[kind, key_of[i]] / c[kind, key_of[i], by[key_of[i]]]
         if (r < least) least = r
         if (r > most) most = r
         a += log(r); b++
@@ -26,8 +27,9 @@ function range(kind, part,   i, r, least, most, a, b) {
     if (!(key in known)) { known[key] = 1; rows++; key_of[rows] = key; part_of[rows] = $3; stream_of[rows] = $4; format_of[rows] = $5 }
     if ($2 == "ours") {
         if (!(($1, key) in ours) || $6 < ours[$1, key]) ours[$1, key] = $6
-    } else if (!(($1, key) in c) || $6 < c[$1, key]) {
-        c[$1, key] = $6; by[$1, key] = $2
+    } else {
+        c[$1, key, $2] = $6
+        if ($1 == (counted ? "count" : "time") && (!(key in by) || $6 < c[$1, key, by[key]])) by[key] = $2
     }
     has[$1, $3] = 1
 }
@@ -58,9 +60,9 @@ END {
         print ""
         print "### " title[p]
         print ""
-        print "| Stream | Format |" (counts ? " instructions: ours | C | by | ours / C |" : "") (times ? " ns: ours | C | by | ours / C |" : "")
-        print "|---|---|" (counts ? "---|---|---|---|" : "") (times ? "---|---|---|---|" : "")
+        print "| Stream | Format | C by |" (counts ? " instructions: ours | C | ours / C |" : "") (times ? " ns: ours | C | ours / C |" : "")
+        print "|---|---|---|" (counts ? "---|---|---|" : "") (times ? "---|---|---|" : "")
         for (i = 1; i <= rows; i++)
-            if (part_of[i] == part[p]) print "| " stream_of[i] " | " format_of[i] " |" (counts ? four("count", key_of[i]) : "") (times ? four("time", key_of[i]) : "")
+            if (part_of[i] == part[p]) print "| " stream_of[i] " | " format_of[i] " | " by[key_of[i]] " |" (counts ? three("count", key_of[i]) : "") (times ? three("time", key_of[i]) : "")
     }
 }
