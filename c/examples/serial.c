@@ -5,7 +5,7 @@
  *     serial watch  [-b BAUD] [-8] [-q MS] [-a] TTY LETTER     reports, presses and bytes dropped as they come
  *     serial box    [-b BAUD] [-8] [-a] TTY < EVENTS           a box on the line in real time, and its own recording
  *
- * Build: cc -std=c99 -I c c/serial.c target/staticlib/libistrolf.a -o serial
+ * Build: cc -std=c99 -I c c/examples/serial.c target/staticlib/libistrolf.a -o serial
  * Status: 0 ended by Ctrl-C or by the end of the events; 1 the line hung up or something failed; 2 called wrongly,
  * or the port is not to be had with these settings; 3 the recording is full. docs/PORT.md tells the rest. */
 #define _GNU_SOURCE /* ppoll */
