@@ -7,8 +7,10 @@ int main(void) {
     int16_t out[5 * 4];
     istrolf_reader reader = istrolf_reader_fresh('S').reader;
     istrolf_reading r = istrolf_reader_read(reader, words, sizeof words / sizeof *words, out, sizeof out / sizeof *out);
-    for (size_t i = 0; i < r.reports; i++)
-        printf("buttons %d x %d y %d\n", out[5 * i], out[5 * i + 1], out[5 * i + 2]);
+    for (size_t i = 0; i < r.reports; i++) {
+        istrolf_report report = istrolf_report_at(out, i);
+        printf("buttons %d x %d y %d\n", report.buttons, report.x1, report.y1);
+    }
     printf("refusal %d, %zu words taken, %zu bytes dropped, %d kept\n", r.refusal, r.taken, r.dropped, r.next.count);
     return 0;
 }

@@ -57,13 +57,48 @@ static void words(void) {
     SAME(ISTROLF_BREAK, istrolf_box_host(box, ' ').word);
 }
 
+/* A fresh box behind a byte of the host's. */
+static istrolf_box behind(uint8_t byte) { return istrolf_box_host(istrolf_box_fresh(), byte).next; }
+
+/* The reply of a box in S to a byte: its length and its first byte. */
+static int reply_to(uint8_t byte) {
+    const istrolf_box box = istrolf_box_host(behind('S'), byte).next;
+    return 256 * box.going.length + box.going.bytes[0];
+}
+
+static void commands(void) {
+    SAME(ISTROLF_SET_S, behind('S').settings.format);
+    SAME(ISTROLF_SET_V, behind('V').settings.format);
+    SAME(ISTROLF_SET_A, behind('A').settings.format);
+    SAME(ISTROLF_SET_B, behind('B').settings.format);
+    SAME(ISTROLF_SET_U, istrolf_box_host(behind('S'), 'U').next.settings.format);
+    SAME(ISTROLF_SET_T, behind('T').settings.format);
+    SAME(ISTROLF_SET_W, behind('W').settings.format);
+    SAME(ISTROLF_STREAM_J, behind('J').settings.mode);
+    SAME(ISTROLF_STREAM_K, behind('K').settings.mode);
+    SAME(ISTROLF_STREAM_L, behind('L').settings.mode);
+    SAME(ISTROLF_STREAM_R, behind('R').settings.mode);
+    SAME(ISTROLF_STREAM_M, behind('M').settings.mode);
+    SAME(ISTROLF_STREAM_Q, behind('Q').settings.mode);
+    SAME(ISTROLF_STREAM_N, behind('N').settings.mode);
+    SAME(ISTROLF_STREAM_O, istrolf_box_host(behind('D'), 'O').next.settings.mode);
+    SAME(ISTROLF_PROMPT, behind('D').settings.mode);
+    same("no report due behind ISTROLF_PROMPT", behind(ISTROLF_PROMPT).due, 0);
+    same("a report due behind ISTROLF_ONE_REPORT", behind(ISTROLF_ONE_REPORT).due, 1);
+    same("the reply to ISTROLF_ASK_ACK", reply_to(ISTROLF_ASK_ACK), 256 * 1 + 6);
+    same("the reply to ISTROLF_ASK_FORMAT", reply_to(ISTROLF_ASK_FORMAT), 256 * 1 + 0x1A);
+    same("the reply to ISTROLF_ASK_LETTERS", reply_to(ISTROLF_ASK_LETTERS), 256 * 2 + 'S');
+    same("the reply to ISTROLF_ASK_BUTTONS", reply_to(ISTROLF_ASK_BUTTONS), 256 * 3);
+    same("dormant behind ISTROLF_SLEEP", behind(ISTROLF_SLEEP).dormant, 1);
+}
+
 /* The letters of a report with these buttons, as the lister prints them. */
 static int printed(uint8_t buttons, const char *letters) {
     const istrolf_report report = {buttons, 0, 0, 0, 0};
     uint8_t bytes[5], out[4 * ISTROLF_LISTER_ROOM];
-    istrolf_encode('T', report, bytes, 5);
+    if (istrolf_encode('T', report, bytes, 5).refusal) return 0;
     const uint8_t line[] = {'F', '\t', 'T', '\n', 'Q', '\n', 'B', '\t', (uint8_t)('0' + bytes[0]), '\n', 'B', '\t', '0', '\n', 'B', '\t', '0', '\n'};
-    istrolf_lister_feed(istrolf_lister_fresh(), line, sizeof line, out, sizeof out);
+    if (istrolf_lister_feed(istrolf_lister_fresh(), line, sizeof line, out, sizeof out).refusal) return 0;
     return memcmp(out + sizeof "L\t6\nR\t000005\t" - 1, letters, 3) == 0;
 }
 
@@ -73,15 +108,20 @@ static void buttons(void) {
     same("ISTROLF_R is printed as --R", printed(ISTROLF_R, "--R"), 1);
 }
 
+/* How many items are read of a listing. */
+static long long read(const char *listing, size_t count, int32_t *out, size_t room) {
+    return (long long)istrolf_readback_read(istrolf_readback_fresh(), text(listing), count, out, room).items;
+}
+
 static void items(void) {
     int32_t out[15] = {0};
-    istrolf_readback_read(istrolf_readback_fresh(), text("L\t6\nR\t000002\tL--\t1\t2\nD\t000003\t4\nH\t5\n"), 38, out, 15);
+    same("items", read("L\t6\nR\t000002\tL--\t1\t2\nD\t000003\t4\nH\t5\n", 38, out, 15), 3);
     SAME(ISTROLF_ITEM_R, out[0]);
     SAME(ISTROLF_ITEM_D, out[5]);
     SAME(ISTROLF_ITEM_H, out[10]);
-    istrolf_readback_read(istrolf_readback_fresh(), text("L\t6\nE\t000002\n"), 13, out, 5);
+    same("items", read("L\t6\nE\t000002\n", 13, out, 5), 1);
     SAME(ISTROLF_ITEM_E, out[0]);
-    istrolf_readback_read(istrolf_readback_fresh(), text("L\t6\nE\tover\n"), 11, out, 5);
+    same("items", read("L\t6\nE\tover\n", 11, out, 5), 1);
     SAME(ISTROLF_ITEM_OVER, out[0]);
 }
 
@@ -113,14 +153,15 @@ static void replies(void) {
 static int16_t kind(uint16_t error) {
     const uint16_t line[] = {0xA1, 0x32, error, 0};
     int16_t out[6] = {9};
-    istrolf_puck_reader_read(istrolf_puck_reader_fresh(), line, 4, out, 6);
-    return out[0];
+    return istrolf_puck_reader_read(istrolf_puck_reader_fresh(), line, 4, out, 6).reports == 1 ? out[0] : -1;
 }
 
 static void self_tests(void) {
     istrolf_puck puck = istrolf_puck_made(ISTROLF_L, 1, 3);
     for (int i = 0; i < 2; i++) puck = istrolf_puck_send(puck).next;
     SAME(ISTROLF_BUTTON_ERROR, istrolf_puck_send(puck).word);
+    while (puck.test.left > 0) puck = istrolf_puck_send(puck).next;
+    same("bytes of a self-test behind ISTROLF_SELF_TEST", istrolf_puck_host(puck, ISTROLF_SELF_TEST).next.test.left, 4);
     same("an error of ISTROLF_FATAL", kind(ISTROLF_FATAL), 2);
     same("an error below ISTROLF_FATAL", kind(ISTROLF_FATAL - 1), 1);
 }
@@ -176,6 +217,7 @@ static void salvage_room(void) {
 int main(void) {
     refusals();
     words();
+    commands();
     buttons();
     items();
     replies();
