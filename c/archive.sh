@@ -17,40 +17,6 @@ execute() {
     ${emulator:+"$emulator"} "$tools/lib/ld-linux-x86-64.so.2" --library-path "$tools/lib" "$@"
 }
 
-# alone COMMAND ..: of the scripts that prove in this folder one does at a time
-alone() {
-    mkdir -p "$here/target/log" || return
-    { command exec 5> "$here/target/lock" && flock 5; } 2> /dev/null
-    "$@"
-    set -- $?
-    { command exec 5>&-; } 2> /dev/null
-    return "$1"
-}
-
-# below CRATE: it and the crates that it rests on, as folders
-below() {
-    awk -v crate="$1" '
-        function take(name, part, i) {
-            if (taken[name]++) return
-            print "crates/" name
-            for (i = split(needs[name], part, " "); i > 0; i--) take(part[i])
-        }
-        { name = $1; sub(/:$/, "", name); $1 = ""; needs[name] = $0 }
-        END { take(crate) }' crates.txt | while read -r folder; do [ ! -d "$folder" ] || echo "$folder"; done
-}
-
-# is_current: the archive is newer than every source, specification and proof that it rests on, crates.txt and the
-# header
-is_current() {
-    [ -e "$archive" ] && [ -z "$(cd "$here" && find crates.txt c/istrolf.h $(below istrolf) -newer "$archive" ! -path '*/must-fail*')" ]
-}
-
-# prove_archive LOG: the archive is proved and built where it is not current; what is changed meanwhile is newer than it
-prove_archive() {
-    if is_current; then
-        say 'the archive is newer than all it rests on, and is taken as it is'
-        return
-    fi
-    say 'proving the library, which takes some minutes the first time'
-    : > "$1.began" && (cd "$here" && rt staticlib istrolf) > "$1" 2>&1 && touch -r "$1.began" "$archive" && rm "$1.began"
-}
+# prepared NAME ..: these programs, or libistrolf.a, are proved and built where that was not done for the sources as they
+# are (make/build)
+prepared() { "$here/make/build" "$@" >&2; }
