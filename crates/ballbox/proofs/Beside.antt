@@ -9,12 +9,13 @@ use Rattle.numbers.proofs.Choices.{or-else, either, both, cases}
 use Rattle.numbers.proofs.Tested.{right}
 use Rattle.wire.specs.Line.{sizeBy, known}
 use Rattle.ballbox.specs.Box.{nothing}
-use Rattle.ballbox.specs.Presses.{anyRemembered, full, none, remembering, showingFirst, shown, hidden}
+use Rattle.ballbox.specs.Presses.{anyRemembered, full, none, remembering, showingFirst, shown, hidden, showing}
 use Rattle.ballbox.specs.Commands.{isStream}
 use Rattle.ballbox.specs.Events.{moreBehind, after, memoryAfter}
 use Rattle.ballbox.specs.Good.{goodMemory, showsRightly}
 use Rattle.ballbox.specs.declared.Going.{Going}
 use Rattle.ballbox.specs.declared.Memory.{Memory}
+use Rattle.ballbox.proofs.Marks.{mark-back}
 use Rattle.ballbox.proofs.Outgoing.{size-known}
 use Rattle.ballbox.proofs.Remembering.{memory-parts, memory-again, remembering-good, shown-good, hidden-good, showing-good}
 
@@ -35,7 +36,7 @@ module _ (mode letter : ℕ) (g : Going) (m : Memory) (r : Remembers mode letter
       record {
         good = memory-again (remembering n m) (remembering-good n m l (memory-parts m (r .good)));
         stream = rw (e, or-true);
-        shows = cases (λ (x : Memory). showsRightly letter g x ≡ true) (full m) (λ f. r .shows) (λ f. more (m .showing) (anyRemembered m) (r .shows));
+        shows = cases (λ (x : Memory). showsRightly letter g x ≡ true) (full m) (λ f. r .shows) (λ f. more (showing m) (anyRemembered m) (r .shows));
       }
     where
       more : (t any : Bool) → not t || (any && eqb (g .length) (sizeBy letter)) ≡ true → not t || (ltb 0 (m .count + 1) && eqb (g .length) (sizeBy letter)) ≡ true
@@ -49,7 +50,7 @@ module _ (mode letter : ℕ) (g : Going) (m : Memory) (r : Remembers mode letter
       record {
         good = memory-again (showingFirst m) (showing-good m (memory-parts m (r .good)));
         stream = r .stream;
-        shows = either (not (anyRemembered m)) _ (λ n. both (anyRemembered m) _ (not-false _ n) (eq-eqb (h .length) (sizeBy letter) e));
+        shows = rw (mark-back (anyRemembered m)) (either (not (anyRemembered m)) _ (λ n. both (anyRemembered m) _ (not-false _ n) (eq-eqb (h .length) (sizeBy letter) e)));
       }
 
   -- it is broken off
@@ -67,8 +68,8 @@ module _ (mode letter : ℕ) (g : Going) (m : Memory) (r : Remembers mode letter
   shown-remembers h =
       record {
         good = memory-again (shown m) (shown-good m (memory-parts m (r .good)));
-        stream = cases (λ (x : Memory). not (anyRemembered x) || isStream mode ≡ true) (m .showing) (λ e. fewer) (λ e. r .stream);
-        shows = cases (λ (x : Memory). showsRightly letter h x ≡ true) (m .showing) (λ e. refl) (λ e. rw e);
+        stream = cases (λ (x : Memory). not (anyRemembered x) || isStream mode ≡ true) (showing m) (λ e. fewer) (λ e. r .stream);
+        shows = cases (λ (x : Memory). showsRightly letter h x ≡ true) (showing m) (λ e. refl) (λ e. rw e);
       }
 
   pub after-remembers : Remembers mode letter (after g) (memoryAfter g m)
@@ -81,7 +82,7 @@ module _ (mode letter : ℕ) (g : Going) (m : Memory) (r : Remembers mode letter
 
   -- where nothing is going nothing is shown, whatever is to be sent then
   pub idle-remembers : (h : Going) → known letter ≡ true → g .length ≡ 0 → Remembers mode letter h m
-  idle-remembers h f z = record { good = r .good; stream = r .stream; shows = rw (unshown (m .showing) (r .shows)) }
+  idle-remembers h f z = record { good = r .good; stream = r .stream; shows = rw (unshown (showing m) (r .shows)) }
     where
       unshown : (t : Bool) → not t || (anyRemembered m && eqb (g .length) (sizeBy letter)) ≡ true → t ≡ false
       unshown false e = refl

@@ -6,7 +6,7 @@ use mathlib.Core.List.{[], _∷_}
 use lib.Dec.{ltb}
 use lib.IntN.{ℤ}
 use Rattle.frames.specs.Words.{silence}
-use Rattle.ballbox.specs.Box.{goingFrom, withGoing, withDormant}
+use Rattle.ballbox.specs.Box.{goingFrom, withGoing, withDormant, dormant}
 use Rattle.ballbox.specs.Commands.{ack}
 use Rattle.ballbox.specs.Events.{gives, quietly, woken, asleep}
 use Rattle.ballbox.specs.Good.{good}
@@ -16,7 +16,7 @@ use Rattle.ballbox.specs.declared.Event.the-variants.{Motion, Buttons, H
 use Rattle.ballbox.specs.declared.Stepped.{Stepped}
 use Rattle.ballbox.proofs.Refusals.{asleep-step}
 
-module _ (b : BallBox) (r : Stepped) (g : good b ≡ true) (d : b .dormant ≡ true) where
+module _ (b : BallBox) (r : Stepped) (g : good b ≡ true) (d : dormant b ≡ true) where
   -- "Dormant: Motion, Buttons and Period do nothing" and Send "gives 257"; "Dormant, Latch does nothing."
   pub asleep-motion : (dx dy : ℤ) → StepPromise b (Motion dx dy) r → outcome r ≡ quietly b
   unfolding asleep

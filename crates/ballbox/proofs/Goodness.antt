@@ -13,13 +13,14 @@ use Rattle.numbers.proofs.Held.{held-inside}
 use Rattle.numbers.proofs.Tested.{left, right}
 use Rattle.wire.specs.Line.{letterOf, known, namedBy}
 use Rattle.wire.specs.declared.Format.the-variants.{FiveByte}
-use Rattle.ballbox.specs.Box.{modeD, goingFrom, nothing, freshBox, withTrack, withGoing, withMemory, withSums, withDue, withFormat, withMode, withButtons, Step}
-use Rattle.ballbox.specs.Presses.{anyRemembered, none}
+use Rattle.ballbox.specs.Marks.{isMark}
+use Rattle.ballbox.specs.Box.{modeD, goingFrom, nothing, freshBox, withTrack, withGoing, withMemory, withSums, withDue, withFormat, withMode, withButtons, Step, due, dormant}
+use Rattle.ballbox.specs.Presses.{anyRemembered, none, showing}
 use Rattle.ballbox.specs.Motion.{placedAt, placed, movedBy}
 use Rattle.ballbox.specs.Latching.{cleared, latchedReport, latched, withSecond, secondLatched}
-use Rattle.ballbox.specs.Commands.{isStream, commandOf, ack, obeyed}
-use Rattle.ballbox.specs.Events.{onButtons, onPeriod, bytesLeft, wanted, latching, secondNow, withByteReady, nextByte, sending, dropped, onHost, woken, awake, asleep}
-use Rattle.ballbox.specs.Good.{onPad, goodSettings, goodTrack, goodGoing, goodMemory, good}
+use Rattle.ballbox.specs.Commands.{isTimed, isStream, commandOf, ack, obeyed}
+use Rattle.ballbox.specs.Events.{moved, onButtons, onPeriod, bytesLeft, wanted, latching, secondNow, withByteReady, nextByte, sending, dropped, onHost, woken, awake, asleep}
+use Rattle.ballbox.specs.Good.{onPad, goodSettings, goodTrack, goodGoing, goodMemory, marks, good}
 use Rattle.ballbox.specs.Promises.{aboveSeven, stepOf, FreshPromise, StepPromise}
 use Rattle.ballbox.specs.declared.Pair.{Pair}
 use Rattle.ballbox.specs.declared.Track.{Track}
@@ -32,6 +33,7 @@ use Rattle.ballbox.specs.declared.Command.the-variants.{SetFormat, SetSt
 use Rattle.ballbox.specs.declared.Event.{Event}
 use Rattle.ballbox.specs.declared.Event.the-variants.{Motion, Buttons, Host, Latch, Send, Period}
 use Rattle.ballbox.specs.declared.Stepped.{Stepped}
+use Rattle.ballbox.proofs.Marks.{mark-stands}
 use Rattle.ballbox.proofs.Letters.{Lettering, lettering}
 use Rattle.ballbox.proofs.Outgoing.{GoodGoing, Idle, idle-good, nothing-idle, left-idle, reply-good, Sendable, after-good, going-sendable, second-sendable, latched-below, latched-going}
 use Rattle.ballbox.proofs.Accepting.{bytes-by-length}
@@ -66,9 +68,10 @@ record Awake (G : ℕ → Going → Type 0) (b : BallBox) : Type 0 where
   track : goodTrack (b .track) ≡ true
   going : G (b .settings .format) (b .going)
   memory : Remembers (b .settings .mode) (b .settings .format) (b .going) (b .memory)
-  up : b .dormant ≡ false
+  up : dormant b ≡ false
+  marks : marks b ≡ true
 
-wake : (b : BallBox) → b .dormant ≡ false → Good b → Awake GoodGoing b
+wake : (b : BallBox) → dormant b ≡ false → Good b → Awake GoodGoing b
 wake b d g =
     record {
       settings = g .settings;
@@ -76,29 +79,38 @@ wake b d g =
       going = g .going;
       memory = record { good = g .memory; stream = rw d at (g .remembers); shows = g .shows };
       up = d;
+      marks = g .marks;
     }
 
 again : (b : BallBox) → Awake GoodGoing b → Good b
 again b a =
     let m = a .memory in
-    record { settings = a .settings; track = a .track; going = a .going; sleep = rw (a .up); memory = m .good; remembers = rw (a .up) (m .stream); shows = m .shows }
+    record { settings = a .settings; track = a .track; going = a .going; sleep = rw (a .up); memory = m .good; remembers = rw (a .up) (m .stream); shows = m .shows; marks = a .marks }
 
 settled : (b : BallBox) → Awake Idle b → Awake GoodGoing b
-settled b a = record { settings = a .settings; track = a .track; going = idle-good (b .settings .format) (b .going) (a .going); memory = a .memory; up = a .up }
+settled b a = record { settings = a .settings; track = a .track; going = idle-good (b .settings .format) (b .going) (a .going); memory = a .memory; up = a .up; marks = a .marks }
 
 -- one part of it replaced; what is going, with what is remembered beside it
 module _ {G : ℕ → Going → Type 0} (b : BallBox) (a : Awake G b) where
   with-track : (t : Track) → goodTrack t ≡ true → Awake G (withTrack t b)
-  with-track t h = record { settings = a .settings; track = h; going = a .going; memory = a .memory; up = a .up }
+  with-track t h = record { settings = a .settings; track = h; going = a .going; memory = a .memory; up = a .up; marks = a .marks }
 
   with-sums : (s : Sums) → Awake G (withSums s b)
-  with-sums s = record { settings = a .settings; track = a .track; going = a .going; memory = a .memory; up = a .up }
+  with-sums s = record { settings = a .settings; track = a .track; going = a .going; memory = a .memory; up = a .up; marks = a .marks }
 
   with-due : (d : Bool) → Awake G (withDue d b)
-  with-due d = record { settings = a .settings; track = a .track; going = a .going; memory = a .memory; up = a .up }
+  with-due d =
+      record {
+        settings = a .settings;
+        track = a .track;
+        going = a .going;
+        memory = a .memory;
+        up = a .up;
+        marks = both _ _ (mark-stands d) (right (isMark (b .due)) (isMark (b .dormant)) (a .marks));
+      }
 
   with-going : {H : ℕ → Going → Type 0} (g : Going) (m : Memory) → H (b .settings .format) g → Remembers (b .settings .mode) (b .settings .format) g m → Awake H (withMemory m (withGoing g b))
-  with-going g m h r = record { settings = a .settings; track = a .track; going = h; memory = r; up = a .up }
+  with-going g m h r = record { settings = a .settings; track = a .track; going = h; memory = r; up = a .up; marks = a .marks }
 
   with-mode : (m : ℕ) → (isStream m || eqb m modeD) ≡ true → not (anyRemembered (b .memory)) || isStream m ≡ true → Awake G (withMode m b)
   with-mode m h s =
@@ -108,6 +120,7 @@ module _ {G : ℕ → Going → Type 0} (b : BallBox) (a : Awake G b) where
         going = a .going;
         memory = record { good = a .memory .good; stream = s; shows = a .memory .shows };
         up = a .up;
+        marks = a .marks;
       }
 
   with-buttons : (n : ℕ) → leb n 7 ≡ true → Awake G (withButtons n b)
@@ -118,11 +131,20 @@ module _ {G : ℕ → Going → Type 0} (b : BallBox) (a : Awake G b) where
         going = a .going;
         memory = a .memory;
         up = a .up;
+        marks = a .marks;
       }
 
   -- nothing is remembered
   emptied : (d : Bool) → Awake G (withMemory none (withDue d b))
-  emptied d = record { settings = a .settings; track = a .track; going = a .going; memory = none-remembers _ _ _; up = a .up }
+  emptied d =
+      record {
+        settings = a .settings;
+        track = a .track;
+        going = a .going;
+        memory = none-remembers _ _ _;
+        up = a .up;
+        marks = with-due d .marks;
+      }
 
 with-format : (b : BallBox) → Awake Idle b → b .memory ≡ none → (f : ℕ) → known f ≡ true → Awake GoodGoing (withFormat f b)
 with-format b a e f h =
@@ -132,6 +154,7 @@ with-format b a e f h =
       going = idle-good f (b .going) (a .going);
       memory = rw e (none-remembers _ _ _);
       up = a .up;
+      marks = a .marks;
     }
 
 -- the events of a box that is awake
@@ -220,6 +243,7 @@ obeyed-good Sleep h b a =
       memory = emptied b a false .memory .good;
       remembers = refl;
       shows = refl;
+      marks = refl;
     }
 obeyed-good Ignored h b a = again _ (settled b a)
 
@@ -231,13 +255,13 @@ awake-good b (Buttons n) l a = again _ (buttons-good b n l a)
 awake-good b (Host n) l a = obeyed-good (commandOf n) (lettering n) (dropped b) (dropped-idle b a)
 awake-good b Latch l a = again _ (latching-good b a)
 awake-good b Send l a = again _ (sending-good b a)
-awake-good b Period l a = again _ (with-due b a _)
+awake-good b Period l a = again _ (with-due b a (due b || (isTimed (b .settings .mode) && moved b)))
 
-woken-good : (b : BallBox) → b .dormant ≡ true → Good b → Good (woken b)
+woken-good : (b : BallBox) → dormant b ≡ true → Good b → Good (woken b)
 unfolding woken
 woken-good b d g =
     let none : not (anyRemembered (b .memory)) ≡ true = sym (or-false _) ∙ (rw d at (g .remembers)) in
-    let unshown : not (b .memory .showing) ≡ true = sym (or-false _) ∙ (rw (not-true (anyRemembered (b .memory)) none) at (g .shows)) in
+    let unshown : not (showing (b .memory)) ≡ true = sym (or-false _) ∙ (rw (not-true (anyRemembered (b .memory)) none) at (g .shows)) in
     record {
       settings = g .settings;
       track = g .track;
@@ -246,9 +270,10 @@ woken-good b d g =
       memory = g .memory;
       remembers = rw none;
       shows = rw unshown;
+      marks = both _ _ (left (isMark (b .due)) (isMark (b .dormant)) (g .marks)) refl;
     }
 
-asleep-good : (b : BallBox) (e : Event) → b .dormant ≡ true → Good b → Good (asleep b e .next)
+asleep-good : (b : BallBox) (e : Event) → dormant b ≡ true → Good b → Good (asleep b e .next)
 unfolding asleep
 asleep-good b (Motion dx dy) d g = g
 asleep-good b (Buttons n) d g = g
@@ -263,7 +288,7 @@ stepped-good b e g =
     let p = parts b g in
     rw g
     (cases (λ (x : Step). good (x .next) ≡ true) (aboveSeven e) (λ l. g)
-    (λ l. cases (λ (x : Step). good (x .next) ≡ true) (b .dormant) (λ d. good-again _ (asleep-good b e d p)) (λ d. good-again _ (awake-good b e l (wake b d p)))))
+    (λ l. cases (λ (x : Step). good (x .next) ≡ true) (dormant b) (λ d. good-again _ (asleep-good b e d p)) (λ d. good-again _ (awake-good b e l (wake b d p)))))
 
 pub step-stays-good : (b : BallBox) (e : Event) (r : Stepped) → StepPromise b e r → good b ≡ true → good (r .next) ≡ true
-step-stays-good b e r s g = ap (λ (x : Step). good (x .next)) s ∙ stepped-good b e g
+step-stays-good b e r s g = ap (λ (x : Stepped). good (x .next)) s ∙ stepped-good b e g

@@ -16,7 +16,7 @@ use Rattle.wire.specs.Holds.{_to_, within}
 use Rattle.wire.specs.Reading.{at}
 use Rattle.wire.specs.declared.Format.{Format}
 use Rattle.wire.specs.declared.Format.the-variants.{Absolute, FiveByte}
-use Rattle.ballbox.specs.Box.{Step, goingFrom, withGoing}
+use Rattle.ballbox.specs.Box.{Step, goingFrom, withGoing, dormant}
 use Rattle.ballbox.specs.Latching.{limits, limited, movement, taken, latchedReport, latched}
 use Rattle.ballbox.specs.Events.{bytesLeft, wanted, withByteReady, nextByte, sending, awake}
 use Rattle.ballbox.specs.Good.{onPad, good}
@@ -70,7 +70,7 @@ send-first : (b : BallBox) (w : ℕ) (ws : List ℕ) → sending (withGoing (goi
 unfolding goingFrom
 send-first b w ws = begins (withGoing (goingFrom (w ∷ ws)) b) (lt-ltb 0 (length (w ∷ ws)) (omega arith)) refl
 
-pub first-sent : (b : BallBox) (r : Stepped) (w : ℕ) (ws : List ℕ) → good b ≡ true → b .dormant ≡ false → b .going ≡ goingFrom (w ∷ ws) → StepPromise b Send r → sentWords (r .sent) ≡ w ∷ []
+pub first-sent : (b : BallBox) (r : Stepped) (w : ℕ) (ws : List ℕ) → good b ≡ true → dormant b ≡ false → b .going ≡ goingFrom (w ∷ ws) → StepPromise b Send r → sentWords r ≡ w ∷ []
 unfolding awake
 first-sent b r w ws g d e s =
     let same : b ≡ withGoing (goingFrom (w ∷ ws)) b = λ i. record { settings = b .settings; track = b .track; going = e i; memory = b .memory; sums = b .sums; due = b .due; dormant = b .dormant } in
@@ -81,14 +81,14 @@ first-of-five : (bytes : List ℕ) → at 0 (five bytes) ≡ at 0 bytes
 first-of-five [] = refl
 first-of-five (b ∷ bytes) = refl
 
-pub report-begins : (f : Format) (b : BallBox) (r : Stepped) → good b ≡ true → b .dormant ≡ false → b .settings .format ≡ letterOf f → bytesLeft b ≡ false → wanted b ≡ true → (p : Stepped) → StepPromise b Latch p → StepPromise (p .next) Send r →
-    sentWords (r .sent) ≡ at 0 (bytesOf f (latchedReport b)) ∷ []
+pub report-begins : (f : Format) (b : BallBox) (r : Stepped) → good b ≡ true → dormant b ≡ false → b .settings .format ≡ letterOf f → bytesLeft b ≡ false → wanted b ≡ true → (p : Stepped) → StepPromise b Latch p → StepPromise (p .next) Send r →
+    sentWords r ≡ at 0 (bytesOf f (latchedReport b)) ∷ []
 unfolding awake latched goingFrom
 report-begins f b r g d e l w p q s =
     let bytes = bytesBy (b .settings .format) (latchedReport b) in
     let next : p .next ≡ latched b = ap (λ (a : Step). a .next) (awake-step b Latch p q g refl d) ∙ latching-wanted b l w in
     let k : good (p .next) ≡ true = step-stays-good b Latch p q g in
-    ap (λ (a : Step). a .words) (awake-step (p .next) Send r s k refl (ap (λ (x : BallBox). x .dormant) next ∙ d)) ∙
+    ap (λ (a : Step). a .words) (awake-step (p .next) Send r s k refl (ap dormant next ∙ d)) ∙
     (ap (λ (x : BallBox). sending x .words) next ∙
     (begins (latched b) (latched-left b (parts b g)) refl ∙
     ap (λ (k : ℕ). k ∷ []) (first-of-five bytes ∙ ap (at 0) (latched-bytes f b e))))

@@ -3,7 +3,10 @@
 -- is remembered (Pressing), what the limits throw away (Throwing), the dormant box (Dormancy) and wrong answers
 -- (Wrong). What these and the functions' proofs share: the letters (Letters), that what is latched is accepted
 -- (Accepting), what is going (Outgoing), what is remembered (Remembering, Beside), a good box part by part (Parts), and
--- latching, sending and breaking off case by case (Cases).
+-- latching, sending and breaking off case by case (Cases), marks (Marks), and the test of a good box by numbers (Joined).
+mod Joined
+pub mod Marks
+pub mod Single
 pub mod Letters
 pub mod Remembering
 pub mod Accepting

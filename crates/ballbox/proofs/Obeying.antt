@@ -9,7 +9,7 @@ use Rattle.numbers.proofs.Choices.{other, neither, cases}
 use Rattle.frames.specs.Words.{break}
 use Rattle.wire.specs.Line.{letterOf, namedBy, known}
 use Rattle.wire.specs.declared.Format.{Format}
-use Rattle.ballbox.specs.Box.{modeD, nothing, goingFrom, withGoing, withMemory, Step}
+use Rattle.ballbox.specs.Box.{modeD, nothing, goingFrom, withGoing, withMemory, Step, due, dormant}
 use Rattle.ballbox.specs.Presses.{none, hidden}
 use Rattle.ballbox.specs.Commands.{letterP, space, letterf, lettert, byte05, letterd, isStream, commandOf, isCommand, ack, codeOf, codeByte, replyTo, obeyed}
 use Rattle.ballbox.specs.Events.{gives, quietly, bytesLeft, brokenOff, dropped, onHost, awake}
@@ -82,7 +82,7 @@ pub obeyed-going : (c : Command) (b : BallBox) → obeyed c b .going ≡ goingOr
 obeyed-going c b = obeyed-leaves c b .0
 
 -- a byte heard awake
-module _ (b : BallBox) (n : ℕ) (r : Stepped) (s : StepPromise b (Host n) r) (g : good b ≡ true) (d : b .dormant ≡ false) where
+module _ (b : BallBox) (n : ℕ) (r : Stepped) (s : StepPromise b (Host n) r) (g : good b ≡ true) (d : dormant b ≡ false) where
   pub heard : outcome r ≡ gives (brokenOff b) (obeyed (commandOf n) (dropped b))
   unfolding awake onHost
   heard = awake-step b (Host n) r s g refl d
@@ -104,24 +104,24 @@ pub dropped-settings : (b : BallBox) → dropped b .settings ≡ b .settings
 unfolding dropped
 dropped-settings b = cases (λ (x : BallBox). x .settings ≡ b .settings) (bytesLeft b) (λ e. refl) (λ e. refl)
 
-pub dropped-awake : (b : BallBox) → dropped b .dormant ≡ b .dormant
+pub dropped-awake : (b : BallBox) → dormant (dropped b) ≡ dormant b
 unfolding dropped
-dropped-awake b = cases (λ (x : BallBox). x .dormant ≡ b .dormant) (bytesLeft b) (λ e. refl) (λ e. refl)
+dropped-awake b = cases (λ (x : BallBox). dormant x ≡ dormant b) (bytesLeft b) (λ e. refl) (λ e. refl)
 
 -- "prompt mode, whose letter is D however it was set": a mode of a good box that is no stream mode is D
 pub prompt-letter : (b : BallBox) → good b ≡ true → isStream (b .settings .mode) ≡ false → b .settings .mode ≡ modeD
 prompt-letter b g s =
     eqb-true (b .settings .mode) modeD (other (isStream (b .settings .mode)) (eqb (b .settings .mode) modeD) (mode-known (b .settings) (parts b g .settings)) s)
 
-module _ (b : BallBox) (r : Stepped) (g : good b ≡ true) (d : b .dormant ≡ false) where
+module _ (b : BallBox) (r : Stepped) (g : good b ≡ true) (d : dormant b ≡ false) where
   -- D and P set it
-  pub prompt-by-D : StepPromise b (Host modeD) r → (r .next .settings .mode ≡ modeD) × (r .next .due ≡ false)
+  pub prompt-by-D : StepPromise b (Host modeD) r → (r .next .settings .mode ≡ modeD) × (due (r .next) ≡ false)
   unfolding commandOf obeyed known namedBy
-  prompt-by-D s = let e = next-is b modeD r s g d in (ap (λ (x : BallBox). x .settings .mode) e, ap (λ (x : BallBox). x .due) e)
+  prompt-by-D s = let e = next-is b modeD r s g d in (ap (λ (x : BallBox). x .settings .mode) e, ap due e)
 
-  pub prompt-by-P : StepPromise b (Host letterP) r → (r .next .settings .mode ≡ modeD) × (r .next .due ≡ true)
+  pub prompt-by-P : StepPromise b (Host letterP) r → (r .next .settings .mode ≡ modeD) × (due (r .next) ≡ true)
   unfolding commandOf obeyed known namedBy
-  prompt-by-P s = let e = next-is b letterP r s g d in (ap (λ (x : BallBox). x .settings .mode) e, ap (λ (x : BallBox). x .due) e)
+  prompt-by-P s = let e = next-is b letterP r s g d in (ap (λ (x : BallBox). x .settings .mode) e, ap due e)
 
   -- "Space: ACK."
   pub reply-to-space : StepPromise b (Host space) r → r .next .going ≡ goingFrom ack
@@ -135,9 +135,9 @@ module _ (b : BallBox) (r : Stepped) (g : good b ≡ true) (d : b .dormant ≡ f
       ap (λ (x : BallBox). x .going) (next-is b letterf r s g d) ∙
       ap (λ (c : ℕ). goingFrom (c ∷ [])) (ap (λ (x : Settings). codeByte (x .format)) (dropped-settings b) ∙ rw (ap namedBy e ∙ letter-named f))
 
-  pub awake-after-f : StepPromise b (Host letterf) r → r .next .dormant ≡ false
+  pub awake-after-f : StepPromise b (Host letterf) r → dormant (r .next) ≡ false
   unfolding commandOf obeyed known namedBy
-  awake-after-f s = ap (λ (x : BallBox). x .dormant) (next-is b letterf r s g d) ∙ (dropped-awake b ∙ d)
+  awake-after-f s = ap dormant (next-is b letterf r s g d) ∙ (dropped-awake b ∙ d)
 
   -- "`t`: format letter, mode letter."
   pub reply-to-t : StepPromise b (Host lettert) r → r .next .going ≡ goingFrom (b .settings .format ∷ b .settings .mode ∷ [])

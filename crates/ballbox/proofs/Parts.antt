@@ -14,7 +14,7 @@ use Rattle.ballbox.specs.Presses.{toShow}
 use Rattle.ballbox.specs.Latching.{latched, secondLatched, withSecond}
 use Rattle.ballbox.specs.Commands.{isStream}
 use Rattle.ballbox.specs.Events.{bytesLeft, wanted, latching, secondNow, withByteReady}
-use Rattle.ballbox.specs.Good.{good, goodSettings, goodTrack, goodGoing, dormantRightly, goodMemory, remembersRightly, showsRightly}
+use Rattle.ballbox.specs.Good.{good, goodSettings, goodTrack, goodGoing, dormantRightly, goodMemory, remembersRightly, showsRightly, marks}
 use Rattle.ballbox.specs.declared.Settings.{Settings}
 use Rattle.ballbox.specs.declared.BallBox.{BallBox}
 use Rattle.ballbox.proofs.Accepting.{bytes-by-length}
@@ -53,6 +53,7 @@ pub record Good (b : BallBox) : Type 0 where
   pub memory : goodMemory (b .memory) ≡ true
   pub remembers : remembersRightly b ≡ true
   pub shows : showsRightly (b .settings .format) (b .going) (b .memory) ≡ true
+  pub marks : marks b ≡ true
 
 pub parts : (b : BallBox) → good b ≡ true → Good b
 unfolding good
@@ -64,7 +65,8 @@ parts b g =
     let m = goodMemory (b .memory) in
     let r = remembersRightly b in
     let w = showsRightly (b .settings .format) (b .going) (b .memory) in
-    let six = left (s && t && o && d && m && r) w g in
+    let seven = left (s && t && o && d && m && r && w) (marks b) g in
+    let six = left (s && t && o && d && m && r) w seven in
     let five = left (s && t && o && d && m) r six in
     let four = left (s && t && o && d) m five in
     let three = left (s && t && o) d four in
@@ -76,12 +78,13 @@ parts b g =
       sleep = right (s && t && o) d four;
       memory = right (s && t && o && d) m five;
       remembers = right (s && t && o && d && m) r six;
-      shows = right (s && t && o && d && m && r) w g;
+      shows = right (s && t && o && d && m && r) w seven;
+      marks = right (s && t && o && d && m && r && w) (marks b) g;
     }
 
 pub good-again : (b : BallBox) → Good b → good b ≡ true
 unfolding good
-good-again b p = rw (p .settings, p .track, going-again (b .settings .format) (b .going) (p .going), p .sleep, p .memory, p .remembers, p .shows)
+good-again b p = rw (p .settings, p .track, going-again (b .settings .format) (b .going) (p .going), p .sleep, p .memory, p .remembers, p .shows, p .marks)
 
 pub good-buttons : (b : BallBox) → good b ≡ true → b .settings .buttons ≤ 7
 good-buttons b g = leb-true (b .settings .buttons) 7 (few (b .settings) (parts b g .settings))

@@ -10,8 +10,8 @@ use borrow.Author.Tests.{lt-ltb, eqb-true}
 use Rattle.numbers.proofs.Choices.{cases}
 use Rattle.numbers.proofs.Tested.{right}
 use Rattle.wire.specs.Line.{sizeBy}
-use Rattle.ballbox.specs.Box.{Step}
-use Rattle.ballbox.specs.Presses.{remembered, anyRemembered, none, remembering, showingFirst}
+use Rattle.ballbox.specs.Box.{Step, dormant, due}
+use Rattle.ballbox.specs.Presses.{remembered, anyRemembered, none, remembering, showingFirst, showing}
 use Rattle.ballbox.specs.Latching.{latched, withSecond, secondLatched}
 use Rattle.ballbox.specs.Commands.{isStream, commandOf, obeyed}
 use Rattle.ballbox.specs.Events.{onButtons, bytesLeft, wanted, secondNow, withByteReady, memoryAfter, latching, nextByte, sending, dropped, onHost, awake}
@@ -29,22 +29,22 @@ use Rattle.ballbox.proofs.Refusals.{awake-step}
 use Rattle.ballbox.proofs.Cases.{latching-wanted, sending-byte, sending-silence}
 
 -- "Buttons no longer sets due itself"
-pub buttons-due : (n : ℕ) (b : BallBox) → onButtons n b .due ≡ b .due
+pub buttons-due : (n : ℕ) (b : BallBox) → due (onButtons n b) ≡ due b
 unfolding onButtons
-buttons-due n b = cases (λ (x : BallBox). x .due ≡ b .due) (eqb n (b .settings .buttons)) (λ e. refl) (λ e. refl)
+buttons-due n b = cases (λ (x : BallBox). due x ≡ due b) (eqb n (b .settings .buttons)) (λ e. refl) (λ e. refl)
 
 -- "In stream modes the box shall remember button states"; "prompt mode remembers nothing"
 pub buttons-remembered : (n : ℕ) (b : BallBox) → eqb n (b .settings .buttons) ≡ false → onButtons n b .memory ≡ cond (isStream (b .settings .mode)) (remembering n (b .memory)) (b .memory)
 unfolding onButtons
 buttons-remembered n b e = rw e
 
-module _ (b : BallBox) (n : ℕ) (r : Stepped) (s : StepPromise b (Buttons n) r) (g : good b ≡ true) (d : b .dormant ≡ false) (l : ltb 7 n ≡ false) (e : eqb n (b .settings .buttons) ≡ false) where
+module _ (b : BallBox) (n : ℕ) (r : Stepped) (s : StepPromise b (Buttons n) r) (g : good b ≡ true) (d : dormant b ≡ false) (l : ltb 7 n ≡ false) (e : eqb n (b .settings .buttons) ≡ false) where
   pressed : r .next ≡ onButtons n b
   unfolding awake
   pressed = ap (λ (x : Step). x .next) (awake-step b (Buttons n) r s g l d)
 
-  pub change-remembered : isStream (b .settings .mode) ≡ true → (r .next .memory ≡ remembering n (b .memory)) × (r .next .due ≡ b .due)
-  change-remembered m = (ap (λ (x : BallBox). x .memory) pressed ∙ (buttons-remembered n b e ∙ rw m), ap (λ (x : BallBox). x .due) pressed ∙ buttons-due n b)
+  pub change-remembered : isStream (b .settings .mode) ≡ true → (r .next .memory ≡ remembering n (b .memory)) × (due (r .next) ≡ due b)
+  change-remembered m = (ap (λ (x : BallBox). x .memory) pressed ∙ (buttons-remembered n b e ∙ rw m), ap due pressed ∙ buttons-due n b)
 
   pub change-in-prompt : isStream (b .settings .mode) ≡ false → r .next .memory ≡ b .memory
   change-in-prompt m = ap (λ (x : BallBox). x .memory) pressed ∙ (buttons-remembered n b e ∙ rw m)
@@ -53,7 +53,7 @@ module _ (b : BallBox) (n : ℕ) (r : Stepped) (s : StepPromise b (Buttons n) r)
 pub remembered-wanted : (b : BallBox) (n : ℕ) (ns : List ℕ) → good b ≡ true → remembered (b .memory) ≡ n ∷ ns → wanted b ≡ true
 remembered-wanted b n ns g e =
     let c = b .memory .count in
-    rw (lt-ltb 0 c (omega (arith, remembered-length (b .memory) (parts b g .memory), ap length e)), or-true (b .due))
+    rw (lt-ltb 0 c (omega (arith, remembered-length (b .memory) (parts b g .memory), ap length e)), or-true (due b))
 
 -- "D, P, `d` and the format commands empty the memory"; the others leave it
 pub obeyed-memory : (c : Command) (b : BallBox) → obeyed c b .memory ≡ cond (commandEmpties c) none (b .memory)
@@ -65,7 +65,7 @@ unfolding dropped
 dropped-remembered b =
     cases (λ (x : BallBox). remembered (x .memory) ≡ remembered (b .memory)) (bytesLeft b) (λ e. remembered-hidden (b .memory)) (λ e. refl)
 
-pub host-remembered : (b : BallBox) (n : ℕ) (r : Stepped) → StepPromise b (Host n) r → good b ≡ true → b .dormant ≡ false → remembered (r .next .memory) ≡ cond (commandEmpties (commandOf n)) [] (remembered (b .memory))
+pub host-remembered : (b : BallBox) (n : ℕ) (r : Stepped) → StepPromise b (Host n) r → good b ≡ true → dormant b ≡ false → remembered (r .next .memory) ≡ cond (commandEmpties (commandOf n)) [] (remembered (b .memory))
 unfolding awake onHost
 host-remembered b n r s g d =
     ap (λ (x : Step). remembered (x .next .memory)) (awake-step b (Host n) r s g refl d) ∙
@@ -93,10 +93,10 @@ pub send-idle : (b : BallBox) → bytesLeft b ≡ false → sending b .next .mem
 send-idle b l = ap (λ (x : Step). x .next .memory) (sending-silence b l)
 
 -- where no bytes are left none is being shown, so a reply's last byte removes none
-pub idle-shows-none : (b : BallBox) → good b ≡ true → bytesLeft b ≡ false → b .memory .showing ≡ false
-idle-shows-none b g l = go (b .memory .showing) refl
+pub idle-shows-none : (b : BallBox) → good b ≡ true → bytesLeft b ≡ false → showing (b .memory) ≡ false
+idle-shows-none b g l = go (showing (b .memory)) refl
   where
-    go : (t : Bool) → b .memory .showing ≡ t → t ≡ false
+    go : (t : Bool) → showing (b .memory) ≡ t → t ≡ false
     go false e = refl
     go true e =
         let p = parts b g in

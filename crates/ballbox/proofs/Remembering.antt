@@ -12,10 +12,12 @@ use borrow.Author.Tests.{leb-true, leb-false, ltb-true, ltb-false, lt-ltb, le-lt
 use Rattle.numbers.proofs.Choices.{other, either, cases}
 use Rattle.numbers.proofs.Tested.{left, right, each-at, each-of}
 use Rattle.wire.specs.Reading.{at}
-use Rattle.ballbox.specs.Presses.{memory, remembered, anyRemembered, full, none, remembering, toShow, showingFirst, shown, hidden}
+use Rattle.ballbox.specs.Marks.{isMark}
+use Rattle.ballbox.specs.Presses.{memory, remembered, anyRemembered, full, none, remembering, toShow, showingFirst, shown, hidden, showing}
 use Rattle.ballbox.specs.Good.{statesSmall, unusedZero, goodMemory}
 use Rattle.ballbox.specs.declared.Memory.{Memory}
 use Rattle.ballbox.specs.declared.BallBox.{BallBox}
+use Rattle.ballbox.proofs.Marks.{mark-stands}
 
 -- a good memory, rule by rule; behind the eight places there is nothing but the 0 of `at`
 pub record GoodMemory (m : Memory) : Type 0 where
@@ -23,20 +25,23 @@ pub record GoodMemory (m : Memory) : Type 0 where
   pub most : m .count ≤ 8
   pub small : (i : ℕ) → at i (m .states) ≤ 7
   pub unused : (i : ℕ) → m .count ≤ i → at i (m .states) ≡ 0
+  pub shown : isMark (m .showing) ≡ true
 
 pub memory-parts : (m : Memory) → goodMemory m ≡ true → GoodMemory m
 unfolding goodMemory
 memory-parts m g =
     let p = eqb (length (m .states)) 8 in
     let q = leb (m .count) 8 in
-    let three = left (p && q && statesSmall m) (unusedZero m) g in
+    let four = left (p && q && statesSmall m && unusedZero m) (isMark (m .showing)) g in
+    let three = left (p && q && statesSmall m) (unusedZero m) four in
     let two = left (p && q) (statesSmall m) three in
     let l = eqb-true (length (m .states)) 8 (left p q two) in
     record {
       places = l;
       most = leb-true (m .count) 8 (right p q two);
       small = λ i. few i (ltb i 8) refl l (right (p && q) (statesSmall m) three);
-      unused = λ i. zeros i (ltb i 8) refl l (right (p && q && statesSmall m) (unusedZero m) g);
+      unused = λ i. zeros i (ltb i 8) refl l (right (p && q && statesSmall m) (unusedZero m) four);
+      shown = right (p && q && statesSmall m && unusedZero m) (isMark (m .showing)) g;
     }
   where
     few : (i : ℕ) (t : Bool) → ltb i 8 ≡ t → length (m .states) ≡ 8 → statesSmall m ≡ true → at i (m .states) ≤ 7
@@ -55,6 +60,7 @@ memory-again m g =
       le-leb _ _ (g .most),
       each-of (λ i. leb (at i (m .states)) 7) 8 (λ i l. le-leb _ _ (g .small i)),
       each-of (λ i. ltb i (m .count) || eqb (at i (m .states)) 0) 8 (λ i l. either (ltb i (m .count)) _ (λ e. eq-eqb _ _ (g .unused i (ltb-false i (m .count) e)))),
+      g .shown,
     )
 
 -- one state put in, and the first taken out
@@ -86,6 +92,7 @@ remembering-good n m p g =
       most = g .most;
       small = set-small (m .states) 7 n p (g .small);
       unused = λ i h. getD-set-other (m .states) 7 i n 0 (λ s. omega (arith, leb-true 8 (m .count) e)) ∙ g .unused i h;
+      shown = g .shown;
     })
     (λ e.
     record {
@@ -93,28 +100,30 @@ remembering-good n m p g =
       most = omega (arith, leb-false 8 (m .count) e);
       small = set-small (m .states) (m .count) n p (g .small);
       unused = λ i h. getD-set-other (m .states) (m .count) i n 0 (λ s. omega arith) ∙ g .unused i (omega arith);
+      shown = g .shown;
     })
 
 pub shown-good : (m : Memory) → GoodMemory m → GoodMemory (shown m)
 unfolding shown
 shown-good m g =
-    cases GoodMemory (m .showing)
+    cases GoodMemory (showing m)
     (λ e.
     record {
       places = length-append (drop 1 (m .states)) (0 ∷ []) ∙ omega (arith, length-drop 1 (m .states), g .places);
       most = omega (arith, g .most);
       small = λ i. rw (moved-up (m .states) i) (g .small (suc i));
       unused = λ i h. moved-up (m .states) i ∙ g .unused (suc i) (omega arith);
+      shown = refl;
     })
     (λ e. g)
 
 pub hidden-good : (m : Memory) → GoodMemory m → GoodMemory (hidden m)
 unfolding hidden
-hidden-good m g = record { places = g .places; most = g .most; small = g .small; unused = g .unused }
+hidden-good m g = record { places = g .places; most = g .most; small = g .small; unused = g .unused; shown = refl }
 
 pub showing-good : (m : Memory) → GoodMemory m → GoodMemory (showingFirst m)
 unfolding showingFirst
-showing-good m g = record { places = g .places; most = g .most; small = g .small; unused = g .unused }
+showing-good m g = record { places = g .places; most = g .most; small = g .small; unused = g .unused; shown = mark-stands (anyRemembered m) }
 
 -- what is remembered, as a list
 drop-take : (c : ℕ) (l : List ℕ) → take (c - 1) (drop 1 l) ≡ drop 1 (take c l)
@@ -136,9 +145,9 @@ unfolding remembered hidden
 remembered-hidden m = refl
 
 -- a report that showed none of them removes none
-pub shown-none : (m : Memory) → m .showing ≡ false → shown m ≡ m
+pub shown-none : (m : Memory) → showing m ≡ false → shown m ≡ m
 unfolding shown
-shown-none m e = ap (λ (t : Bool). cond t (memory (drop 1 (m .states) ++ (0 ∷ [])) (m .count - 1) false) m) e
+shown-none m e = ap (λ (t : Bool). cond t (memory (drop 1 (m .states) ++ (0 ∷ [])) (m .count - 1) 0) m) e
 
 module _ (m : Memory) (g : goodMemory m ≡ true) where
   pub remembered-length : length (remembered m) ≡ m .count
@@ -163,7 +172,7 @@ module _ (m : Memory) (g : goodMemory m ≡ true) where
       rw (e, c, take-take 7 8 (m .states) (omega arith)) (take-suc-set (m .states) 7 n l)
 
   -- "until the report's last byte has gone"
-  pub remembered-shown : m .showing ≡ true → remembered (shown m) ≡ drop 1 (remembered m)
+  pub remembered-shown : showing m ≡ true → remembered (shown m) ≡ drop 1 (remembered m)
   unfolding remembered shown
   remembered-shown e =
       let p = memory-parts m g in

@@ -17,7 +17,7 @@ use Rattle.wire.specs.Numbers.{badState, badButtons}
 use Rattle.wire.specs.Holds.{_to_, within}
 use Rattle.wire.specs.declared.Format.the-variants.{Absolute}
 use Rattle.ballbox.specs.Thrown.{excesses, noExcess, sums, noSums, added}
-use Rattle.ballbox.specs.Box.{Step, freshBox, withSums, refused}
+use Rattle.ballbox.specs.Box.{Step, freshBox, withSums, refused, dormant}
 use Rattle.ballbox.specs.Presses.{toShow}
 use Rattle.ballbox.specs.Motion.{counted, countedOver}
 use Rattle.ballbox.specs.Latching.{limits, limited, limitExcess, movement, taken, takenOver, latchedReport, latched, secondLatched}
@@ -36,6 +36,7 @@ use Rattle.ballbox.specs.declared.Command.the-variants.{SetFormat, SetSt
 use Rattle.ballbox.specs.declared.Event.{Event}
 use Rattle.ballbox.specs.declared.Event.the-variants.{Motion, Buttons, Host, Latch, Send, Period}
 use Rattle.ballbox.specs.declared.Stepped.{Stepped}
+use Rattle.ballbox.proofs.Single.{says}
 
 -- a movement that is limited, and its excess, are the movement
 pub taken-whole : (letter : ℕ) (t : Track) →
@@ -156,7 +157,7 @@ module _ (b : BallBox) (h : areLong (b .sums) ≡ true) where
 
   pub stepped-sums : (e : Event) → stepOf b e .next .sums ≡ addedUp (b .sums) (thrown b e)
   unfolding stepOf thrown
-  stepped-sums e = ruled-sums e (not (good b)) (aboveSeven e) (b .dormant) _ _ refl refl
+  stepped-sums e = ruled-sums e (not (good b)) (aboveSeven e) (dormant b) _ _ refl refl
 
   -- and a 64-bit number as before
   pub stepped-long : (e : Event) → areLong (stepOf b e .next .sums) ≡ true
@@ -167,7 +168,7 @@ unfolding freshBox
 fresh-sums b f = ap (λ (x : BallBox). x .sums) f
 
 pub sums-after : (b : BallBox) (e : Event) (r : Stepped) → StepPromise b e r → areLong (b .sums) ≡ true → r .next .sums ≡ addedUp (b .sums) (thrown b e)
-sums-after b e r s h = ap (λ (a : Step). a .next .sums) s ∙ stepped-sums b h e
+sums-after b e r s h = ap (λ (a : Stepped). a .next .sums) s ∙ stepped-sums b h e
 
 -- "The line words stay as they are": but for the sums a step tells no two boxes apart that differ in them alone
 either-box : (t : Bool) (x y x′ y′ : BallBox) → butSums x ≡ butSums x′ → butSums y ≡ butSums y′ → butSums (cond t x y) ≡ butSums (cond t x′ y′)
@@ -227,8 +228,8 @@ module _ (b : BallBox) where
   unfolding stepOf good
   step-blind e =
       either-step (not (good b)) _ _ _ _ (refused-blind badState)
-      (either-step (aboveSeven e) _ _ _ _ (refused-blind badButtons) (either-step (b .dormant) _ _ _ _ (asleep-blind e) (awake-blind e)))
+      (either-step (aboveSeven e) _ _ _ _ (refused-blind badButtons) (either-step (dormant b) _ _ _ _ (asleep-blind e) (awake-blind e)))
 
 pub words-stay : (b c : BallBox) (e : Event) (r s : Stepped) → butSums b ≡ butSums c → StepPromise b e r → StepPromise c e s → seen (outcome r) ≡ seen (outcome s)
 words-stay b c e r s k p q =
-    ap seen p ∙ (step-blind b e ∙ (ap (λ (x : BallBox). seen (stepOf x e)) k ∙ (sym (step-blind c e) ∙ sym (ap seen q))))
+    ap seen (says b e r p) ∙ (step-blind b e ∙ (ap (λ (x : BallBox). seen (stepOf x e)) k ∙ (sym (step-blind c e) ∙ sym (ap seen (says c e s q)))))

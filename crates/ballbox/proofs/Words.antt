@@ -20,7 +20,7 @@ use Rattle.wire.specs.declared.Format.the-variants.{Mm, Microsoft, Absolute, Re
 use Rattle.wire.specs.declared.Report.{Report}
 use Rattle.wire.proofs.Letters.{letter-named}
 use Rattle.wire.proofs.Codec.{bytes-below}
-use Rattle.ballbox.specs.Box.{freshBox, modeO, modeD, Step, nothing, goingFrom, Bytes, FiveBytes, withGoing, withMemory}
+use Rattle.ballbox.specs.Box.{freshBox, modeO, modeD, Step, nothing, goingFrom, Bytes, FiveBytes, withGoing, withMemory, dormant}
 use Rattle.ballbox.specs.Presses.{hidden}
 use Rattle.ballbox.specs.Latching.{taken, latchedReport, latched, secondOnly, withSecond, secondLatched}
 use Rattle.ballbox.specs.Commands.{isStream, codeOf, codeByte, commandOf, replyTo, obeyed}
@@ -34,6 +34,7 @@ use Rattle.ballbox.specs.declared.Command.the-variants.{SetFormat, SetSt
 use Rattle.ballbox.specs.declared.Event.{Event}
 use Rattle.ballbox.specs.declared.Event.the-variants.{Motion, Buttons, Host, Latch, Send, Period}
 use Rattle.ballbox.specs.declared.Stepped.{Stepped}
+use Rattle.ballbox.proofs.Single.{says}
 use Rattle.ballbox.proofs.Letters.{Lettered, named, unnamed, lettered}
 use Rattle.ballbox.proofs.Accepting.{latched-accepted, second-accepted}
 use Rattle.ballbox.proofs.Obeying.{goingOr, obeyed-going}
@@ -46,7 +47,7 @@ breaks : (n : ℕ) (b : BallBox) (w : ℕ) (ws : List ℕ) → onHost n b .words
 unfolding onHost
 breaks n b w ws = cases (λ (x : List ℕ). x ≡ w ∷ ws → bytesLeft b ≡ true) (bytesLeft b) (λ l e. l) (λ l. no-word)
 
-awake-speaks : (b : BallBox) (e : Event) (w : ℕ) (ws : List ℕ) → b .dormant ≡ false → awake b e .words ≡ w ∷ ws → Speaks b e
+awake-speaks : (b : BallBox) (e : Event) (w : ℕ) (ws : List ℕ) → dormant b ≡ false → awake b e .words ≡ w ∷ ws → Speaks b e
 unfolding awake
 awake-speaks b (Motion dx dy) w ws d = no-word
 awake-speaks b (Buttons n) w ws d = no-word
@@ -69,14 +70,14 @@ unfolding stepOf
 speaks b e w ws =
     cases Says (not (good b)) (λ g. no-word)
     (λ g. cases Says (aboveSeven e) (λ l. no-word)
-    (λ l. cases Says (b .dormant) (λ d. asleep-speaks b e w ws) (λ d. awake-speaks b e w ws d)))
+    (λ l. cases Says (dormant b) (λ d. asleep-speaks b e w ws) (λ d. awake-speaks b e w ws d)))
   where
     Says : Step → Type 0
     Says x = x .words ≡ w ∷ ws → Speaks b e
 
 -- "Only" Send, "and Host when it breaks off, give a word; the other steps give none."
-pub only-send-and-host : (b : BallBox) (e : Event) (r : Stepped) (w : ℕ) (ws : List ℕ) → StepPromise b e r → sentWords (r .sent) ≡ w ∷ ws → Speaks b e
-only-send-and-host b e r w ws s h = speaks b e w ws (sym (ap (λ (x : Step). x .words) s) ∙ h)
+pub only-send-and-host : (b : BallBox) (e : Event) (r : Stepped) (w : ℕ) (ws : List ℕ) → StepPromise b e r → sentWords r ≡ w ∷ ws → Speaks b e
+only-send-and-host b e r w ws s h = speaks b e w ws (sym (ap (λ (x : Step). x .words) (says b e r s)) ∙ h)
 
 -- bytes, place by place and part by part
 bytes-at : (bs : List ℕ) (i : ℕ) → Bytes bs → at i bs < 256
@@ -267,14 +268,14 @@ unfolding stepOf lineWords
 step-sound b e h =
     cases Sound (not (good b)) (λ g. record { bytes = h; legal = refl })
     (λ g. cases Sound (aboveSeven e) (λ l. record { bytes = h; legal = refl })
-    (λ l. cases Sound (b .dormant) (λ d. asleep-sound b e h) (λ d. awake-sound b e (not-false (good b) g) h)))
+    (λ l. cases Sound (dormant b) (λ d. asleep-sound b e h) (λ d. awake-sound b e (not-false (good b) g) h)))
 
 pub fresh-bytes : (b : BallBox) → FreshPromise b → FiveBytes (b .going)
 unfolding freshBox
 fresh-bytes b e = subst (λ (x : BallBox). FiveBytes (x .going)) (sym e) nothing-five
 
 pub step-bytes : (b : BallBox) (e : Event) (r : Stepped) → StepPromise b e r → FiveBytes (b .going) → FiveBytes (r .next .going)
-step-bytes b e r s h = subst (λ (a : Step). FiveBytes (a .next .going)) (sym s) (step-sound b e h .bytes)
+step-bytes b e r s h = subst (λ (a : Stepped). FiveBytes (a .next .going)) (sym s) (step-sound b e h .bytes)
 
-pub words-legal : (b : BallBox) (e : Event) (r : Stepped) → StepPromise b e r → FiveBytes (b .going) → lineWords (sentWords (r .sent)) ≡ true
-words-legal b e r s h = ap (λ (a : Step). lineWords (a .words)) s ∙ step-sound b e h .legal
+pub words-legal : (b : BallBox) (e : Event) (r : Stepped) → StepPromise b e r → FiveBytes (b .going) → lineWords (sentWords r) ≡ true
+words-legal b e r s h = ap (λ (a : Step). lineWords (a .words)) (says b e r s) ∙ step-sound b e h .legal

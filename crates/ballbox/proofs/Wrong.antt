@@ -10,7 +10,7 @@ use Rattle.frames.specs.Words.{silence}
 use Rattle.wire.specs.Line.{namedBy, sizeBy, known}
 use Rattle.wire.specs.Reading.{at}
 use Rattle.wire.specs.Numbers.{success, badState}
-use Rattle.ballbox.specs.Box.{modeD, pair, zeros, freshBox, withTrack, withMemory, withMode, withButtons, withDue, Step}
+use Rattle.ballbox.specs.Box.{modeD, pair, zeros, freshBox, withTrack, withMemory, withMode, withButtons, withDue, Step, due}
 use Rattle.ballbox.specs.Presses.{none, remembering, showingFirst}
 use Rattle.ballbox.specs.Thrown.{noSums, added}
 use Rattle.ballbox.specs.Motion.{countedOver, apart, hasMoved}
@@ -23,7 +23,6 @@ use Rattle.ballbox.specs.declared.BallBox.{BallBox}
 use Rattle.ballbox.specs.declared.Event.the-variants.{Motion, Buttons, Host, Latch, Send}
 use Rattle.ballbox.specs.declared.Memory.{Memory}
 use Rattle.ballbox.specs.declared.Sums.{Sums}
-use Rattle.ballbox.specs.declared.Sent.the-variants.{Nothing, Word}
 use Rattle.ballbox.specs.declared.Stepped.{Stepped}
 
 -- a fresh box in mode D; and one with a report due
@@ -33,29 +32,29 @@ fresh-in-prompt e = omega (arith, ap (λ (b : BallBox). b .settings .mode) e)
 
 pub fresh-due : FreshPromise (withDue true freshBox) → ⊥
 unfolding freshBox
-fresh-due e = subst T (ap (λ (b : BallBox). b .due) e) tt
+fresh-due e = subst T (ap due e) tt
 
 -- Send of a fresh box that gives no word; and Latch that gives one
 abbrev silently : BallBox → Stepped
-silently b = record { refusal = success; next = b; sent = Nothing }
+silently b = record { refusal = success; sent = 0; word = 0; rest = 0; next = b }
 
 pub send-no-word : StepPromise freshBox Send (silently freshBox) → ⊥
 unfolding stepOf freshBox good goodSettings goodTrack goodGoing goodMemory awake sending namedBy sizeBy known
-send-no-word e = omega (arith, ap (λ (s : Step). length (s .words)) e)
+send-no-word e = omega (arith, ap (λ (s : Stepped). s .sent) e)
 
-pub latch-silent : StepPromise freshBox Latch (record { refusal = success; next = freshBox; sent = Word silence }) → ⊥
+pub latch-silent : StepPromise freshBox Latch (record { refusal = success; sent = 1; word = silence; rest = 0; next = freshBox }) → ⊥
 unfolding stepOf freshBox good goodSettings goodTrack goodGoing goodMemory awake latching hasMoved apart namedBy sizeBy known
-latch-silent e = omega (arith, ap (λ (s : Step). length (s .words)) e)
+latch-silent e = omega (arith, ap (λ (s : Stepped). s .sent) e)
 
 -- P that leaves the mode's letter P
 pub prompt-says-P : StepPromise freshBox (Host letterP) (silently (withMode letterP (withDue true freshBox))) → ⊥
 unfolding stepOf freshBox good goodSettings goodTrack goodGoing goodMemory awake onHost dropped commandOf obeyed namedBy sizeBy known
-prompt-says-P e = omega (arith, ap (λ (s : Step). s .next .settings .mode) e)
+prompt-says-P e = omega (arith, ap (λ (s : Stepped). s .next .settings .mode) e)
 
 -- buttons 9 refused with 6
-pub nine-refused-6 : StepPromise freshBox (Buttons 9) (record { refusal = badState; next = freshBox; sent = Nothing }) → ⊥
+pub nine-refused-6 : StepPromise freshBox (Buttons 9) (record { refusal = badState; sent = 0; word = 0; rest = 0; next = freshBox }) → ⊥
 unfolding stepOf freshBox good goodSettings goodTrack goodGoing goodMemory namedBy sizeBy known
-nine-refused-6 e = omega (arith, ap (λ (s : Step). s .refusal) e)
+nine-refused-6 e = omega (arith, ap (λ (s : Stepped). s .refusal) e)
 
 -- a press in a stream mode that makes a report due instead of being remembered; and one that is not remembered
 abbrev pressed : BallBox
@@ -63,11 +62,11 @@ pressed = withButtons 4 (withMemory (remembering 4 none) freshBox)
 
 pub press-due : StepPromise freshBox (Buttons 4) (silently (withButtons 4 (withDue true freshBox))) → ⊥
 unfolding stepOf freshBox good goodSettings goodTrack goodGoing goodMemory awake onButtons remembering namedBy sizeBy known
-press-due e = omega (arith, ap (λ (s : Step). s .next .memory .count) e)
+press-due e = omega (arith, ap (λ (s : Stepped). s .next .memory .count) e)
 
 pub press-forgotten : StepPromise freshBox (Buttons 4) (silently (withButtons 4 freshBox)) → ⊥
 unfolding stepOf freshBox good goodSettings goodTrack goodGoing goodMemory awake onButtons remembering namedBy sizeBy known
-press-forgotten e = omega (arith, ap (λ (s : Step). s .next .memory .count) e)
+press-forgotten e = omega (arith, ap (λ (s : Stepped). s .next .memory .count) e)
 
 -- a fresh box called bad; one whose buttons are 8, and one that remembers a state in prompt mode, called good
 pub good-refuses-fresh : GoodPromise freshBox false → ⊥
@@ -82,10 +81,15 @@ pub good-in-prompt : GoodPromise (withMode modeD pressed) true → ⊥
 unfolding freshBox good goodSettings goodTrack goodGoing goodMemory remembering namedBy sizeBy known
 good-in-prompt e = subst T e tt
 
+-- nor is a mark of 2 one of a good box
+pub good-due-two : GoodPromise (record { settings = freshBox .settings; track = freshBox .track; going = freshBox .going; memory = freshBox .memory; sums = freshBox .sums; due = 2; dormant = 0 }) true → ⊥
+unfolding freshBox good goodSettings goodTrack goodGoing goodMemory namedBy sizeBy known
+good-due-two e = subst T e tt
+
 -- D that keeps the memory
 pub prompt-remembers : StepPromise pressed (Host modeD) (silently (withMode modeD pressed)) → ⊥
 unfolding stepOf freshBox good goodSettings goodTrack goodGoing goodMemory awake onHost dropped commandOf obeyed remembering namedBy sizeBy known
-prompt-remembers e = omega (arith, ap (λ (s : Step). s .next .memory .count) e)
+prompt-remembers e = omega (arith, ap (λ (s : Stepped). s .next .memory .count) e)
 
 -- a counter at its end that throws away what it is given, and adds up none of it
 abbrev full : BallBox
@@ -93,13 +97,13 @@ full = withTrack (record { counter = pair most (pos 0); position = zeros; last =
 
 pub excess-forgotten : (b : BallBox) → b .sums ≡ noSums → StepPromise full (Motion (pos 5) (pos 0)) (silently b) → ⊥
 unfolding stepOf freshBox good goodSettings goodTrack goodGoing goodMemory awake countedOver sumExcess excess added heldLong held namedBy sizeBy known
-excess-forgotten b f e = omega (arith, sym (ap (λ (s : Sums). natAbs (s .counter .x)) f) ∙ ap (λ (s : Step). natAbs (s .next .sums .counter .x)) e)
+excess-forgotten b f e = omega (arith, sym (ap (λ (s : Sums). natAbs (s .counter .x)) f) ∙ ap (λ (s : Stepped). natAbs (s .next .sums .counter .x)) e)
 
 -- a report that removes the state when it is latched; and Send that latches one
 pub removed-early : (b : BallBox) → b .memory ≡ none → StepPromise pressed Latch (silently b) → ⊥
 unfolding stepOf freshBox good goodSettings goodTrack goodGoing goodMemory awake latching latched remembering showingFirst namedBy sizeBy known
-removed-early b f e = omega (arith, sym (ap (λ (m : Memory). m .count) f) ∙ ap (λ (s : Step). s .next .memory .count) e)
+removed-early b f e = omega (arith, sym (ap (λ (m : Memory). m .count) f) ∙ ap (λ (s : Stepped). s .next .memory .count) e)
 
-pub send-latches : (b : BallBox) → StepPromise pressed Send (record { refusal = success; next = b; sent = Word 0x83 }) → ⊥
+pub send-latches : (b : BallBox) → StepPromise pressed Send (record { refusal = success; sent = 1; word = 0x83; rest = 0; next = b }) → ⊥
 unfolding stepOf freshBox good goodSettings goodTrack goodGoing goodMemory awake sending remembering namedBy sizeBy known
-send-latches b e = omega (arith, ap (λ (s : Step). at 0 (s .words)) e)
+send-latches b e = omega (arith, ap (λ (s : Stepped). s .word) e)

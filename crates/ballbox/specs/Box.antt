@@ -1,13 +1,14 @@
 -- The box with one of its parts replaced, a fresh box, and what a step hands back.
 use Prim.Native.Nat.{ℕ, _<_}
 use mathlib.Core.Path.{_≡_}
-use mathlib.Core.Bool.{Bool, false}
+use mathlib.Core.Bool.{Bool}
 use mathlib.Core.List.{List, [], _∷_}
 use lib.IntN.{ℤ, pos}
 use lib.ListN.{length}
 use Rattle.wire.specs.Line.{letterOf}
 use Rattle.wire.specs.Table.{five}
 use Rattle.wire.specs.declared.Format.the-variants.{FiveByte}
+use Rattle.ballbox.specs.Marks.{mark, marked}
 use Rattle.ballbox.specs.Presses.{none}
 use Rattle.ballbox.specs.Thrown.{sums, noSums, added}
 use Rattle.ballbox.specs.declared.Pair.{Pair}
@@ -18,6 +19,14 @@ use Rattle.ballbox.specs.declared.Memory.{Memory}
 use Rattle.ballbox.specs.declared.Excess.{Excess}
 use Rattle.ballbox.specs.declared.Sums.{Sums}
 use Rattle.ballbox.specs.declared.BallBox.{BallBox}
+
+-- a report is due
+abbrev pub due : BallBox → Bool
+due b = marked (b .due)
+
+-- the box is dormant
+abbrev pub dormant : BallBox → Bool
+dormant b = marked (b .dormant)
 
 abbrev pub withSettings : Settings → BallBox → BallBox
 withSettings s b = record { settings = s; track = b .track; going = b .going; memory = b .memory; sums = b .sums; due = b .due; dormant = b .dormant }
@@ -35,10 +44,10 @@ abbrev pub withSums : Sums → BallBox → BallBox
 withSums s b = record { settings = b .settings; track = b .track; going = b .going; memory = b .memory; sums = s; due = b .due; dormant = b .dormant }
 
 abbrev pub withDue : Bool → BallBox → BallBox
-withDue d b = record { settings = b .settings; track = b .track; going = b .going; memory = b .memory; sums = b .sums; due = d; dormant = b .dormant }
+withDue d b = record { settings = b .settings; track = b .track; going = b .going; memory = b .memory; sums = b .sums; due = mark d; dormant = b .dormant }
 
 abbrev pub withDormant : Bool → BallBox → BallBox
-withDormant d b = record { settings = b .settings; track = b .track; going = b .going; memory = b .memory; sums = b .sums; due = b .due; dormant = d }
+withDormant d b = record { settings = b .settings; track = b .track; going = b .going; memory = b .memory; sums = b .sums; due = b .due; dormant = mark d }
 
 abbrev pub withFormat : ℕ → BallBox → BallBox
 withFormat f b = withSettings (record { format = f; mode = b .settings .mode; buttons = b .settings .buttons }) b
@@ -97,8 +106,8 @@ freshBox =
       going = nothing;
       memory = none;
       sums = noSums;
-      due = false;
-      dormant = false;
+      due = 0;
+      dormant = 0;
     }
 
 -- what a step hands back: the number given back, the box, and the words, of which there is one or none

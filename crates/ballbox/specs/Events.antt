@@ -10,7 +10,7 @@ use Rattle.wire.specs.Line.{letterOf}
 use Rattle.wire.specs.Numbers.{success}
 use Rattle.wire.specs.Reading.{at}
 use Rattle.wire.specs.declared.Format.the-variants.{FiveByte}
-use Rattle.ballbox.specs.Box.{modeO, nothing, withButtons, withTrack, withGoing, withMemory, withDue, withDormant, overCounter, Step}
+use Rattle.ballbox.specs.Box.{modeO, nothing, withButtons, withTrack, withGoing, withMemory, withDue, withDormant, overCounter, Step, dormant, due}
 use Rattle.ballbox.specs.Presses.{anyRemembered, remembering, shown, hidden}
 use Rattle.ballbox.specs.Motion.{countedOver, movedBy, hasMoved}
 use Rattle.ballbox.specs.Latching.{latched, secondLatched}
@@ -45,7 +45,7 @@ onButtons n b =
 
 -- Period: "In modes J K L R M Q N, if moved, a report is due."
 unfoldable pub onPeriod : BallBox → BallBox
-onPeriod b = withDue (b .due || (isTimed (b .settings .mode) && moved b)) b
+onPeriod b = withDue (due b || (isTimed (b .settings .mode) && moved b)) b
 
 -- "bytes are left"
 abbrev pub bytesLeft : BallBox → Bool
@@ -53,7 +53,7 @@ bytesLeft b = ltb (b .going .sent) (b .going .length)
 
 -- "a report is due, or mode is O and the box has moved"; "While any state is remembered a report counts as due"
 abbrev pub wanted : BallBox → Bool
-wanted b = b .due || anyRemembered (b .memory) || (eqb (b .settings .mode) modeO && moved b)
+wanted b = due b || anyRemembered (b .memory) || (eqb (b .settings .mode) modeO && moved b)
 
 -- Latch: "which does the latching when nothing is going and sends no word"
 unfoldable pub latching : BallBox → BallBox
@@ -122,7 +122,7 @@ asleep b Period = quietly b
 abbrev pub Speaks : BallBox → Event → Type 0
 Speaks b (Motion dx dy) = ⊥
 Speaks b (Buttons n) = ⊥
-Speaks b (Host n) = (b .dormant ≡ false) × (bytesLeft b ≡ true)
+Speaks b (Host n) = (dormant b ≡ false) × (bytesLeft b ≡ true)
 Speaks b Latch = ⊥
 Speaks b Send = Unit {0}
 Speaks b Period = ⊥

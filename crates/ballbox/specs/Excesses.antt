@@ -4,7 +4,7 @@ use lib.IntN.{ℤ}
 use lib.Signed.{leZ}
 use Rattle.numbers.specs.Signed.{leastLong, mostLong}
 use Rattle.ballbox.specs.Thrown.{noExcess, sums, noSums, added}
-use Rattle.ballbox.specs.Box.{Step, withSums}
+use Rattle.ballbox.specs.Box.{Step, withSums, dormant}
 use Rattle.ballbox.specs.Motion.{countedOver}
 use Rattle.ballbox.specs.Latching.{takenOver}
 use Rattle.ballbox.specs.Events.{bytesLeft, wanted, secondNow}
@@ -36,7 +36,7 @@ counterThrows b Period = noExcess
 
 -- "the two kinds apart"; a refused event and a dormant box throw nothing away
 unfoldable pub thrown : BallBox → Event → Sums
-thrown b e = cond (not (good b) || aboveSeven e || b .dormant) noSums (sums (limitThrows b e) (counterThrows b e))
+thrown b e = cond (not (good b) || aboveSeven e || dormant b) noSums (sums (limitThrows b e) (counterThrows b e))
 
 -- four sums, each with the excess of a step added and held at the ends
 abbrev pub addedUp : Sums → Sums → Sums

@@ -9,8 +9,9 @@ use Rattle.wire.specs.Line.{letterOf, sizeBy, known}
 use Rattle.wire.specs.Holds.{_to_, within}
 use Rattle.wire.specs.Reading.{at}
 use Rattle.wire.specs.declared.Format.the-variants.{FiveByte}
-use Rattle.ballbox.specs.Box.{modeD}
-use Rattle.ballbox.specs.Presses.{anyRemembered}
+use Rattle.ballbox.specs.Marks.{isMark}
+use Rattle.ballbox.specs.Box.{modeD, due, dormant}
+use Rattle.ballbox.specs.Presses.{anyRemembered, showing}
 use Rattle.ballbox.specs.Commands.{isStream}
 use Rattle.ballbox.specs.declared.Pair.{Pair}
 use Rattle.ballbox.specs.declared.Settings.{Settings}
@@ -55,9 +56,9 @@ goodGoing letter g = sentBelow g && lengthKnown letter g && secondHeld letter g 
 
 -- "dormant only with nothing going or due"
 abbrev pub dormantRightly : BallBox → Bool
-dormantRightly b = not (b .dormant) || (eqb (b .going .length) 0 && not (b .due))
+dormantRightly b = not (dormant b) || (eqb (b .going .length) 0 && not (due b))
 
--- at most eight states are remembered, in eight places, each 0 to 7, the unused places 0
+-- at most eight states are remembered, in eight places, each 0 to 7, the unused places 0; whether the first is shown is 0 or 1
 abbrev pub statesSmall : Memory → Bool
 statesSmall m = each (λ i. leb (at i (m .states)) 7) 8
 
@@ -65,17 +66,21 @@ abbrev pub unusedZero : Memory → Bool
 unusedZero m = each (λ i. ltb i (m .count) || eqb (at i (m .states)) 0) 8
 
 unfoldable pub goodMemory : Memory → Bool
-goodMemory m = eqb (length (m .states)) 8 && leb (m .count) 8 && statesSmall m && unusedZero m
+goodMemory m = eqb (length (m .states)) 8 && leb (m .count) 8 && statesSmall m && unusedZero m && isMark (m .showing)
 
 -- "prompt mode remembers nothing", nor does a dormant box
 abbrev pub remembersRightly : BallBox → Bool
-remembersRightly b = not (anyRemembered (b .memory)) || (not (b .dormant) && isStream (b .settings .mode))
+remembersRightly b = not (anyRemembered (b .memory)) || (not (dormant b) && isStream (b .settings .mode))
 
 -- what is going shows the first only with one remembered, and as long as a report
 abbrev pub showsRightly : ℕ → Going → Memory → Bool
-showsRightly letter g m = not (m .showing) || (anyRemembered m && eqb (g .length) (sizeBy letter))
+showsRightly letter g m = not (showing m) || (anyRemembered m && eqb (g .length) (sizeBy letter))
+
+-- whether a report is due, and whether the box is dormant, are 0 or 1
+abbrev pub marks : BallBox → Bool
+marks b = isMark (b .due) && isMark (b .dormant)
 
 unfoldable pub good : BallBox → Bool
 good b =
     goodSettings (b .settings) && goodTrack (b .track) && goodGoing (b .settings .format) (b .going) && dormantRightly b && goodMemory (b .memory) &&
-    remembersRightly b && showsRightly (b .settings .format) (b .going) (b .memory)
+    remembersRightly b && showsRightly (b .settings .format) (b .going) (b .memory) && marks b

@@ -1,5 +1,6 @@
 -- The ball box, heading by heading of the papers: "The box, event by event" (Box, Motion, Latching, Commands, Events), "Presses that outlive a
 -- busy line" (Presses), "Show what the limit threw away" (Thrown, Excesses), "Good box" (Good), and what the functions promise (Promises).
+pub mod Marks
 pub mod Presses
 pub mod Thrown
 pub mod Box
@@ -7,6 +8,7 @@ pub mod Motion
 pub mod Latching
 pub mod Commands
 pub mod Events
+pub mod Numbers
 pub mod Good
 pub mod Promises
 pub mod Excesses

@@ -5,23 +5,37 @@ use mathlib.Core.Bool.{Bool, false, not, cond}
 use mathlib.Core.List.{List, [], _∷_}
 use lib.Dec.{ltb}
 use Rattle.wire.specs.Numbers.{badState, badButtons, RefusesRightly}
-use Rattle.ballbox.specs.Box.{Step, freshBox, refused}
+use Rattle.ballbox.specs.Marks.{marked}
+use Rattle.ballbox.specs.Box.{Step, freshBox, refused, dormant}
 use Rattle.ballbox.specs.Events.{awake, asleep}
 use Rattle.ballbox.specs.Good.{good}
 use Rattle.ballbox.specs.declared.BallBox.{BallBox}
 use Rattle.ballbox.specs.declared.Event.{Event}
 use Rattle.ballbox.specs.declared.Event.the-variants.{Motion, Buttons, Host, Latch, Send, Period}
-use Rattle.ballbox.specs.declared.Sent.{Sent}
-use Rattle.ballbox.specs.declared.Sent.the-variants.{Nothing, Word}
 use Rattle.ballbox.specs.declared.Stepped.{Stepped}
 
--- for each case of what is sent, the paper's words: none, or the word
-abbrev pub sentWords : Sent → List ℕ
-sentWords Nothing = []
-sentWords (Word w) = w ∷ []
+-- the words of a step, of which there is one or none, as a count and a word, 0 where there is none
+abbrev pub countOf : List ℕ → ℕ
+countOf [] = 0
+countOf (w ∷ words) = 1
+
+abbrev pub wordOf : List ℕ → ℕ
+wordOf [] = 0
+wordOf (w ∷ words) = w
+
+-- a step as the program hands it back
+abbrev pub stepped : Step → Stepped
+stepped a = record { refusal = a .refusal; sent = countOf (a .words); word = wordOf (a .words); rest = 0; next = a .next }
+
+-- and read again
+abbrev pub wordsOf : ℕ → ℕ → List ℕ
+wordsOf sent word = cond (marked sent) (word ∷ []) []
+
+abbrev pub sentWords : Stepped → List ℕ
+sentWords r = wordsOf (r .sent) (r .word)
 
 abbrev pub outcome : Stepped → Step
-outcome r = record { refusal = r .refusal; next = r .next; words = sentWords (r .sent) }
+outcome r = record { refusal = r .refusal; next = r .next; words = sentWords r }
 
 -- "buttons above 7"
 abbrev pub aboveSeven : Event → Bool
@@ -37,7 +51,7 @@ unfoldable pub stepOf : BallBox → Event → Step
 stepOf b e =
     cond (not (good b)) (refused badState b)
     (cond (aboveSeven e) (refused badButtons b)
-    (cond (b .dormant) (asleep b e) (awake b e)))
+    (cond (dormant b) (asleep b e) (awake b e)))
 
 -- the box's refusals: each "returns the old state [..], no word"
 abbrev pub StepRefusal : BallBox → Step → Type 0
@@ -53,4 +67,4 @@ GoodPromise b answer = answer ≡ good b
 
 -- the promise of `step`
 abbrev pub StepPromise : BallBox → Event → Stepped → Type 0
-StepPromise b e r = outcome r ≡ stepOf b e
+StepPromise b e r = r ≡ stepped (stepOf b e)

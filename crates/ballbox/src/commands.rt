@@ -114,7 +114,7 @@ impl BallBox {
         self.settings.format = letter;
         self.track = track.cleared();
         self.memory = none();
-        self.due = false;
+        self.due = 0;
         self
     }
 
@@ -131,7 +131,7 @@ impl BallBox {
     {
         self.settings.mode = MODE_D;
         self.memory = none();
-        self.due = due;
+        self.due = due as u8;
         self
     }
 
@@ -153,8 +153,8 @@ impl BallBox {
         ensures { λ r. ⌜ r ≡ withDormant true (withMemory none (withDue false self)) ⌝ }
     {
         self.memory = none();
-        self.dormant = true;
-        self.due = false;
+        self.dormant = 1;
+        self.due = 0;
         self
     }
 

@@ -1,22 +1,18 @@
 // The six events, awake and dormant.
 ghost use mathlib.Core.Path.{_≡_};
-ghost use mathlib.Core.Bool.{true};
 ghost use mathlib.Core.List.{[], _∷_};
 ghost use Prim.Native.Nat.{_≤_, _<_};
-ghost use Rattle.ballbox.specs.Events.{gives, quietly, moved, onMotion, onButtons, onPeriod, bytesLeft, wanted, latching, withByteReady, moreBehind, after, memoryAfter, nextByte, sending, dropped, onHost, woken, awake, asleep};
-ghost use Rattle.ballbox.specs.Good.{good};
+ghost use Rattle.ballbox.specs.Events.{gives, quietly, moved, onMotion, onButtons, onPeriod, bytesLeft, wanted, latching, withByteReady, moreBehind, after, memoryAfter, nextByte, sending, dropped, onHost, woken};
 ghost use Rattle.ballbox.specs.Presses.{toShow};
-ghost use Rattle.ballbox.specs.Promises.{outcome};
+ghost use Rattle.ballbox.specs.Promises.{stepped};
 use crate::BREAK;
 use crate::BallBox;
-use crate::Event;
 use crate::FORMAT_U;
 use crate::Going;
 use crate::MODE_O;
 use crate::Memory;
 use crate::SILENCE;
 use crate::SUCCESS;
-use crate::Sent;
 use crate::Stepped;
 use crate::Track;
 use crate::commands::ACK;
@@ -63,23 +59,27 @@ impl Memory {
 
 impl BallBox {
     // The box, with no word or with one.
-    fn quietly(self) -> Stepped
-        ensures { λ r. ⌜ outcome r ≡ quietly self ⌝ }
+    pub(crate) fn quietly(self) -> Stepped
+        ensures { λ r. ⌜ r ≡ stepped (quietly self) ⌝ }
     {
         Stepped {
             refusal: SUCCESS,
+            sent: 0,
+            word: 0,
+            rest: 0,
             next: self,
-            sent: Sent::Nothing,
         }
     }
 
     fn gives(self, word: u16) -> Stepped
-        ensures { λ r. ⌜ outcome r ≡ gives (word ∷ []) self ⌝ }
+        ensures { λ r. ⌜ r ≡ stepped (gives (word ∷ []) self) ⌝ }
     {
         Stepped {
             refusal: SUCCESS,
+            sent: 1,
+            word: word,
+            rest: 0,
             next: self,
-            sent: Sent::Word(word),
         }
     }
 
@@ -91,7 +91,7 @@ impl BallBox {
     }
 
     // Each counter takes the sum, and so does the position; the counters' excess is added up.
-    fn on_motion(mut self, dx: i16, dy: i16) -> BallBox
+    pub(crate) fn on_motion(mut self, dx: i16, dy: i16) -> BallBox
         ensures { λ r. ⌜ r ≡ onMotion dx dy self ⌝ }
     {
         let track = self.track;
@@ -112,7 +112,7 @@ impl BallBox {
     }
 
     // A change is kept, and in a stream mode remembered.
-    fn on_buttons(mut self, n: u8) -> BallBox
+    pub(crate) fn on_buttons(mut self, n: u8) -> BallBox
         ensures { λ r. ⌜ r ≡ onButtons n self ⌝ }
     {
         if n == self.settings.buttons {
@@ -127,11 +127,12 @@ impl BallBox {
     }
 
     // In the timed modes, if moved, a report is due.
-    fn on_period(mut self) -> BallBox
+    pub(crate) fn on_period(mut self) -> BallBox
         ensures { λ r. ⌜ r ≡ onPeriod self ⌝ }
     {
         let moved = self.moved();
-        self.due = self.due | (is_timed(self.settings.mode) & moved);
+        let due = (self.due == 1) | (is_timed(self.settings.mode) & moved);
+        self.due = due as u8;
         self
     }
 
@@ -147,11 +148,11 @@ impl BallBox {
     {
         let memory = self.memory;
         let moved = self.moved();
-        self.due | memory.any() | ((self.settings.mode == MODE_O) & moved)
+        (self.due == 1) | memory.any() | ((self.settings.mode == MODE_O) & moved)
     }
 
     // Where no bytes are left and a report is wanted, one is latched.
-    fn latching(self) -> BallBox
+    pub(crate) fn latching(self) -> BallBox
         requires { ⌜ toShow self ≤ 7 ⌝ }
         ensures { λ r. ⌜ r ≡ latching self ⌝ }
     {
@@ -175,7 +176,7 @@ impl BallBox {
 
     fn next_byte(mut self) -> Stepped
         requires { ⌜ self .going .sent < 5 ⌝ }
-        ensures { λ r. ⌜ outcome r ≡ nextByte self ⌝ }
+        ensures { λ r. ⌜ r ≡ stepped (nextByte self) ⌝ }
     {
         let going = self.going;
         let at = going.sent as usize;
@@ -187,9 +188,9 @@ impl BallBox {
     }
 
     // If bytes are left the next goes out, otherwise a silence.
-    fn sending(self) -> Stepped
+    pub(crate) fn sending(self) -> Stepped
         requires { ⌜ self .going .length ≤ 5 ⌝ }
-        ensures { λ r. ⌜ outcome r ≡ sending self ⌝ }
+        ensures { λ r. ⌜ r ≡ stepped (sending self) ⌝ }
     {
         if self.bytes_left() {
             self.with_byte_ready().next_byte()
@@ -211,8 +212,8 @@ impl BallBox {
     }
 
     // Bytes that are left are broken off; then the byte is obeyed.
-    fn on_host(self, byte: u8) -> Stepped
-        ensures { λ r. ⌜ outcome r ≡ onHost byte self ⌝ }
+    pub(crate) fn on_host(self, byte: u8) -> Stepped
+        ensures { λ r. ⌜ r ≡ stepped (onHost byte self) ⌝ }
     {
         let clear = self.dropped();
         let next = clear.obeyed(heard(byte));
@@ -223,39 +224,10 @@ impl BallBox {
     }
 
     // The box wakes, and an ACK is to be sent.
-    fn woken(mut self) -> BallBox
+    pub(crate) fn woken(mut self) -> BallBox
         ensures { λ r. ⌜ r ≡ woken self ⌝ }
     {
-        self.dormant = false;
+        self.dormant = 0;
         self.replying(1, ACK, 0)
-    }
-
-    // An event of a box that is awake.
-    pub(crate) fn awake(self, event: Event) -> Stepped
-        requires { ⌜ good self ≡ true ⌝ }
-        ensures { λ r. ⌜ outcome r ≡ awake self event ⌝ }
-    {
-        match event {
-            Event::Motion(dx, dy) => self.on_motion(dx, dy).quietly(),
-            Event::Buttons(n) => self.on_buttons(n).quietly(),
-            Event::Host(byte) => self.on_host(byte),
-            Event::Latch => self.latching().quietly(),
-            Event::Send => self.sending(),
-            Event::Period => self.on_period().quietly(),
-        }
-    }
-
-    // An event of a box that is dormant: only the host wakes it.
-    pub(crate) fn asleep(self, event: Event) -> Stepped
-        ensures { λ r. ⌜ outcome r ≡ asleep self event ⌝ }
-    {
-        match event {
-            Event::Motion(_, _) => self.quietly(),
-            Event::Buttons(_) => self.quietly(),
-            Event::Host(_) => self.woken().quietly(),
-            Event::Latch => self.quietly(),
-            Event::Send => self.gives(SILENCE),
-            Event::Period => self.quietly(),
-        }
     }
 }

@@ -1,6 +1,8 @@
 // The good box, rule by rule.
 ghost use mathlib.Core.Path.{_≡_};
-ghost use Rattle.ballbox.specs.Good.{goodSettings, onPad, goodTrack, sentBelow, lengthKnown, secondHeld, restZero, goodGoing, dormantRightly, statesSmall, unusedZero, goodMemory, remembersRightly, showsRightly};
+ghost use Prim.Native.Nat.{_+_, _*_, _<_, _^_};
+ghost use Rattle.ballbox.specs.Numbers.{numberFrom};
+ghost use Rattle.ballbox.specs.Good.{goodSettings, onPad, goodTrack, sentBelow, lengthKnown, secondHeld, restZero, goodGoing, dormantRightly, statesSmall, unusedZero, goodMemory, remembersRightly, showsRightly, marks};
 ghost use Rattle.ballbox.specs.Promises.{GoodPromise};
 use crate::BallBox;
 use crate::FORMAT_U;
@@ -13,6 +15,31 @@ use crate::Settings;
 use crate::Track;
 use crate::commands::is_stream;
 use crate::presses::PLACES;
+
+// A byte as a wide number.
+fn wide(byte: u8) -> u64
+    ensures { λ r. ⌜ r ≡ byte ⌝ }
+    ensures bounded { λ r. ⌜ r < 256 ⌝ }
+{
+    byte as u64
+}
+
+// The least number that takes more than n bytes.
+fn above(n: u8) -> u64
+    requires { ⌜ n < 8 ⌝ }
+    ensures { λ r. ⌜ r ≡ 256 ^ n ⌝ }
+{
+    match n {
+        0 => 1,
+        1 => 256,
+        2 => 65536,
+        3 => 16777216,
+        4 => 4294967296,
+        5 => 1099511627776,
+        6 => 281474976710656,
+        _ => 72057594037927936,
+    }
+}
 
 impl Settings {
     // Known letters, and buttons 0 to 7.
@@ -66,25 +93,53 @@ impl Going {
         !(letter == FORMAT_U) | (4 <= self.sent) | ((bytes[3] == 0) & (bytes[4] == 0))
     }
 
+    // The bytes as one number, the first lowest.
+    fn number(self) -> u64
+        ensures { λ r. ⌜ r ≡ numberFrom 5 0 (self .bytes) ⌝ }
+    {
+        let b = self.bytes;
+        wide(b[0])
+            + 256 * wide(b[1])
+            + 65536 * wide(b[2])
+            + 16777216 * wide(b[3])
+            + 4294967296 * wide(b[4])
+    }
+
     fn rest_zero(self) -> bool
         ensures { λ r. ⌜ r ≡ restZero self ⌝ }
     {
-        let bytes = self.bytes;
-        ((0 < self.length) | (bytes[0] == 0))
-            & ((1 < self.length) | (bytes[1] == 0))
-            & ((2 < self.length) | (bytes[2] == 0))
-            & ((3 < self.length) | (bytes[3] == 0))
-            & ((4 < self.length) | (bytes[4] == 0))
+        if 5 <= self.length {
+            return true;
+        }
+        self.number() < above(self.length)
     }
 
     fn good(self, letter: u8) -> bool
         ensures { λ r. ⌜ r ≡ goodGoing letter self ⌝ }
     {
+        if self.length == 0 {
+            return (self.sent == 0) & self.rest_zero();
+        }
         self.sent_below() & self.length_known(letter) & self.second_held(letter) & self.rest_zero()
     }
 }
 
 impl Memory {
+    // The states as one number, the oldest lowest.
+    fn number(self) -> u64
+        ensures { λ r. ⌜ r ≡ numberFrom 8 0 (self .states) ⌝ }
+    {
+        let s = self.states;
+        wide(s[0])
+            + 256 * wide(s[1])
+            + 65536 * wide(s[2])
+            + 16777216 * wide(s[3])
+            + 4294967296 * wide(s[4])
+            + 1099511627776 * wide(s[5])
+            + 281474976710656 * wide(s[6])
+            + 72057594037927936 * wide(s[7])
+    }
+
     fn states_small(self) -> bool
         ensures { λ r. ⌜ r ≡ statesSmall self ⌝ }
     {
@@ -102,29 +157,30 @@ impl Memory {
     fn unused_zero(self) -> bool
         ensures { λ r. ⌜ r ≡ unusedZero self ⌝ }
     {
-        let s = self.states;
-        ((0 < self.count) | (s[0] == 0))
-            & ((1 < self.count) | (s[1] == 0))
-            & ((2 < self.count) | (s[2] == 0))
-            & ((3 < self.count) | (s[3] == 0))
-            & ((4 < self.count) | (s[4] == 0))
-            & ((5 < self.count) | (s[5] == 0))
-            & ((6 < self.count) | (s[6] == 0))
-            & ((7 < self.count) | (s[7] == 0))
+        if 8 <= self.count {
+            return true;
+        }
+        self.number() < above(self.count)
     }
 
-    // At most eight, each 0 to 7, the unused places 0.
+    // At most eight, each 0 to 7, the unused places 0; whether the first is shown is 0 or 1.
     fn good(self) -> bool
         ensures { λ r. ⌜ r ≡ goodMemory self ⌝ }
     {
-        (self.count <= PLACES) & self.states_small() & self.unused_zero()
+        if self.count == 0 {
+            return self.unused_zero() & (self.showing <= 1);
+        }
+        (self.count <= PLACES) & self.states_small() & self.unused_zero() & (self.showing <= 1)
     }
 
     // What is going shows the first only with one remembered, and as long as a report.
     fn shows_rightly(self, letter: u8, going: Going) -> bool
         ensures { λ r. ⌜ r ≡ showsRightly letter going self ⌝ }
     {
-        !self.showing | (self.any() & (going.length as usize == wire::size(letter)))
+        if self.showing != 1 {
+            return true;
+        }
+        self.any() & (going.length as usize == wire::size(letter))
     }
 }
 
@@ -133,7 +189,7 @@ impl BallBox {
     fn dormant_rightly(self) -> bool
         ensures { λ r. ⌜ r ≡ dormantRightly self ⌝ }
     {
-        !self.dormant | ((self.going.length == 0) & !self.due)
+        (self.dormant != 1) | ((self.going.length == 0) & (self.due != 1))
     }
 
     // Remembers only awake and in a stream mode.
@@ -141,7 +197,17 @@ impl BallBox {
         ensures { λ r. ⌜ r ≡ remembersRightly self ⌝ }
     {
         let memory = self.memory;
-        !memory.any() | (!self.dormant & is_stream(self.settings.mode))
+        if !memory.any() {
+            return true;
+        }
+        (self.dormant != 1) & is_stream(self.settings.mode)
+    }
+
+    // Whether a report is due, and whether the box is dormant, are 0 or 1.
+    fn marks(self) -> bool
+        ensures { λ r. ⌜ r ≡ marks self ⌝ }
+    {
+        (self.due <= 1) & (self.dormant <= 1)
     }
 
     // Whether the box is good: a step of any other is refused with 6.
@@ -152,12 +218,27 @@ impl BallBox {
         let track = self.track;
         let going = self.going;
         let memory = self.memory;
-        settings.good()
-            & track.good()
-            & going.good(settings.format)
-            & self.dormant_rightly()
-            & memory.good()
-            & self.remembers_rightly()
-            & memory.shows_rightly(settings.format, going)
+        if !settings.good() {
+            return false;
+        }
+        if !track.good() {
+            return false;
+        }
+        if !going.good(settings.format) {
+            return false;
+        }
+        if !self.dormant_rightly() {
+            return false;
+        }
+        if !memory.good() {
+            return false;
+        }
+        if !self.remembers_rightly() {
+            return false;
+        }
+        if !memory.shows_rightly(settings.format, going) {
+            return false;
+        }
+        self.marks()
     }
 }

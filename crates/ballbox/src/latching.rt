@@ -117,7 +117,7 @@ impl BallBox {
         self.memory = memory.showing_first();
         self.sums = sums.over_limit(taken.excess);
         self.track = track.cleared();
-        self.due = false;
+        self.due = 0;
         self
     }
 

@@ -1,7 +1,8 @@
 // The ball box: counts, buttons and host bytes in, line words out. Here stand its parts, its letters and numbers, and what a user calls.
 ghost use mathlib.Core.Path.{_≡_};
 ghost use Rattle.ballbox.specs.Box.{nothing, refused};
-ghost use Rattle.ballbox.specs.Promises.{outcome, aboveSeven, FreshPromise, StepPromise};
+ghost use Rattle.ballbox.specs.Promises.{stepped, FreshPromise, StepPromise};
+ghost use Rattle.ballbox.specs.declared.Event.the-variants.{Motion, Buttons, Host, Latch, Send, Period};
 
 mod commands;
 mod events;
@@ -77,11 +78,12 @@ pub struct Going {
 }
 
 // What is remembered: button states that reports have yet to show, oldest first, how many they are, and whether the report that is going
-// shows the first.
+// shows the first, 0 or 1.
+#[repr(C)]
 pub struct Memory {
     pub states: [u8; 8],
     pub count: u8,
-    pub showing: bool,
+    pub showing: u8,
 }
 
 // A number held between two ends, and the excess, with its sign.
@@ -110,15 +112,16 @@ pub struct Sums {
     pub counter: Excess,
 }
 
-// What is set, counted, going, remembered and thrown away; whether a report is due; whether the box is dormant.
+// What is set, counted, going, remembered and thrown away; whether a report is due, and whether the box is dormant: 0 or 1.
+#[repr(C)]
 pub struct BallBox {
     pub settings: Settings,
     pub track: Track,
     pub going: Going,
     pub memory: Memory,
     pub sums: Sums,
-    pub due: bool,
-    pub dormant: bool,
+    pub due: u8,
+    pub dormant: u8,
 }
 
 // "Events: Motion(dx, dy), 16-bit signed; Buttons(n); Host(byte); [..] Period (the report interval is over)." and, for "Slot (time for one
@@ -133,17 +136,15 @@ pub enum Event {
     Period,
 }
 
-// The word that a step gives, if any.
-pub enum Sent {
-    Nothing,
-    Word(u16),
-}
-
-// What a step hands back: the number of the refusal, 0 for success, the box and the word.
+// What a step hands back: the number of the refusal, 0 for success; how many words are sent, 0 or 1; the word, 0 where
+// there is none; 0; and the box.
+#[repr(C)]
 pub struct Stepped {
     pub refusal: u8,
+    pub sent: u8,
+    pub word: u16,
+    pub rest: u32,
     pub next: BallBox,
-    pub sent: Sent,
 }
 
 // What a byte of the host's asks for.
@@ -158,22 +159,6 @@ pub enum Command {
     AskButtons,
     Sleep,
     Ignored,
-}
-
-impl Event {
-    // Buttons above 7.
-    fn above_seven(self) -> bool
-        ensures { λ r. ⌜ r ≡ aboveSeven self ⌝ }
-    {
-        match self {
-            Event::Motion(_, _) => false,
-            Event::Buttons(n) => MOST_BUTTONS < n,
-            Event::Host(_) => false,
-            Event::Latch => false,
-            Event::Send => false,
-            Event::Period => false,
-        }
-    }
 }
 
 // Nothing is going.
@@ -211,36 +196,114 @@ impl BallBox {
                 limit: none,
                 counter: none,
             },
-            due: false,
-            dormant: false,
+            due: 0,
+            dormant: 0,
         }
     }
 
     // The old box and no word.
     fn refused(self, number: u8) -> Stepped
-        ensures { λ r. ⌜ outcome r ≡ refused number self ⌝ }
+        ensures { λ r. ⌜ r ≡ stepped (refused number self) ⌝ }
     {
         Stepped {
             refusal: number,
+            sent: 0,
+            word: 0,
+            rest: 0,
             next: self,
-            sent: Sent::Nothing,
         }
     }
 
-    // An event: the refusals in their order, and then the rules.
-    pub fn step(self, event: Event) -> Stepped
-        ensures { λ r. ⌜ StepPromise self event r ⌝ }
+    // The ball moved.
+    pub fn motion(mut self, dx: i16, dy: i16) -> Stepped
+        ensures { λ r. ⌜ StepPromise self (Motion dx dy) r ⌝ }
     {
         if !self.good() {
             return self.refused(BAD_STATE);
         }
-        if event.above_seven() {
+        if self.dormant != 1 {
+            self = self.on_motion(dx, dy);
+        }
+        self.quietly()
+    }
+
+    // The buttons are now 4L+2M+R.
+    pub fn buttons(mut self, n: u8) -> Stepped
+        ensures { λ r. ⌜ StepPromise self (Buttons n) r ⌝ }
+    {
+        if !self.good() {
+            return self.refused(BAD_STATE);
+        }
+        if MOST_BUTTONS < n {
             return self.refused(BAD_BUTTONS);
         }
-        if self.dormant {
-            self.asleep(event)
-        } else {
-            self.awake(event)
+        if self.dormant != 1 {
+            self = self.on_buttons(n);
+        }
+        self.quietly()
+    }
+
+    // A byte of the host's: it wakes a dormant box.
+    pub fn host(mut self, byte: u8) -> Stepped
+        ensures { λ r. ⌜ StepPromise self (Host byte) r ⌝ }
+    {
+        if !self.good() {
+            return self.refused(BAD_STATE);
+        }
+        if self.dormant == 1 {
+            self = self.woken();
+            return self.quietly();
+        }
+        self.on_host(byte)
+    }
+
+    // Latching, when nothing is going.
+    pub fn latch(mut self) -> Stepped
+        ensures { λ r. ⌜ StepPromise self Latch r ⌝ }
+    {
+        if !self.good() {
+            return self.refused(BAD_STATE);
+        }
+        if self.dormant != 1 {
+            self = self.latching();
+        }
+        self.quietly()
+    }
+
+    // The next byte is sent, or a silence. A dormant box has nothing going.
+    pub fn send(self) -> Stepped
+        ensures { λ r. ⌜ StepPromise self Send r ⌝ }
+    {
+        if !self.good() {
+            return self.refused(BAD_STATE);
+        }
+        self.sending()
+    }
+
+    // The report interval is over.
+    pub fn period(mut self) -> Stepped
+        ensures { λ r. ⌜ StepPromise self Period r ⌝ }
+    {
+        if !self.good() {
+            return self.refused(BAD_STATE);
+        }
+        if self.dormant != 1 {
+            self = self.on_period();
+        }
+        self.quietly()
+    }
+
+    // An event: one of the six.
+    pub fn step(self, event: Event) -> Stepped
+        ensures { λ r. ⌜ StepPromise self event r ⌝ }
+    {
+        match event {
+            Event::Motion(dx, dy) => self.motion(dx, dy),
+            Event::Buttons(n) => self.buttons(n),
+            Event::Host(byte) => self.host(byte),
+            Event::Latch => self.latch(),
+            Event::Send => self.send(),
+            Event::Period => self.period(),
         }
     }
 }

@@ -14,7 +14,7 @@ pub(crate) fn none() -> Memory
     Memory {
         states: [0u8; 8],
         count: 0,
-        showing: false,
+        showing: 0,
     }
 }
 
@@ -54,7 +54,7 @@ impl Memory {
         ensures { λ r. ⌜ r ≡ showingFirst self ⌝ }
     {
         let any = self.any();
-        self.showing = any;
+        self.showing = any as u8;
         self
     }
 
@@ -62,14 +62,14 @@ impl Memory {
     pub(crate) fn shown(self) -> Memory
         ensures { λ r. ⌜ r ≡ shown self ⌝ }
     {
-        if !self.showing {
+        if self.showing != 1 {
             return self;
         }
         let s = self.states;
         Memory {
             states: [s[1], s[2], s[3], s[4], s[5], s[6], s[7], 0],
             count: less(self.count),
-            showing: false,
+            showing: 0,
         }
     }
 
@@ -77,7 +77,7 @@ impl Memory {
     pub(crate) fn hidden(mut self) -> Memory
         ensures { λ r. ⌜ r ≡ hidden self ⌝ }
     {
-        self.showing = false;
+        self.showing = 0;
         self
     }
 }

@@ -7,7 +7,6 @@ use ballbox::Excess;
 use ballbox::Going;
 use ballbox::Memory;
 use ballbox::Pair;
-use ballbox::Sent;
 use ballbox::Settings;
 use ballbox::Sums;
 use ballbox::Track;
@@ -77,7 +76,7 @@ fn any_memory(call: u64) -> Memory {
             0,
         ],
         count: draws::byte(call, 78, 10),
-        showing: draws::mark(call, 84, 8),
+        showing: draws::mark(call, 84, 8) as u8,
     }
 }
 
@@ -111,8 +110,8 @@ fn any(call: u64) -> BallBox {
             fresh.memory
         },
         sums: any_sums(call),
-        due: draws::mark(call, 85, 2),
-        dormant: draws::mark(call, 86, 8),
+        due: draws::mark(call, 85, 2) as u8,
+        dormant: draws::mark(call, 86, 8) as u8,
     }
 }
 
@@ -149,10 +148,10 @@ fn mixed(h: u64, ball: BallBox) -> u64 {
     let going = mixes::five(mixes::byte(mixes::byte(track, g.length), g.sent), &bytes);
     let memory = mixes::byte(
         mixes::byte(mixes::eight(going, &states), r.count),
-        r.showing as u8,
+        r.showing,
     );
     let thrown = excess(excess(memory, sums.limit), sums.counter);
-    mixes::byte(mixes::byte(thrown, ball.due as u8), ball.dormant as u8)
+    mixes::byte(mixes::byte(thrown, ball.due), ball.dormant)
 }
 
 fn event(call: u64) -> Event {
@@ -176,21 +175,17 @@ fn event(call: u64) -> Event {
 }
 
 // How many words, and the word.
-fn sent(h: u64, word: Sent) -> u64 {
-    match word {
-        Sent::Nothing => mixes::number(mixes::number(h, 0), 0),
-        Sent::Word(w) => mixes::number(mixes::number(h, 1), w as u64),
-    }
+fn sent(h: u64, count: u8, word: u16) -> u64 {
+    mixes::number(mixes::number(h, count as u64), word as u64)
 }
 
 // One event.
 pub(crate) fn turn(last: Stand, call: u64) -> Stand {
     let ball = chosen(last.next, call);
     let s = ball.step(event(call));
-    let word = s.sent;
     let next = s.next;
     Stand {
-        sum: mixed(sent(mixes::byte(last.sum, s.refusal), word), next),
+        sum: mixed(sent(mixes::byte(last.sum, s.refusal), s.sent, s.word), next),
         next: next,
     }
 }

@@ -36,7 +36,7 @@ use Rattle.reader.specs.declared.Answer.the-variants as answer
 use Rattle.reader.proofs.There as there
 use Rattle.reader.proofs.Back as back
 use Rattle.reader.proofs.Counting as counting
-use Rattle.ballbox.specs.Box.{freshBox}
+use Rattle.ballbox.specs.Box.{freshBox, dormant}
 use Rattle.ballbox.specs.Good.{good}
 use Rattle.ballbox.specs.Events.{awake, asleep}
 use Rattle.ballbox.specs.Promises.{FreshPromise, StepPromise, outcome, aboveSeven}
@@ -55,7 +55,7 @@ pub box-awake : (b : BallBox) (e : Event) (r : Stepped)
     → StepPromise b e r
     → good b ≡ true
     → aboveSeven e ≡ false
-    → b .dormant ≡ false
+    → dormant b ≡ false
     → outcome r ≡ awake b e
 box-awake = awake-step
 
@@ -63,7 +63,7 @@ pub box-asleep : (b : BallBox) (e : Event) (r : Stepped)
     → StepPromise b e r
     → good b ≡ true
     → aboveSeven e ≡ false
-    → b .dormant ≡ true
+    → dormant b ≡ true
     → outcome r ≡ asleep b e
 box-asleep = asleep-step
 

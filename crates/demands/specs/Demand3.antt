@@ -14,6 +14,7 @@ use Rattle.wire.specs.Messages.{Latched, Message, report, messageBytes, finishe
 use Rattle.wire.specs.declared.Format.{Format}
 use Rattle.reader.specs.DamagedLines.{Given, no-word, a-break, Within, EndsAt, HandsOut, HandsOutAt, Replaced}
 use Rattle.reader.proofs.Damaged as damaged
+use Rattle.ballbox.specs.Box.{dormant}
 use Rattle.ballbox.specs.Good.{good}
 use Rattle.ballbox.specs.Events.{bytesLeft}
 use Rattle.ballbox.specs.Promises.{sentWords, StepPromise}
@@ -33,7 +34,7 @@ use Rattle.history.proofs.Setting.{set-to, set-words}
 -- answer to the letter, and `answers` are those to the events, any that the promise of the public step permits
 pub record Run (f : Format) (b : BallBox) (a : Stepped) (events : List Event) (answers : List Stepped) : Type 0 where
   pub good : good b ≡ true
-  pub awake : b .dormant ≡ false
+  pub awake : dormant b ≡ false
   pub set : StepPromise b (Host (letterOf f)) a
   pub asked : onlyAsks events ≡ true
   pub permitted : RunPromise (a .next) events answers
@@ -48,7 +49,7 @@ stillGoing a events = goingAfter (a .next) nothing events
 -- "its words from then on": those of the events; or, in front of them, the word too that the letter itself gave, 256 or none
 pub data Front (a : Stepped) : List ℕ → Type 0 where
   from-then-on : Front a []
-  from-the-letter-on : Front a (sentWords (a .sent))
+  from-the-letter-on : Front a (sentWords a)
 
 given-by : (t : Bool) → Given (cond t (break ∷ []) [])
 given-by true = a-break

@@ -22,6 +22,7 @@ use Rattle.reader.specs.declared.Read.{Read}
 use Rattle.reader.specs.declared.Answer.the-variants.{Dropped}
 use Rattle.reader.proofs.Permitted.{steps-are}
 use Rattle.reader.proofs.Nowhere.{odd-in-B}
+use Rattle.ballbox.specs.Box.{dormant}
 use Rattle.ballbox.specs.Commands.{letterf, lettert}
 use Rattle.ballbox.specs.Good.{good}
 use Rattle.ballbox.specs.Promises.{sentWords, FreshPromise, StepPromise}
@@ -40,11 +41,11 @@ pub record Figures : Type 0 where
   -- p1 `f` in S: 1A
   pub p1 : (b : BallBox) (r s : Stepped)
       → good b ≡ true
-      → b .dormant ≡ false
+      → dormant b ≡ false
       → b .settings .format ≡ letterOf Mm
       → StepPromise b (Host letterf) r
       → StepPromise (r .next) Send s
-      → sentWords (s .sent) ≡ 0x1A ∷ []
+      → sentWords s ≡ 0x1A ∷ []
   -- p2 `t` when fresh: 55 4F
   pub p2 : (b : BallBox) (run : List Stepped)
       → FreshPromise b

@@ -16,6 +16,7 @@ use Rattle.wire.specs.declared.Format.{Format}
 use Rattle.reader.specs.State.{ready}
 use Rattle.reader.specs.DamagedLines.{HandsOut, HandsOutBy}
 use Rattle.reader.proofs.Followed as followed
+use Rattle.ballbox.specs.Box.{dormant}
 use Rattle.ballbox.specs.Presses.{remembered}
 use Rattle.ballbox.specs.Commands.{isStream, asksForReports}
 use Rattle.ballbox.specs.declared.BallBox.{BallBox}
@@ -35,7 +36,7 @@ use Rattle.history.proofs.Survives.{shown-seen}
 -- such a box, and a run of it: any answers that the promise of the public step permits
 pub record Streaming (b : BallBox) (going : UnderWay Message) (events : List Event) (answers : List Stepped) : Type 0 where
   pub box : Carrying b going
-  pub awake : b .dormant ≡ false
+  pub awake : dormant b ≡ false
   pub stream : isStream (b .settings .mode) ≡ true
   pub keeps : noneEmpties events ≡ true
   pub permitted : RunPromise b events answers

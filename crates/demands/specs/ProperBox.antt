@@ -8,6 +8,7 @@ use Rattle.wire.specs.Line.{letterOf}
 use Rattle.wire.specs.Numbers.{success}
 use Rattle.wire.specs.declared.Format.{Format}
 use Rattle.wire.specs.declared.Format.the-variants.{Mm, FiveByte}
+use Rattle.ballbox.specs.Box.{dormant}
 use Rattle.ballbox.specs.Good.{good}
 use Rattle.ballbox.specs.Promises.{FreshPromise, StepPromise}
 use Rattle.ballbox.specs.declared.BallBox.{BallBox}
@@ -45,7 +46,7 @@ module _ (f : Format) (words : List ℕ) (a : Checked) (told : CheckPromise (let
   place = answered.place f words a told
 
 -- "can send" leaves no choice to the box: whatever answers the promise of the public step permits, to the letter and to the events, give these words
-pub whatever-answers : (b : BallBox) (f : Format) (words : List ℕ) → good b ≡ true → b .dormant ≡ false → (s : SendsFrom b f words)
+pub whatever-answers : (b : BallBox) (f : Format) (words : List ℕ) → good b ≡ true → dormant b ≡ false → (s : SendsFrom b f words)
     → (set : Stepped) (answers : List Stepped)
     → StepPromise b (Host (letterOf f)) set
     → RunPromise (set .next) (s .events) answers

@@ -16,6 +16,7 @@ use Rattle.wire.specs.Messages.{Latched, Message, report, finishedReports}
 use Rattle.wire.specs.declared.Format.{Format}
 use Rattle.reader.specs.Counts.{byteIn, bytesIn, reportsIn, droppedIn}
 use Rattle.reader.specs.DamagedLines.{Within, EndsAt}
+use Rattle.ballbox.specs.Box.{dormant}
 use Rattle.ballbox.specs.Good as boxes
 use Rattle.ballbox.specs.Commands.{letterf, lettert, ack, commandOf}
 use Rattle.ballbox.specs.Commands as box
@@ -182,7 +183,7 @@ waking-read = there.woken
 -- and handed their words reads it whole.
 pub sent-reply-read : (b : BallBox) (byte : ℕ) (a : Stepped) (events : List Event) (answers : List Stepped) (s : ToldReader) (done : List Done)
     → boxes.good b ≡ true
-    → b .dormant ≡ false
+    → dormant b ≡ false
     → hasReply byte ≡ true
     → box-promises.StepPromise b (Host byte) a
     → noHost events ≡ true
@@ -195,7 +196,7 @@ sent-reply-read = there.there-sent
 
 pub sent-waking-read : (b : BallBox) (byte : ℕ) (a : Stepped) (events : List Event) (answers : List Stepped) (s : ToldReader) (done : List Done)
     → boxes.good b ≡ true
-    → b .dormant ≡ true
+    → dormant b ≡ true
     → box-promises.StepPromise b (Host byte) a
     → noHost events ≡ true
     → sendsIn events ≡ sizeOf (kindOf Waking)
@@ -301,7 +302,7 @@ letters-exactly = accepted.letters-exactly
 -- last byte or break."
 pub record Run (f : Format) (b : BallBox) (a : Stepped) (events : List Event) (answers : List Stepped) : Type 0 where
   pub good : boxes.good b ≡ true
-  pub awake : b .dormant ≡ false
+  pub awake : dormant b ≡ false
   pub set : box-promises.StepPromise b (Host (letterOf f)) a
   pub asked : onlyAsksOrTells events ≡ true
   pub permitted : RunPromise (a .next) events answers

@@ -35,6 +35,7 @@ use Rattle.reader.proofs.Framed.{frameOf, stateOf}
 use Rattle.reader.proofs.Scars as scars
 use Rattle.reader.proofs.Shown.{shown-true}
 use Rattle.reader.proofs.Follows.{unbroken-then, front-unbroken, follows-on, as-if-told, followed-some}
+use Rattle.ballbox.specs.Box.{dormant}
 use Rattle.ballbox.specs.Presses.{remembered}
 use Rattle.ballbox.specs.Commands.{isStream, asksForReports}
 use Rattle.ballbox.specs.Events.{bytesLeft}
@@ -71,7 +72,7 @@ use Rattle.demands.specs.Demand3.{Run}
 -- or nothing.
 pub record Box (f : Format) (b : BallBox) (g : UnderWay Message) : Type 0 where
   pub carrying : Carrying b g
-  pub awake : b .dormant ≡ false
+  pub awake : dormant b ≡ false
   pub format : b .settings .format ≡ letterOf f
   pub sound : SoundEnd f g
 
@@ -235,12 +236,12 @@ none-older f down c b g events h none going =
 -- more than were made.
 pub record Begins (f : Format) (b : BallBox) : Type 0 where
   pub good : good b ≡ true
-  pub awake : b .dormant ≡ false
+  pub awake : dormant b ≡ false
   pub format : b .settings .format ≡ letterOf f
   pub idle : bytesLeft b ≡ false
   pub none : remembered (b .memory) ≡ []
 
-pub behind-a-letter : (f : Format) (b : BallBox) (a : Stepped) → good b ≡ true → b .dormant ≡ false → StepPromise b (Host (letterOf f)) a → Begins f (a .next)
+pub behind-a-letter : (f : Format) (b : BallBox) (a : Stepped) → good b ≡ true → dormant b ≡ false → StepPromise b (Host (letterOf f)) a → Begins f (a .next)
 behind-a-letter f b a k d p =
     let s = set-to f b a k d p in
     record { good = s .good; awake = s .awake; format = s .format; idle = s .carries; none = letter-empties f b a k d p }

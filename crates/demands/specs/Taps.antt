@@ -17,7 +17,7 @@ use Rattle.reader.specs.State.{ready}
 use Rattle.reader.specs.Counts.{handedOut}
 use Rattle.reader.specs.Runs.{stepsOf, answers}
 use Rattle.reader.specs.DamagedLines.{HandsOutBy}
-use Rattle.ballbox.specs.Box.{Step, freshBox, withButtons, withDue}
+use Rattle.ballbox.specs.Box.{Step, freshBox, withButtons, withDue, due}
 use Rattle.ballbox.specs.Presses.{remembered}
 use Rattle.ballbox.specs.Commands.{isStream, letterP, letterf}
 use Rattle.ballbox.specs.Events.{quietly}
@@ -89,7 +89,7 @@ tap-seen-in-U =
 
 -- By the base's rule the press is lost: "A change is kept; in a stream mode it makes a report due." It stands here alone.
 abbrev baseButtons : ℕ → BallBox → BallBox
-baseButtons n b = cond (eqb n (b .settings .buttons)) b (withButtons n (withDue (b .due || isStream (b .settings .mode)) b))
+baseButtons n b = cond (eqb n (b .settings .buttons)) b (withButtons n (withDue (due b || isStream (b .settings .mode)) b))
 
 abbrev baseStep : BallBox → Event → Step
 baseStep b (Motion dx dy) = stepOf b (Motion dx dy)

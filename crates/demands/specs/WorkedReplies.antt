@@ -123,7 +123,7 @@ busy = boxAfter (setTo FiveByte .next) (Motion (pos 5) (pos 0) ∷ slots 1 [])
 abbrev twoSends : List Event
 twoSends = Send ∷ Latch ∷ Send ∷ []
 
-pub broken-by-t : (sentWords (answerTo busy (Host lettert) .sent) ≡ 256 ∷ []) × (wordsGiven (answersTo (answerTo busy (Host lettert) .next) twoSends) ≡ 0x55 ∷ 0x4F ∷ [])
+pub broken-by-t : (sentWords (answerTo busy (Host lettert)) ≡ 256 ∷ []) × (wordsGiven (answersTo (answerTo busy (Host lettert) .next) twoSends) ≡ 0x55 ∷ 0x4F ∷ [])
 unfolding computing
 broken-by-t = (refl, refl)
 

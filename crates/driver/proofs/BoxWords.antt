@@ -12,7 +12,7 @@ use Rattle.wire.specs.Numbers.{success}
 use Rattle.frames.proofs.Sender.{givenOver}
 use Rattle.listing.specs.Lines.{linesIn}
 use Rattle.listing.specs.Scanning.{mostLines}
-use Rattle.ballbox.specs.Box.{Step, freshBox}
+use Rattle.ballbox.specs.Box.{Step, freshBox, dormant}
 use Rattle.ballbox.specs.Events.{bytesLeft, nextByte, sending, onHost, awake, asleep}
 use Rattle.ballbox.specs.Good.{good}
 use Rattle.ballbox.specs.Promises.{aboveSeven, stepOf, StepPromise}
@@ -75,12 +75,12 @@ asleep-obeys b Period = refl
 
 obeys : (b : BallBox) (e : Event) → good b ≡ true → aboveSeven e ≡ false → stepOf b e .refusal ≡ success
 obeys b e g h =
-    ap (λ (s : Step). s .refusal) (ruled b e (b .dormant) g h refl) ∙ cases (λ (s : Step). s .refusal ≡ success) (b .dormant) (λ _. asleep-obeys b e) (λ _. awake-obeys b e)
+    ap (λ (s : Step). s .refusal) (ruled b e (dormant b) g h refl) ∙ cases (λ (s : Step). s .refusal ≡ success) (dormant b) (λ _. asleep-obeys b e) (λ _. awake-obeys b e)
 
 -- slots are Latch and Send, so many times: a Latch gives no word
 latch-quiet : (b : BallBox) → stepOf b Latch .words ≡ []
 unfolding stepOf awake asleep
-latch-quiet b = let P : Step → Type 0 = λ s. s .words ≡ [] in cases P (not (good b)) (λ _. refl) (λ _. cases P (b .dormant) (λ _. refl) (λ _. refl))
+latch-quiet b = let P : Step → Type 0 = λ s. s .words ≡ [] in cases P (not (good b)) (λ _. refl) (λ _. cases P (dormant b) (λ _. refl) (λ _. refl))
 
 slots-are : (k : ℕ) (b : BallBox) → slots k b ≡ record { refusal = 0; next = boxAfter b (slotEvents k); words = wordsBy b (slotEvents k) }
 unfolding slots boxAfter givenOver
@@ -130,13 +130,13 @@ module _ {input : List ℕ} {f : ℕ} {lines rest : List (List ℕ)} (tries : Tr
   recorded : recordsOf input ≡ Format f ∷ (map Word (wordsGiven answers) ++ recordsFrom (1 + length lines) last rest)
   unfolding recordsFrom lineDone
   recorded =
-      let next : stepOf freshBox (Host f) .next ≡ a .next = sym (ap (λ (x : Step). x .next) set) in
+      let next : stepOf freshBox (Host f) .next ≡ a .next = sym (ap (λ (x : Stepped). x .next) set) in
       let g : good (a .next) ≡ true = rw next at (stepped-good freshBox (Host f) (fresh-is-good freshBox refl)) in
       rw (tries .is, tries .says, next, permitted (a .next) (eventsOf lines) answers run)
       (ap (λ (rs : List Record). Format f ∷ rs) (pass-lines lines rest 1 (a .next) g (tries .pass) (omega arith) (omega (arith, tries .few))))
 
   last-good : good last ≡ true
-  last-good = box-good (eventsOf lines) (a .next) (ap (λ (x : Step). good (x .next)) set ∙ stepped-good freshBox (Host f) (fresh-is-good freshBox refl))
+  last-good = box-good (eventsOf lines) (a .next) (ap (λ (x : Stepped). good (x .next)) set ∙ stepped-good freshBox (Host f) (fresh-is-good freshBox refl))
 
 -- BOX WORDS: where all lines pass, the recording has the format and then the words that the box gave
 pub box-words : {input : List ℕ} {f : ℕ} {lines : List (List ℕ)} (tries : Tries input f lines []) (a : Stepped) (answers : List Stepped)

@@ -1,7 +1,7 @@
 -- The text of a tick has few bytes, so that with room for them a tick is taken.
 use Prim.Native.Nat.{ℕ, suc, _+_, _^_, _≤_, _<_}
 use mathlib.Core.Path.{_≡_, refl, ap}
-use mathlib.Core.Bool.{true}
+use mathlib.Core.Bool.{true, Bool, false, cond}
 use mathlib.Core.List.{List, [], _∷_, _++_, map, append-nil}
 use native.Mathlib.Omega.{arith}
 use lib.Dec.{leb, eqb}
@@ -18,12 +18,12 @@ use Rattle.text.proofs.Digits.{digits-long, places-few}
 use Rattle.listing.specs.Lines.{newline}
 use Rattle.listing.specs.Scanning.{mostLines}
 use Rattle.ballbox.specs.Box.{Step}
-use Rattle.ballbox.specs.Promises.{sentWords, stepOf}
+use Rattle.ballbox.specs.Marks.{marked}
+use Rattle.ballbox.specs.Promises.{stepOf}
 use Rattle.ballbox.specs.declared.BallBox.{BallBox}
 use Rattle.ballbox.specs.declared.Event.{Event}
 use Rattle.ballbox.specs.declared.Event.the-variants.{Latch, Send}
-use Rattle.ballbox.specs.declared.Sent.{Sent}
-use Rattle.ballbox.specs.declared.Sent.the-variants as sent
+use Rattle.ballbox.proofs.Single.{says}
 use Rattle.ballbox.proofs.Words.{words-legal}
 use Rattle.history.specs.Runs.{answerTo}
 use Rattle.history.proofs.Permitted.{answer-permitted}
@@ -65,15 +65,16 @@ few-word w h = omega (arith, one-line (Word w), go)
         let P : List ℕ → Type 0 = λ bytes. length bytes ≤ 5 in
         cases P (eqb w break) (λ _. omega arith) (λ _. cases P (eqb w silence) (λ _. omega arith) (λ _. omega (arith, few-digits w 2 (omega arith))))
 
-few-sent : (s : Sent) → lineWords (sentWords s) ≡ true → FewLines (map Word (sentWords s))
+few-sent : (t : Bool) (w : ℕ) → lineWords (cond t (w ∷ []) []) ≡ true → FewLines (map Word (cond t (w ∷ []) []))
 unfolding lineWords
-few-sent sent.Nothing h = omega arith
-few-sent (sent.Word w) h = few-word w (leb-true w silence (left (leb w silence) true h))
+few-sent false w h = omega arith
+few-sent true w h = few-word w (leb-true w silence (left (leb w silence) true h))
 
 few-step : (b : BallBox) (e : Event) → OfBytes b → FewLines (map Word (stepOf b e .words))
 few-step b e h =
     let p = answer-permitted b e in
-    rw (← ap (λ (s : Step). s .words) p) (few-sent (answerTo b e .sent) (words-legal b e (answerTo b e) p (h .bytes)))
+    let a = answerTo b e in
+    rw (← ap (λ (s : Step). s .words) (says b e a p)) (few-sent (marked (a .sent)) (a .word) (words-legal b e a p (h .bytes)))
 
 -- a line
 few-first : (b : BallBox) (o : Order) → FewLines (firstLine b o .records)

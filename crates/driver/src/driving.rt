@@ -1,7 +1,7 @@
 // What lines of events do to a box, and what is recorded of them.
 ghost use mathlib.Core.Path.{_≡_};
 ghost use mathlib.Core.List.{map};
-ghost use Rattle.ballbox.specs.Promises.{outcome, sentWords};
+ghost use Rattle.ballbox.specs.Promises.{outcome, wordsOf};
 ghost use Rattle.driver.specs.Recorded.{recordsIn};
 ghost use Rattle.driver.specs.Driving.{leaves, ending, eventDone, slot, firstLine, laterLine, lineDone};
 ghost use Rattle.driver.specs.Feeding.{besides};
@@ -13,7 +13,6 @@ use crate::Order;
 use crate::Record;
 use ballbox::BallBox;
 use ballbox::Event;
-use ballbox::Sent;
 use ballbox::Stepped;
 
 // The last line.
@@ -28,13 +27,13 @@ fn ending(ball: BallBox, last: Record) -> Done
 }
 
 // The word that a step gives, if any.
-pub(crate) fn given(sent: Sent) -> Given
-    ensures { λ r. ⌜ recordsIn r ≡ map Word (sentWords sent) ⌝ }
+pub(crate) fn given(sent: u8, word: u16) -> Given
+    ensures { λ r. ⌜ recordsIn r ≡ map Word (wordsOf sent word) ⌝ }
 {
-    match sent {
-        Sent::Nothing => Given::Nothing,
-        Sent::Word(w) => Given::One(Record::Word(w)),
+    if sent == 1 {
+        return Given::One(Record::Word(word));
     }
+    Given::Nothing
 }
 
 // An event that is obeyed, or one that the box refuses.
@@ -45,10 +44,9 @@ fn event_done(n: u32, ball: BallBox, step: Stepped) -> Done
         return ending(ball, Record::Bad(n));
     }
     let next = step.next;
-    let sent = step.sent;
     Done {
         next: next,
-        given: given(sent),
+        given: given(step.sent, step.word),
         ends: false,
     }
 }

@@ -174,7 +174,6 @@ impl Driver {
     {
         let step = driving::slot(self.ball);
         let next = step.next;
-        let sent = step.sent;
         let held = self.held;
         Turn {
             next: Driver {
@@ -185,7 +184,7 @@ impl Driver {
                 owed: self.owed - 1,
                 ball: next,
             },
-            text: recorded::line(driving::given(sent)),
+            text: recorded::line(driving::given(step.sent, step.word)),
         }
     }
 

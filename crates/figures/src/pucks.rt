@@ -32,14 +32,13 @@ fn powered(buttons: u8) -> Run {
 fn on(run: Run, e: Event) -> Run {
     let p = run.puck;
     let stepped = p.step(e);
-    let word = stepped.sent;
     let next = stepped.next;
     event(e);
     refusal(stepped.refusal);
-    sent(word);
+    sent(stepped.sent, stepped.word);
     Run {
         puck: next,
-        line: noted(run.line, word),
+        line: noted(run.line, stepped.sent, stepped.word),
     }
 }
 

@@ -2,7 +2,6 @@
 use crate::print;
 use ballbox::BallBox;
 use ballbox::Event;
-use ballbox::Sent;
 use reader::Answer;
 use reader::Reader;
 
@@ -45,13 +44,11 @@ pub(crate) fn event(e: Event) {
     }
 }
 
-pub(crate) fn sent(s: Sent) {
-    match s {
-        Sent::Nothing => {}
-        Sent::Word(w) => {
-            print::say(b" gives ");
-            print::word(w);
-        }
+// The word, if one is sent.
+pub(crate) fn sent(count: u8, word: u16) {
+    if count == 1 {
+        print::say(b" gives ");
+        print::word(word);
     }
 }
 
@@ -90,11 +87,11 @@ fn with_word(line: Line, word: u16) -> Line {
     l
 }
 
-pub(crate) fn noted(line: Line, s: Sent) -> Line {
-    match s {
-        Sent::Nothing => line,
-        Sent::Word(w) => with_word(line, w),
+pub(crate) fn noted(line: Line, count: u8, word: u16) -> Line {
+    if count == 1 {
+        return with_word(line, word);
     }
+    line
 }
 
 // A run of the box: the box, and the words that it gave.
@@ -115,14 +112,13 @@ pub(crate) fn started(b: BallBox) -> Run {
 pub(crate) fn on(run: Run, e: Event) -> Run {
     let b = run.ball;
     let stepped = b.step(e);
-    let word = stepped.sent;
     let next = stepped.next;
     event(e);
     refusal(stepped.refusal);
-    sent(word);
+    sent(stepped.sent, stepped.word);
     Run {
         ball: next,
-        line: noted(run.line, word),
+        line: noted(run.line, stepped.sent, stepped.word),
     }
 }
 

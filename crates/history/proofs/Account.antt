@@ -21,7 +21,7 @@ use Rattle.ballbox.specs.Motion.{counted, countedOver, movedBy, isA}
 use Rattle.ballbox.specs.Latching.{movement, taken, takenOver, cleared, latched, latchedReport, secondLatched}
 use Rattle.ballbox.specs.Thrown.{noExcess, sums, noSums}
 use Rattle.ballbox.specs.Excesses.{limitThrows, counterThrows, thrown}
-use Rattle.ballbox.specs.Box.{pair, modeD, Step}
+use Rattle.ballbox.specs.Box.{pair, modeD, Step, dormant}
 use Rattle.ballbox.specs.Commands.{isStream, letterP, space, letterf, lettert, byte05, letterd, commandOf, replyTo, obeyed}
 use Rattle.ballbox.specs.Events.{onMotion, onButtons, onPeriod, bytesLeft, wanted, latching, secondNow, withByteReady, nextByte, sending, dropped, onHost, awake, woken, asleep}
 use Rattle.ballbox.specs.Good.{good}
@@ -289,11 +289,11 @@ reply-plain : (b : BallBox) (n : ℕ) (bytes : List ℕ) → Carries b (first n 
 reply-plain b n bytes h = rw (h .0, ne-eqb n 3 (λ q. omega (arith, h .1 .left, h .1 .sendable))) (and-false (eqb (b .settings .format) (letterOf FiveByte)))
 
 -- what comes to something while awake
-awake-is : (b : BallBox) (s : Bool) → b .dormant ≡ s → (v : ℤ) → whileAwake b v ≡ cond s (pos 0) v
+awake-is : (b : BallBox) (s : Bool) → dormant b ≡ s → (v : ℤ) → whileAwake b v ≡ cond s (pos 0) v
 awake-is b s q v = ap (λ (t : Bool). cond t (pos 0) v) q
 
 nothing-comes : (b : BallBox) → whileAwake b (pos 0) ≡ pos 0
-nothing-comes b = cases (λ (v : ℤ). v ≡ pos 0) (b .dormant) (λ _. refl) (λ _. refl)
+nothing-comes b = cases (λ (v : ℤ). v ≡ pos 0) (dormant b) (λ _. refl) (λ _. refl)
 
 module _ (a : Axis) where
   -- what is on its way, and what an event adds
@@ -508,9 +508,9 @@ module _ (a : Axis) where
   refused-accounts b Period g k p = absurd (holds p)
 
   pub step-accounts : (b : BallBox) (e : Event) (g : UnderWay Message) → Standing b g → StepAccounts b e g
-  step-accounts b e g k = go (aboveSeven e) refl (b .dormant) refl g k
+  step-accounts b e g k = go (aboveSeven e) refl (dormant b) refl g k
     where
-      go : (t : Bool) → aboveSeven e ≡ t → (s : Bool) → b .dormant ≡ s → (g : UnderWay Message) → Standing b g → StepAccounts b e g
+      go : (t : Bool) → aboveSeven e ≡ t → (s : Bool) → dormant b ≡ s → (g : UnderWay Message) → Standing b g → StepAccounts b e g
       go true p s q g k = refused-accounts b e g (k .good) p
       go false p true q (first n m) k = absurd (holds (sym (k .carries .1 .awake) ∙ q))
       go false p true q nothing k =
@@ -523,7 +523,7 @@ module _ (a : Axis) where
           (rw (w (fedBy a b e), w (overLimitBy a b e), w (overCounterBy a b e), w (clearedBy a b e)) (awake-accounts b e g k))
 
 -- a step keeps all that
-awake-relative : (b : BallBox) (e : Event) → isA (b .settings .format) ≡ false → (b .dormant ≡ false) → selectsA b e ≡ false → isA (awake b e .next .settings .format) ≡ false
+awake-relative : (b : BallBox) (e : Event) → isA (b .settings .format) ≡ false → (dormant b ≡ false) → selectsA b e ≡ false → isA (awake b e .next .settings .format) ≡ false
 unfolding awake onPeriod
 awake-relative b (Motion dx dy) r d s = r
 awake-relative b (Buttons n) r d s = ap isA (buttons-line n b .1 .format) ∙ r
@@ -580,7 +580,7 @@ asleep-unpaired b Period = tt
 
 pub standing-step : (b : BallBox) (e : Event) (g : UnderWay Message) → Standing b g → selectsA b e ≡ false → Standing (nextBox b e) (toldBy b e g .going)
 standing-step b e g k s =
-    let r = rest (aboveSeven e) refl (b .dormant) refl g k in
+    let r = rest (aboveSeven e) refl (dormant b) refl g k in
     record { good = stepped-good b e (k .good); carries = step-sends b e g (k .good) (k .carries) .carries; relative = r .0; unpaired = r .1 }
   where
     Rest : BallBox → Told Message → Type 0
@@ -589,7 +589,7 @@ standing-step b e g k s =
     both : (g : UnderWay Message) (c : BallBox) (t : Told Message) → nextBox b e ≡ c → toldBy b e g ≡ t → Rest c t → Rest (nextBox b e) (toldBy b e g)
     both g c t n d h = (ap (λ (x : BallBox). isA (x .settings .format)) n ∙ h .0, subst (λ (x : Told Message). Unpaired (x .going)) (sym d) (h .1))
 
-    rest : (t : Bool) → aboveSeven e ≡ t → (d : Bool) → b .dormant ≡ d → (g : UnderWay Message) → Standing b g → Rest (nextBox b e) (toldBy b e g)
+    rest : (t : Bool) → aboveSeven e ≡ t → (d : Bool) → dormant b ≡ d → (g : UnderWay Message) → Standing b g → Rest (nextBox b e) (toldBy b e g)
     rest true p d q g k = both g b (told [] g) (refused-next b e (k .good) p) (refused-told b e g p) (k .relative, k .unpaired)
     rest false p true q (first n m) k = absurd (holds (sym (k .carries .1 .awake) ∙ q))
     rest false p true q nothing k =
@@ -655,7 +655,7 @@ refused-none k a b Period p = absurd (holds p)
 
 pub step-throws : (k : Kind) (a : Axis) (b : BallBox) (e : Event) → good b ≡ true → excessOf k a (thrown b e) ≡ whileAwake b (overBy k a b e)
 unfolding thrown
-step-throws k a b e g = rw g (go (aboveSeven e) refl (b .dormant) refl)
+step-throws k a b e g = rw g (go (aboveSeven e) refl (dormant b) refl)
   where
     both : Sums
     both = sums (limitThrows b e) (counterThrows b e)
@@ -664,7 +664,7 @@ step-throws k a b e g = rw g (go (aboveSeven e) refl (b .dormant) refl)
     still true = none-along k a
     still false = throws k a b e
 
-    go : (t : Bool) → aboveSeven e ≡ t → (d : Bool) → b .dormant ≡ d → excessOf k a (cond (aboveSeven e || b .dormant) noSums both) ≡ whileAwake b (overBy k a b e)
+    go : (t : Bool) → aboveSeven e ≡ t → (d : Bool) → dormant b ≡ d → excessOf k a (cond (aboveSeven e || dormant b) noSums both) ≡ whileAwake b (overBy k a b e)
     go true p d q = rw (p, refused-none k a b e p) (none-along k a ∙ sym (nothing-comes b))
     go false p d q =
         rw p

@@ -12,6 +12,7 @@ use Rattle.numbers.proofs.Tested.{holds, left, right}
 use Rattle.frames.specs.Passages.{Passage, silent, finished, broken, UnderWay, nothing, first, Unbroken}
 use Rattle.frames.specs.Sender.{Told, told, sentOne, passagesOver, goingOver}
 use Rattle.wire.specs.Messages.{Message, report, reply, messageBytes}
+use Rattle.ballbox.specs.Box.{dormant}
 use Rattle.ballbox.specs.Presses.{remembered, anyRemembered, full}
 use Rattle.ballbox.specs.Latching.{latchedReport}
 use Rattle.ballbox.specs.Commands.{commandOf, replyTo}
@@ -170,13 +171,13 @@ sent-unbroken : (g : UnderWay Message) → Unbroken (sentOne messageBytes g .pas
 sent-unbroken nothing = tt
 sent-unbroken (first n m) = cases (λ (t : Told Message). Unbroken (t .passages)) (eqb (n + 1) (length (messageBytes m))) (λ e. tt) (λ e. tt)
 
-quiet-unbroken : (b : BallBox) (e : Event) (g : UnderWay Message) → b .dormant ≡ false → Quiet e → Unbroken (toldBy b e g .passages)
+quiet-unbroken : (b : BallBox) (e : Event) (g : UnderWay Message) → dormant b ≡ false → Quiet e → Unbroken (toldBy b e g .passages)
 quiet-unbroken b e g d q = rw (quiet-told b e g d q) tt
 
-latch-unbroken : (b : BallBox) (g : UnderWay Message) → b .dormant ≡ false → Unbroken (toldBy b Latch g .passages)
+latch-unbroken : (b : BallBox) (g : UnderWay Message) → dormant b ≡ false → Unbroken (toldBy b Latch g .passages)
 latch-unbroken b g d = rw (told-is b Latch g false refl d) tt
 
-send-unbroken : (b : BallBox) (g : UnderWay Message) → b .dormant ≡ false → Unbroken (toldBy b Send g .passages)
+send-unbroken : (b : BallBox) (g : UnderWay Message) → dormant b ≡ false → Unbroken (toldBy b Send g .passages)
 send-unbroken b g d = rw (told-is b Send g false refl d) (sent-unbroken (paired b g))
 
 -- a report that a byte of the host's broke off, and what comes behind it

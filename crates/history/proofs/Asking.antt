@@ -17,7 +17,7 @@ use Rattle.wire.specs.Messages.{Message, report, reply, messageBytes, HeldBy, S
 use Rattle.wire.specs.declared.Format.{Format}
 use Rattle.wire.specs.declared.Format.the-variants.{FiveByte}
 use Rattle.wire.proofs.Letters.{letter-named}
-use Rattle.ballbox.specs.Box.{modeO, modeD}
+use Rattle.ballbox.specs.Box.{modeO, modeD, dormant}
 use Rattle.ballbox.specs.Latching.{latched, secondLatched}
 use Rattle.ballbox.specs.Commands.{letterP, commandOf, asksForReports, replyTo, obeyed}
 use Rattle.ballbox.specs.Events.{bytesLeft, wanted, latching, secondNow, withByteReady, nextByte, sending, dropped, onHost, onPeriod, awake}
@@ -41,7 +41,7 @@ use Rattle.history.proofs.Bridge.{step-sends, told-is, buttons-line}
 
 -- a test of messages that what is latched passes, and what passes it with U's second pair
 pub record Lasting (f : Format) (T : Message → Type 0) : Type 0 where
-  pub of-latched : (b : BallBox) → good b ≡ true → b .dormant ≡ false → b .settings .format ≡ letterOf f → T (report (latchedNow b))
+  pub of-latched : (b : BallBox) → good b ≡ true → dormant b ≡ false → b .settings .format ≡ letterOf f → T (report (latchedNow b))
   pub of-pair : (b : BallBox) (n : ℕ) (m : Message) → b .settings .format ≡ letterOf f → T m → T (pairedAt b n m)
 
 pub same-format : (b : BallBox) (f : Format) → b .settings .format ≡ letterOf f → formatOf b ≡ f
@@ -196,7 +196,7 @@ module _ {T : Message → Type 0} {Q : ℕ → Type 0} (keeps : Keeping T Q) whe
   awake-alike b Send a = sending-alike b
   awake-alike b Period a = record { format = refl; dormant = refl }
 
-  alike-by : (b : BallBox) (e : Event) → HostsAre Q e → good b ≡ true → b .dormant ≡ false → Alike b (stepOf b e .next)
+  alike-by : (b : BallBox) (e : Event) → HostsAre Q e → good b ≡ true → dormant b ≡ false → Alike b (stepOf b e .next)
   alike-by b e a k d = go (aboveSeven e) refl
     where
       go : (t : Bool) → aboveSeven e ≡ t → Alike b (stepOf b e .next)
@@ -281,7 +281,7 @@ Asks e = HostsAre (λ byte. Asking (commandOf byte)) e
 asking : (T : Message → Type 0) → Keeping T (λ byte. asksForReports byte ≡ true)
 asking T = record { stays = λ b byte a. silent T .stays b byte (asking-command byte a); leaves = λ b byte k a. silent T .leaves b byte k (asking-command byte a) }
 
-pub step-alike : (b : BallBox) (e : Event) → asks e ≡ true → good b ≡ true → b .dormant ≡ false → Alike b (stepOf b e .next)
+pub step-alike : (b : BallBox) (e : Event) → asks e ≡ true → good b ≡ true → dormant b ≡ false → Alike b (stepOf b e .next)
 step-alike b e a = alike-by (asking (λ _. ⊥)) b e (pass-are asksForReports e a)
 
 held-only : (f : Format) (m : Message) → HeldWith (λ _. ⊥) f m → HeldBy f m
@@ -301,7 +301,7 @@ held-with : (f : Format) (m : Message) → HeldBy f m → HeldWith (λ _. ⊥) f
 held-with f (report l) h = h
 held-with f (reply bytes) h = h
 
-pub set-of : (f : Format) (b : BallBox) (g : UnderWay Message) → Carrying b g → b .dormant ≡ false → b .settings .format ≡ letterOf f → SoundEnd f g → SetTo f b g
+pub set-of : (f : Format) (b : BallBox) (g : UnderWay Message) → Carrying b g → dormant b ≡ false → b .settings .format ≡ letterOf f → SoundEnd f g → SetTo f b g
 set-of f b g h d e s =
     record { good = h .good; awake = d; format = e; carries = h .carries; sound = part-by messageBytes (HeldBy f) (HeldWith (λ _. ⊥) f) (held-with f) g s }
 

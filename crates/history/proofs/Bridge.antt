@@ -11,7 +11,7 @@ use Rattle.frames.specs.Sender.{told}
 use Rattle.frames.proofs.Sender.{givenOver, bridge}
 use Rattle.wire.specs.Messages.{Message, messageBytes}
 use Rattle.ballbox.specs.Box as box
-use Rattle.ballbox.specs.Box.{goingFrom}
+use Rattle.ballbox.specs.Box.{goingFrom, dormant}
 use Rattle.ballbox.specs.Events.{quietly, bytesLeft, onButtons, onPeriod, awake, asleep, woken}
 use Rattle.ballbox.specs.Good.{good}
 use Rattle.ballbox.specs.Promises.{aboveSeven, stepOf}
@@ -19,6 +19,7 @@ use Rattle.ballbox.specs.declared.BallBox.{BallBox}
 use Rattle.ballbox.specs.declared.Stepped.{Stepped}
 use Rattle.ballbox.specs.declared.Event.{Event}
 use Rattle.ballbox.specs.declared.Event.the-variants.{Motion, Buttons, Host, Latch, Send, Period}
+use Rattle.ballbox.proofs.Single.{says}
 use Rattle.ballbox.proofs.Goodness.{stepped-good}
 use Rattle.ballbox.proofs.Refusals.{ruled}
 use Rattle.history.specs.Runs.{RunPromise, wordsGiven}
@@ -32,7 +33,7 @@ use Rattle.history.proofs.Hosts.{host-busy, host-idle}
 quiet : (b c : BallBox) (g : UnderWay Message) → c .going ≡ b .going → Alike b c → Carries b g → Sends (quietly c) g (told [] g)
 quiet b c g l a h = record { words = append-nil (partWords messageBytes g); carries = same-line g b c l a h }
 
-alike : {b c : BallBox} → c .settings .format ≡ b .settings .format → c .dormant ≡ b .dormant → Alike b c
+alike : {b c : BallBox} → c .settings .format ≡ b .settings .format → dormant c ≡ dormant b → Alike b c
 alike f d = record { format = f; dormant = d }
 
 pub buttons-line : (n : ℕ) (b : BallBox) → (onButtons n b .going ≡ b .going) × Alike b (onButtons n b)
@@ -40,12 +41,12 @@ unfolding onButtons
 buttons-line n b =
     cases (λ (c : BallBox). (c .going ≡ b .going) × Alike b c) (eqb n (b .settings .buttons)) (λ e. (refl, alike refl refl)) (λ e. (refl, alike refl refl))
 
-awake-host : (b : BallBox) (byte : ℕ) (g : UnderWay Message) → b .dormant ≡ false → Carries b g → Sends (awake b (Host byte)) g (whenAwake b (Host byte) g)
+awake-host : (b : BallBox) (byte : ℕ) (g : UnderWay Message) → dormant b ≡ false → Carries b g → Sends (awake b (Host byte)) g (whenAwake b (Host byte) g)
 unfolding awake
 awake-host b byte nothing d h = host-idle b byte d h
 awake-host b byte (first n m) d h = host-busy b byte n m d h
 
-awake-sends : (b : BallBox) (e : Event) (g : UnderWay Message) → good b ≡ true → b .dormant ≡ false → Carries b g → Sends (awake b e) g (whenAwake b e g)
+awake-sends : (b : BallBox) (e : Event) (g : UnderWay Message) → good b ≡ true → dormant b ≡ false → Carries b g → Sends (awake b e) g (whenAwake b e g)
 unfolding awake onPeriod
 awake-sends b (Motion dx dy) g k d h = quiet b _ g refl (alike refl refl) h
 awake-sends b (Buttons n) g k d h = let l = buttons-line n b in quiet b (onButtons n b) g (l .0) (l .1) h
@@ -64,12 +65,12 @@ idle-asleep b Latch h = record { words = refl; carries = h }
 idle-asleep b Send h = record { words = refl; carries = h }
 idle-asleep b Period h = record { words = refl; carries = h }
 
-asleep-sends : (b : BallBox) (e : Event) (g : UnderWay Message) → b .dormant ≡ true → Carries b g → Sends (asleep b e) g (whenAsleep b e g)
+asleep-sends : (b : BallBox) (e : Event) (g : UnderWay Message) → dormant b ≡ true → Carries b g → Sends (asleep b e) g (whenAsleep b e g)
 asleep-sends b e nothing d h = idle-asleep b e h
 asleep-sends b e (first n m) d h = absurd (holds (sym (h .1 .awake) ∙ d))
 
 -- every step of a good box
-pub told-is : (b : BallBox) (e : Event) (g : UnderWay Message) (s : Bool) → aboveSeven e ≡ false → b .dormant ≡ s → toldBy b e g ≡ cond s (whenAsleep b e g) (whenAwake b e g)
+pub told-is : (b : BallBox) (e : Event) (g : UnderWay Message) (s : Bool) → aboveSeven e ≡ false → dormant b ≡ s → toldBy b e g ≡ cond s (whenAsleep b e g) (whenAwake b e g)
 unfolding toldBy
 told-is b e g s p q = rw p (ap (λ (t : Bool). cond t (whenAsleep b e g) (whenAwake b e g)) q)
 
@@ -78,9 +79,9 @@ unfolding stepOf toldBy
 refused-sends b e g k p h = rw (k, p) (record { words = append-nil (partWords messageBytes g); carries = h })
 
 pub step-sends : (b : BallBox) (e : Event) (g : UnderWay Message) → good b ≡ true → Carries b g → Sends (stepOf b e) g (toldBy b e g)
-step-sends b e g k h = go (aboveSeven e) refl (b .dormant) refl
+step-sends b e g k h = go (aboveSeven e) refl (dormant b) refl
   where
-    go : (t : Bool) → aboveSeven e ≡ t → (s : Bool) → b .dormant ≡ s → Sends (stepOf b e) g (toldBy b e g)
+    go : (t : Bool) → aboveSeven e ≡ t → (s : Bool) → dormant b ≡ s → Sends (stepOf b e) g (toldBy b e g)
     go true p s q = refused-sends b e g k p h
     go false p true q = rw (ruled b e true k p q, told-is b e g true p q) (asleep-sends b e g q h)
     go false p false q = rw (ruled b e false k p q, told-is b e g false p q) (awake-sends b e g k q h)
@@ -99,8 +100,8 @@ permitted b [] [] p = refl
 permitted b [] (a ∷ answers) p = absurd p
 permitted b (e ∷ events) [] p = absurd p
 permitted b (e ∷ events) (a ∷ answers) p =
-    let n : a .next ≡ nextBox b e = ap (λ (x : box.Step). x .next) (p .0) in
-    ap₂ _++_ (ap (λ (x : box.Step). x .words) (p .0))
+    let n : a .next ≡ nextBox b e = ap (λ (x : Stepped). x .next) (p .0) in
+    ap₂ _++_ (ap (λ (x : box.Step). x .words) (says b e a (p .0)))
     (permitted (a .next) events answers (p .1) ∙ rw n)
 
 -- The words of a run, behind what of the report or reply that was going has gone before it, are the words of its

@@ -12,6 +12,7 @@ use Rattle.wire.specs.Reading.{at}
 use Rattle.wire.specs.Messages.{Message, report, reply, messageBytes}
 use Rattle.wire.proofs.Front.{size-between}
 use Rattle.wire.proofs.Codec.{bytes-length}
+use Rattle.ballbox.specs.Box.{dormant}
 use Rattle.ballbox.specs.Box as box
 use Rattle.ballbox.specs.declared.BallBox.{BallBox}
 use Rattle.history.specs.Carried.{Sendable, Rightly, Carries}
@@ -23,7 +24,7 @@ at-most-five b (reply bytes) s = omega arith
 -- a box with the format and the sleep of another
 pub record Alike (b c : BallBox) : Type 0 where
   pub format : c .settings .format ≡ b .settings .format
-  pub dormant : c .dormant ≡ b .dormant
+  pub dormant : dormant c ≡ dormant b
 
 still-sendable : (m : Message) (b c : BallBox) → c .settings .format ≡ b .settings .format → Sendable b m → Sendable c m
 still-sendable (report l) b c e s = (e ∙ s .0, s .1)

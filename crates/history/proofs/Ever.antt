@@ -16,9 +16,10 @@ use Rattle.frames.proofs.Sub.{sub-all, sub-none, sub-append}
 use Rattle.wire.specs.Messages.{Message, report, reply, messageBytes}
 use Rattle.wire.specs.Buttons.{presses, latchedButtons, buttonsSent, buttonsBegun, buttonsGoing}
 use Rattle.wire.proofs.Buttons.{stays-so, fewer}
+use Rattle.ballbox.specs.Box.{dormant}
 use Rattle.ballbox.specs.Box as box
 use Rattle.ballbox.specs.Presses as memory
-use Rattle.ballbox.specs.Presses.{remembered, anyRemembered, full, toShow, hidden}
+use Rattle.ballbox.specs.Presses.{remembered, anyRemembered, full, toShow, hidden, showing}
 use Rattle.ballbox.specs.Latching.{latchedReport}
 use Rattle.ballbox.specs.Commands.{isStream, commandOf, obeyed, replyTo}
 use Rattle.ballbox.specs.Events.{wanted, latching, sending, dropped, onHost, onButtons, onPeriod, awake, asleep, woken}
@@ -161,12 +162,12 @@ obeyed-either AskButtons b = kept refl
 obeyed-either Sleep b = emptied refl
 obeyed-either Ignored b = kept refl
 
-dropped-memory : (b : BallBox) (g : UnderWay Message) → Carries b g → Showing b g → (dropped b .memory .showing ≡ false) × (remembered (dropped b .memory) ≡ remembered (b .memory))
+dropped-memory : (b : BallBox) (g : UnderWay Message) → Carries b g → Showing b g → (showing (dropped b .memory) ≡ false) × (remembered (dropped b .memory) ≡ remembered (b .memory))
 unfolding hidden
 dropped-memory b nothing c h = rw (dropped-idle b c) (h, refl)
 dropped-memory b (first n m) c h = rw (dropped-busy b (bytes-left b n m c)) (refl, remembered-hidden (b .memory))
 
-reply-showing : (bytes : List ℕ) (b : BallBox) → b .memory .showing ≡ false → Showing b (unsentReply bytes)
+reply-showing : (bytes : List ℕ) (b : BallBox) → showing (b .memory) ≡ false → Showing b (unsentReply bytes)
 reply-showing [] b h = h
 reply-showing (byte ∷ bytes) b h = h
 
@@ -187,7 +188,7 @@ host-owes : (b : BallBox) (byte : ℕ) (g : UnderWay Message) → Carries b g �
 unfolding onHost
 host-owes b byte g c h = go (obeyed-either (commandOf byte) (dropped b))
   where
-    d : (dropped b .memory .showing ≡ false) × (remembered (dropped b .memory) ≡ remembered (b .memory))
+    d : (showing (dropped b .memory) ≡ false) × (remembered (dropped b .memory) ≡ remembered (b .memory))
     d = dropped-memory b g c h
 
     next : BallBox
@@ -204,12 +205,12 @@ host-owes b byte g c h = go (obeyed-either (commandOf byte) (dropped b))
     go : Either (dropped b) next → Owes b g [] next (whenAwake b (Host byte) g)
     go (kept e) =
         record {
-          showing = reply-showing (replyTo b (commandOf byte)) next (ap (λ (m : Memory). m .showing) e ∙ d .0);
+          showing = reply-showing (replyTo b (commandOf byte)) next (ap showing e ∙ d .0);
           less = less-than (rw (ap remembered e ∙ d .1) (sub-all (remembered (b .memory))));
         }
     go (emptied e) =
         record {
-          showing = reply-showing (replyTo b (commandOf byte)) next (ap (λ (m : Memory). m .showing) e);
+          showing = reply-showing (replyTo b (commandOf byte)) next (ap showing e);
           less = less-than (rw (ap remembered e ∙ empty-none) (sub-none (remembered (b .memory))));
         }
 
@@ -301,13 +302,13 @@ asleep-owes b Send h = record { showing = h; less = less-sub (sub-more (owed b n
 asleep-owes b Period h = unchanged b b nothing [] refl refl h
 
 step-owes : (b : BallBox) (e : Event) (g : UnderWay Message) → good b ≡ true → Carries b g → Showing b g → Owes b g (toldOne e) (nextBox b e) (toldBy b e g)
-step-owes b e g k c h = go (aboveSeven e) refl (b .dormant) refl
+step-owes b e g k c h = go (aboveSeven e) refl (dormant b) refl
   where
-    sleeping : (g : UnderWay Message) → Carries b g → Showing b g → b .dormant ≡ true → Owes b g (toldOne e) (asleep b e .next) (whenAsleep b e g)
+    sleeping : (g : UnderWay Message) → Carries b g → Showing b g → dormant b ≡ true → Owes b g (toldOne e) (asleep b e .next) (whenAsleep b e g)
     sleeping nothing c h q = asleep-owes b e h
     sleeping (first n m) c h q = absurd (holds (sym (c .1 .awake) ∙ q))
 
-    go : (t : Bool) → aboveSeven e ≡ t → (s : Bool) → b .dormant ≡ s → Owes b g (toldOne e) (nextBox b e) (toldBy b e g)
+    go : (t : Bool) → aboveSeven e ≡ t → (s : Bool) → dormant b ≡ s → Owes b g (toldOne e) (nextBox b e) (toldBy b e g)
     go true p s q = rw (refused-told b e g p) (unchanged b (nextBox b e) g (toldOne e) (ap (λ (x : BallBox). x .memory) (refused-next b e k p)) (ap (λ (x : BallBox). x .settings .buttons) (refused-next b e k p)) h)
     go false p true q =
         rw (told-is b e g true p q) (subst (λ (x : box.Step). Owes b g (toldOne e) (x .next) (whenAsleep b e g)) (sym (ruled b e true k p q)) (sleeping g c h q))

@@ -8,7 +8,7 @@ use Rattle.frames.specs.Passages.{nothing, first, partWords}
 use Rattle.frames.specs.Sender.{told, brokenOff}
 use Rattle.frames.proofs.Sender.{breaks}
 use Rattle.wire.specs.Messages.{Message, messageBytes}
-use Rattle.ballbox.specs.Box.{goingFrom}
+use Rattle.ballbox.specs.Box.{goingFrom, dormant}
 use Rattle.ballbox.specs.Commands.{commandOf, replyTo, obeyed}
 use Rattle.ballbox.specs.Events.{bytesLeft, dropped, onHost}
 use Rattle.ballbox.specs.declared.BallBox.{BallBox}
@@ -27,7 +27,7 @@ reply-words [] = refl
 reply-words (b ∷ bytes) = refl
 
 -- what a command leaves, where no bytes are left
-obeyed-carries : (b : BallBox) (c : Command) → bytesLeft b ≡ false → b .dormant ≡ false → Carries (obeyed c b) (unsentReply (replyTo b c))
+obeyed-carries : (b : BallBox) (c : Command) → bytesLeft b ≡ false → dormant b ≡ false → Carries (obeyed c b) (unsentReply (replyTo b c))
 unfolding obeyed goingFrom
 obeyed-carries b (SetFormat f) e d = e
 obeyed-carries b (SetStream m) e d = e
@@ -61,16 +61,16 @@ none-left b = go (bytesLeft b) refl
     go true e = rw e
     go false e = ap bytesLeft (dropped-idle b e) ∙ e
 
-heard-carries : (b : BallBox) (byte : ℕ) → b .dormant ≡ false → Carries (onHost byte b .next) (unsentReply (replyTo b (commandOf byte)))
+heard-carries : (b : BallBox) (byte : ℕ) → dormant b ≡ false → Carries (onHost byte b .next) (unsentReply (replyTo b (commandOf byte)))
 unfolding onHost
 heard-carries b byte d =
     rw (← same-reply b (dropped b) (commandOf byte) (dropped-settings b)) (obeyed-carries (dropped b) (commandOf byte) (none-left b) (dropped-awake b ∙ d))
 
-pub host-idle : (b : BallBox) (byte : ℕ) → b .dormant ≡ false → bytesLeft b ≡ false → Sends (onHost byte b) nothing (told [] (unsentReply (replyTo b (commandOf byte))))
+pub host-idle : (b : BallBox) (byte : ℕ) → dormant b ≡ false → bytesLeft b ≡ false → Sends (onHost byte b) nothing (told [] (unsentReply (replyTo b (commandOf byte))))
 unfolding onHost
 host-idle b byte d e = record { words = rw (e, reply-words (replyTo b (commandOf byte))); carries = heard-carries b byte d }
 
-pub host-busy : (b : BallBox) (byte n : ℕ) (m : Message) → b .dormant ≡ false → Carries b (first n m)
+pub host-busy : (b : BallBox) (byte n : ℕ) (m : Message) → dormant b ≡ false → Carries b (first n m)
     → Sends (onHost byte b) (first n m) (told (brokenOff (first n m)) (unsentReply (replyTo b (commandOf byte))))
 unfolding onHost
 host-busy b byte n m d h =

@@ -15,6 +15,7 @@ use Rattle.frames.specs.Passages.{UnderWay, nothing}
 use Rattle.frames.specs.Sender.{told, passagesOver}
 use Rattle.frames.proofs.Passages.{finished-append}
 use Rattle.wire.specs.Messages.{Message}
+use Rattle.ballbox.specs.Box.{dormant}
 use Rattle.ballbox.specs.Box as box
 use Rattle.ballbox.specs.Presses.{remembered, full}
 use Rattle.ballbox.specs.Latching.{latched, secondLatched}
@@ -47,12 +48,12 @@ use Rattle.history.proofs.Showing.{same-showing, Keeps, send-keeps, lat
 -- a good box, awake in a stream mode, and what is going in it
 pub record Streams (b : BallBox) (g : UnderWay Message) : Type 0 where
   pub good : good b ≡ true
-  pub awake : b .dormant ≡ false
+  pub awake : dormant b ≡ false
   pub stream : isStream (b .settings .mode) ≡ true
   pub carries : Carries b g
   pub showing : Showing b g
 
-pub streams-from : (b : BallBox) (g : UnderWay Message) → Carrying b g → b .dormant ≡ false → isStream (b .settings .mode) ≡ true → Streams b g
+pub streams-from : (b : BallBox) (g : UnderWay Message) → Carrying b g → dormant b ≡ false → isStream (b .settings .mode) ≡ true → Streams b g
 streams-from b g h d m = record { good = h .good; awake = d; stream = m; carries = h .carries; showing = h .showing }
 
 -- a good box with no bytes left carries nothing
@@ -61,7 +62,7 @@ at-rest b k e = record { good = k; carries = e; showing = idle-shows-none b k e 
 
 -- it stays awake in a stream mode
 pub record Listens (b : BallBox) : Type 0 where
-  pub awake : b .dormant ≡ false
+  pub awake : dormant b ≡ false
   pub stream : isStream (b .settings .mode) ≡ true
 
 latching-listens : (b : BallBox) → Listens b → Listens (latching b)
@@ -228,7 +229,7 @@ last-box b [] [] p = refl
 last-box b [] (a ∷ answers) p = absurd p
 last-box b (e ∷ events) [] p = absurd p
 last-box b (e ∷ events) (a ∷ answers) p =
-    let n : a .next ≡ nextBox b e = ap (λ (x : box.Step). x .next) (p .0) in
+    let n : a .next ≡ nextBox b e = ap (λ (x : Stepped). x .next) (p .0) in
     last-box (a .next) events answers (p .1) ∙ rw n
 
 -- Motion, Buttons and Period leave the line
@@ -247,7 +248,7 @@ quiet-awake motion b g = refl
 quiet-awake buttons b g = refl
 quiet-awake period b g = refl
 
-pub quiet-told : (b : BallBox) (e : Event) (g : UnderWay Message) → b .dormant ≡ false → Quiet e → toldBy b e g ≡ told [] g
+pub quiet-told : (b : BallBox) (e : Event) (g : UnderWay Message) → dormant b ≡ false → Quiet e → toldBy b e g ≡ told [] g
 quiet-told b e g d q = go (aboveSeven e) refl
   where
     go : (t : Bool) → aboveSeven e ≡ t → toldBy b e g ≡ told [] g

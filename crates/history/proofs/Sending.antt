@@ -23,7 +23,7 @@ use Rattle.wire.proofs.Letters.{letter-named}
 use Rattle.wire.proofs.Front.{size-between}
 use Rattle.wire.proofs.Codec.{bytes-length}
 use Rattle.wire.proofs.Codec.Accepted.{parts, parts-accepted}
-use Rattle.ballbox.specs.Box.{goingFrom}
+use Rattle.ballbox.specs.Box.{goingFrom, dormant}
 use Rattle.ballbox.specs.Latching.{movement, taken, withSecond, secondLatched, latched, latchedReport}
 use Rattle.ballbox.specs.Events.{bytesLeft, wanted, secondNow, withByteReady, after, nextByte, latching, sending, quietly}
 use Rattle.ballbox.specs.Good.{good}
@@ -160,7 +160,7 @@ unfolding acceptedBy
 accepted-known l f r e a = rw (e, letter-named f) at a
 
 -- a report is latched, and none of its bytes has gone
-pub latched-carries : (b : BallBox) → good b ≡ true → b .dormant ≡ false → Carries (latched b) (first 0 (report (latchedNow b)))
+pub latched-carries : (b : BallBox) → good b ≡ true → dormant b ≡ false → Carries (latched b) (first 0 (report (latchedNow b)))
 unfolding latched goingFrom
 latched-carries b g d =
     let f = formatOf b in
@@ -175,7 +175,7 @@ latched-carries b g d =
     )
 
 -- a box that latches
-pub latch-sends : (b : BallBox) (g : UnderWay Message) → good b ≡ true → b .dormant ≡ false → Carries b g → Sends (quietly (latching b)) g (told [] (begun b g))
+pub latch-sends : (b : BallBox) (g : UnderWay Message) → good b ≡ true → dormant b ≡ false → Carries b g → Sends (quietly (latching b)) g (told [] (begun b g))
 latch-sends b (first n m) g d h = rw (latching-busy b (bytes-left b n m h)) (record { words = append-nil (partWords messageBytes (first n m)); carries = h })
 latch-sends b nothing g d h = go (wanted b) refl
   where

@@ -14,7 +14,7 @@ use Rattle.frames.specs.Sender.{sentOne, brokenOff}
 use Rattle.wire.specs.Line.{known}
 use Rattle.wire.specs.Messages.{Message, report, reply, messageBytes}
 use Rattle.ballbox.specs.Box.{modeD}
-use Rattle.ballbox.specs.Presses.{remembered, anyRemembered, full, remembering, toShow, showingFirst, shown, hidden}
+use Rattle.ballbox.specs.Presses.{remembered, anyRemembered, full, remembering, toShow, showingFirst, shown, hidden, showing}
 use Rattle.ballbox.specs.Latching.{latched, latchedReport, secondLatched}
 use Rattle.ballbox.specs.Commands.{isStream, letterP, space, letterf, lettert, byte05, letterd, commandOf, replyTo, obeyed}
 use Rattle.ballbox.specs.Events.{wanted, secondNow, withByteReady, memoryAfter, latching, nextByte, sending, dropped, onHost, onButtons}
@@ -25,6 +25,7 @@ use Rattle.ballbox.specs.declared.Going.{Going}
 use Rattle.ballbox.specs.declared.Event.the-variants.{Buttons, Send}
 use Rattle.ballbox.specs.declared.Command.{Command}
 use Rattle.ballbox.specs.declared.Command.the-variants.{SetFormat, SetStream, SetPrompt, AskReport, AskAck, AskCode, AskLetters, AskButtons, Sleep, Ignored}
+use Rattle.ballbox.proofs.Marks.{mark-back}
 use Rattle.ballbox.proofs.Remembering.{memory-parts, remembered-length, remembered-behind, remembered-ninth, remembered-shown, remembered-hidden, remembered-showing, shown-none, shows-first}
 use Rattle.ballbox.proofs.Cases.{latching-busy, latching-wanted, latching-idle, sending-byte, sending-silence, dropped-busy, dropped-idle}
 use Rattle.history.specs.History.{latchedNow, begun, pairedAt, isFive, unsentReply, whenAwake}
@@ -47,18 +48,18 @@ first-of : (l : List ℕ) (s : ℕ) → take 1 l ≡ s ∷ [] → l ≡ s ∷ dr
 first-of [] s e = cc
 first-of (x ∷ l) s e = cc
 
-nothing-shown : (m : Memory) → shown m .showing ≡ false
+nothing-shown : (m : Memory) → showing (shown m) ≡ false
 unfolding shown
-nothing-shown m = go (m .showing) refl
+nothing-shown m = go (showing m) refl
   where
-    go : (t : Bool) → m .showing ≡ t → shown m .showing ≡ false
+    go : (t : Bool) → showing m ≡ t → showing (shown m) ≡ false
     go true e = rw e
-    go false e = ap (λ (k : Memory). k .showing) (shown-none m e) ∙ e
+    go false e = ap showing (shown-none m e) ∙ e
 
 -- where the last byte of a message has gone
 ended : (b c : BallBox) (n : ℕ) (m : Message) → goodMemory (b .memory) ≡ true → Showing b (first n m) → c .memory ≡ shown (b .memory)
     → Keeps (remembered (b .memory)) c (shownIn m) nothing
-ended b c n (report l) g h e = record { showing = ap (λ (k : Memory). k .showing) e ∙ nothing-shown (b .memory); order = go (l .shows) refl }
+ended b c n (report l) g h e = record { showing = ap showing e ∙ nothing-shown (b .memory); order = go (l .shows) refl }
   where
     go : (t : Bool) → l .shows ≡ t → remembered (b .memory) ≡ shownIn (report l) ++ remembered (c .memory)
     go true s =
@@ -66,7 +67,7 @@ ended b c n (report l) g h e = record { showing = ap (λ (k : Memory). k .showin
         rw (s, r) (first-of (remembered (b .memory)) (l .report .buttons) (h .1 s))
     go false s = rw (s, e, shown-none (b .memory) (h .0 ∙ s))
 ended b c n (reply bytes) g h e =
-    record { showing = ap (λ (k : Memory). k .showing) e ∙ nothing-shown (b .memory); order = rw (e, shown-none (b .memory) h) }
+    record { showing = ap showing e ∙ nothing-shown (b .memory); order = rw (e, shown-none (b .memory) h) }
 
 -- a byte goes out
 byte-keeps : (b : BallBox) (n : ℕ) (m : Message) → goodMemory (b .memory) ≡ true → Carries b (first n m) → Showing b (first n m)
@@ -129,7 +130,7 @@ first-shown b g a = go (remembered (b .memory)) refl
 
 latched-showing : (b : BallBox) → goodMemory (b .memory) ≡ true → Showing (latched b) (first 0 (report (latchedNow b)))
 unfolding latched latchedReport showingFirst remembered
-latched-showing b g = (refl, λ a. first-shown b g a)
+latched-showing b g = (mark-back (anyRemembered (b .memory)), λ a. first-shown b g a)
 
 latched-keeps : (b : BallBox) → remembered (latched b .memory) ≡ remembered (b .memory)
 unfolding latched
@@ -173,9 +174,9 @@ module _ (m : Memory) (g : goodMemory m ≡ true) (n : ℕ) where
       go true e = rw (remembered-ninth m g n e, is)
       go false e = rw (remembered-behind m g n e, is)
 
-  still-showing : remembering n m .showing ≡ m .showing
+  still-showing : showing (remembering n m) ≡ showing m
   unfolding remembering
-  still-showing = cases (λ (k : Memory). k .showing ≡ m .showing) (full m) (λ e. refl) (λ e. refl)
+  still-showing = cases (λ (k : Memory). showing k ≡ showing m) (full m) (λ e. refl) (λ e. refl)
 
 remembering-showing : (b c : BallBox) (n : ℕ) (g : UnderWay Message) → goodMemory (b .memory) ≡ true → c .memory ≡ remembering n (b .memory) → Showing b g → Showing c g
 remembering-showing b c n nothing k e h = rw e (still-showing (b .memory) k n ∙ h)
@@ -228,11 +229,11 @@ kept-memory AskButtons b k = refl
 kept-memory Sleep b k = absurd k
 kept-memory Ignored b k = refl
 
-reply-showing : (bytes : List ℕ) (b : BallBox) → b .memory .showing ≡ false → Showing b (unsentReply bytes)
+reply-showing : (bytes : List ℕ) (b : BallBox) → showing (b .memory) ≡ false → Showing b (unsentReply bytes)
 reply-showing [] b h = h
 reply-showing (byte ∷ bytes) b h = h
 
-dropped-memory : (b : BallBox) (g : UnderWay Message) → Carries b g → Showing b g → (dropped b .memory .showing ≡ false) × (remembered (dropped b .memory) ≡ remembered (b .memory))
+dropped-memory : (b : BallBox) (g : UnderWay Message) → Carries b g → Showing b g → (showing (dropped b .memory) ≡ false) × (remembered (dropped b .memory) ≡ remembered (b .memory))
 unfolding hidden
 dropped-memory b nothing c h = rw (dropped-idle b c) (h, refl)
 dropped-memory b (first n m) c h = rw (dropped-busy b (bytes-left b n m c)) (refl, remembered-hidden (b .memory))
@@ -249,6 +250,6 @@ host-keeps b byte g k c h =
     let d = dropped-memory b g c h in
     rw (broken-shows g)
     (record {
-      showing = reply-showing (replyTo b (commandOf byte)) _ (ap (λ (m : Memory). m .showing) e ∙ d .0);
+      showing = reply-showing (replyTo b (commandOf byte)) _ (ap showing e ∙ d .0);
       order = sym (ap remembered e ∙ d .1);
     })

@@ -5,7 +5,7 @@ use mathlib.Core.List.{List, [], _∷_, _++_, append-assoc}
 use Rattle.numbers.proofs.Choices.{cases}
 use Rattle.frames.specs.Words.{silence}
 use Rattle.wire.specs.Numbers.{success}
-use Rattle.ballbox.specs.Box.{Step, goingFrom}
+use Rattle.ballbox.specs.Box.{Step, goingFrom, dormant}
 use Rattle.ballbox.specs.Latching.{latched}
 use Rattle.ballbox.specs.Events.{gives, bytesLeft, wanted, latching, nextByte, sending, awake, asleep}
 use Rattle.ballbox.specs.Good.{good}
@@ -13,6 +13,7 @@ use Rattle.ballbox.specs.Promises.{outcome, sentWords, stepOf, StepPromise}
 use Rattle.ballbox.specs.declared.BallBox.{BallBox}
 use Rattle.ballbox.specs.declared.Event.the-variants.{Latch, Send}
 use Rattle.ballbox.specs.declared.Stepped.{Stepped}
+use Rattle.ballbox.proofs.Single.{says}
 use Rattle.ballbox.proofs.Parts.{parts}
 use Rattle.ballbox.proofs.Cases.{latching-busy, latching-wanted, latching-idle, sending-byte, sending-silence}
 use Rattle.ballbox.proofs.Goodness.{stepped-good, latched-left}
@@ -42,11 +43,11 @@ bad-slot : (b : BallBox) → good b ≡ false → joined (stepOf b Latch) (stepO
 unfolding stepOf slotOf
 bad-slot b g = rw (g, g)
 
-slot-ruled : (b : BallBox) (d : Bool) → good b ≡ true → b .dormant ≡ d → slotOf b ≡ cond d (gives (silence ∷ []) b) (onSlot b)
+slot-ruled : (b : BallBox) (d : Bool) → good b ≡ true → dormant b ≡ d → slotOf b ≡ cond d (gives (silence ∷ []) b) (onSlot b)
 unfolding slotOf
 slot-ruled b d g e = rw g (ap (λ (t : Bool). cond t (gives (silence ∷ []) b) (onSlot b)) e)
 
-good-slot : (b : BallBox) → good b ≡ true → (d : Bool) → b .dormant ≡ d → joined (stepOf b Latch) (stepOf (stepOf b Latch .next) Send) ≡ slotOf b
+good-slot : (b : BallBox) → good b ≡ true → (d : Bool) → dormant b ≡ d → joined (stepOf b Latch) (stepOf (stepOf b Latch .next) Send) ≡ slotOf b
 unfolding asleep awake
 good-slot b g true d = rw (ruled b Latch true g refl d, ruled b Send true g refl d) (sym (slot-ruled b true g d))
 good-slot b g false d =
@@ -58,14 +59,14 @@ latch-send : (b : BallBox) → joined (stepOf b Latch) (stepOf (stepOf b Latch .
 latch-send b = go (good b) refl
   where
     go : (t : Bool) → good b ≡ t → joined (stepOf b Latch) (stepOf (stepOf b Latch .next) Send) ≡ slotOf b
-    go true g = good-slot b g (b .dormant) refl
+    go true g = good-slot b g (dormant b) refl
     go false g = bad-slot b g
 
 -- Latch and then Send, any answers that the promises permit, are Slot
 pub slot-was : (b : BallBox) (p q : Stepped) → StepPromise b Latch p → StepPromise (p .next) Send q → joined (outcome p) (outcome q) ≡ slotOf b
 slot-was b p q s t =
-    let n : p .next ≡ stepOf b Latch .next = ap (λ (x : Step). x .next) s in
-    ap₂ joined s (t ∙ ap (λ (x : BallBox). stepOf x Send) n) ∙ latch-send b
+    let n : p .next ≡ stepOf b Latch .next = ap (λ (x : Stepped). x .next) s in
+    ap₂ joined (says b Latch p s) (says (p .next) Send q t ∙ ap (λ (x : BallBox). stepOf x Send) n) ∙ latch-send b
 
 -- and each of the two tells what Slot told
 sending-fine : (b : BallBox) → sending b .refusal ≡ success
@@ -74,9 +75,9 @@ sending-fine b = cases (λ (x : Step). x .refusal ≡ success) (bytesLeft b) (λ
 
 latch-number : (b : BallBox) → stepOf b Latch .refusal ≡ slotOf b .refusal
 unfolding stepOf slotOf asleep awake
-latch-number b = go (good b) refl (b .dormant) refl
+latch-number b = go (good b) refl (dormant b) refl
   where
-    go : (t : Bool) → good b ≡ t → (d : Bool) → b .dormant ≡ d → stepOf b Latch .refusal ≡ slotOf b .refusal
+    go : (t : Bool) → good b ≡ t → (d : Bool) → dormant b ≡ d → stepOf b Latch .refusal ≡ slotOf b .refusal
     go false g d e = rw g
     go true g true e = ap (λ (x : Step). x .refusal) (ruled b Latch true g refl e) ∙ sym (ap (λ (x : Step). x .refusal) (slot-ruled b true g e))
     go true g false e =
@@ -95,15 +96,15 @@ slots-were b (slot ∷ events) (p ∷ []) h = absurd (h .1)
 slots-were b (slot ∷ events) (p ∷ q ∷ answers) h =
     let e = slot-was b p q (h .0) (h .1 .0) in
     let n : q .next ≡ slotOf b .next = ap (λ (x : Step). x .next) e in
-    let first : p .refusal ≡ slotOf b .refusal = ap (λ (x : Step). x .refusal) (h .0) ∙ latch-number b in
+    let first : p .refusal ≡ slotOf b .refusal = ap (λ (x : Stepped). x .refusal) (h .0) ∙ latch-number b in
     let second : q .refusal ≡ slotOf b .refusal = ap (λ (x : Step). x .refusal) e in
     let rest = slots-were (q .next) events answers (h .1 .1) in (
-      sym (append-assoc (sentWords (p .sent)) (sentWords (q .sent)) (wordsGiven answers)) ∙ ap₂ _++_ (ap (λ (x : Step). x .words) e) (rest .0 ∙ rw n),
+      sym (append-assoc (sentWords p) (sentWords q) (wordsGiven answers)) ∙ ap₂ _++_ (ap (λ (x : Step). x .words) e) (rest .0 ∙ rw n),
       rest .1 ∙ rw n,
       ap₂ _∷_ first (ap₂ _∷_ second (rest .2 ∙ rw n)),
     )
 slots-were b (still e ∷ events) [] h = absurd h
 slots-were b (still e ∷ events) (a ∷ answers) h =
-    let n : a .next ≡ stepOf b e .next = ap (λ (x : Step). x .next) (h .0) in
+    let n : a .next ≡ stepOf b e .next = ap (λ (x : Stepped). x .next) (h .0) in
     let rest = slots-were (a .next) events answers (h .1) in
-    (ap₂ _++_ (ap (λ (x : Step). x .words) (h .0)) (rest .0 ∙ rw n), rest .1 ∙ rw n, ap₂ _∷_ (ap (λ (x : Step). x .refusal) (h .0)) (rest .2 ∙ rw n))
+    (ap₂ _++_ (ap (λ (x : Step). x .words) (says b e a (h .0))) (rest .0 ∙ rw n), rest .1 ∙ rw n, ap₂ _∷_ (ap (λ (x : Stepped). x .refusal) (h .0)) (rest .2 ∙ rw n))

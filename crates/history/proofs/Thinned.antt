@@ -1,7 +1,7 @@
 -- Silences that are left out are no damage: a box whose idle Sends were left out sends the words that are left.
 use Prim.Native.Nat.{ℕ, zero, suc, _<_}
 use mathlib.Core.Path.{_≡_, refl, sym, _∙_, ap, subst}
-use mathlib.Core.Bool.{Bool, true, false}
+use mathlib.Core.Bool.{Bool, true, false, cond}
 use mathlib.Core.List.{List, [], _∷_, _++_}
 use native.Mathlib.Omega.{arith}
 use Rattle.numbers.proofs.Tested.{left, right}
@@ -10,16 +10,16 @@ use Rattle.frames.specs.Damage.{Fewer}
 use Rattle.frames.specs.Damage as damage
 use Rattle.frames.proofs.Fewer.{fewer-behind}
 use Rattle.wire.specs.Reading.{at}
-use Rattle.ballbox.specs.Box.{Step, Bytes, FiveBytes}
+use Rattle.ballbox.specs.Marks.{marked}
+use Rattle.ballbox.specs.Box.{Step, Bytes, FiveBytes, dormant}
 use Rattle.ballbox.specs.Good.{good}
 use Rattle.ballbox.specs.Events.{gives, bytesLeft, awake, asleep, sending, nextByte, withByteReady, Speaks}
 use Rattle.ballbox.specs.Promises.{sentWords, stepOf, StepPromise}
 use Rattle.ballbox.specs.declared.BallBox.{BallBox}
 use Rattle.ballbox.specs.declared.Stepped.{Stepped}
-use Rattle.ballbox.specs.declared.Sent.{Sent}
-use Rattle.ballbox.specs.declared.Sent.the-variants.{Nothing, Word}
 use Rattle.ballbox.specs.declared.Event.{Event}
 use Rattle.ballbox.specs.declared.Event.the-variants.{Motion, Buttons, Host, Latch, Send, Period}
+use Rattle.ballbox.proofs.Single.{says}
 use Rattle.ballbox.proofs.Cases.{sending-silence, sending-byte, host-busy}
 use Rattle.ballbox.proofs.Refusals.{ruled}
 use Rattle.ballbox.proofs.Words.{only-send-and-host, step-bytes, ready-five}
@@ -30,8 +30,8 @@ use Rattle.history.specs.Thinned.{Thins, ended, same, idle, Chosen}
 
 -- an idle Send gives a silence, and leaves the box as it was
 idle-send : (b : BallBox) (a : Stepped) → StepPromise b Send a → stepOf b Send ≡ gives (silence ∷ []) b
-    → (a .next ≡ b) × (sentWords (a .sent) ≡ silence ∷ [])
-idle-send b a e i = (ap (λ (s : Step). s .next) (e ∙ i), ap (λ (s : Step). s .words) (e ∙ i))
+    → (a .next ≡ b) × (sentWords a ≡ silence ∷ [])
+idle-send b a e i = let s = says b Send a e ∙ i in (ap (λ (s : Step). s .next) s, ap (λ (s : Step). s .words) s)
 
 -- it is a run again, of the same box
 pub thinned-run : {b : BallBox} {events fewer : List Event} {answers answered : List Stepped} → Thins b events answers fewer answered
@@ -59,7 +59,7 @@ pub thinned-words : {b : BallBox} {events fewer : List Event} {answers answered 
     → Fewer (wordsGiven answered) (wordsGiven answers)
 unfolding RunPromise
 thinned-words ended r = damage.whole
-thinned-words (same {a = a} t) r = fewer-behind (sentWords (a .sent)) (thinned-words t (r .1))
+thinned-words (same {a = a} t) r = fewer-behind (sentWords a) (thinned-words t (r .1))
 thinned-words {b} (idle {a = a} {events = events} {answers = answers} {answered = answered} q t) r =
     let i = idle-send b a (r .0) q in
     let later = subst (λ (c : BallBox). RunPromise c events answers) (i .0) (r .1) in
@@ -85,7 +85,7 @@ awake-send b ws true l five h =
 abbrev IsIdle : BallBox → Event → Type 0
 IsIdle b e = (e ≡ Send) × (stepOf b Send ≡ gives (silence ∷ []) b)
 
-by-event : (b : BallBox) (e : Event) (ws : List ℕ) (d : Bool) → b .dormant ≡ d → good b ≡ true → FiveBytes (b .going) → Speaks b e
+by-event : (b : BallBox) (e : Event) (ws : List ℕ) (d : Bool) → dormant b ≡ d → good b ≡ true → FiveBytes (b .going) → Speaks b e
     → stepOf b e .words ≡ silence ∷ ws
     → IsIdle b e
 unfolding asleep awake
@@ -100,28 +100,28 @@ by-event b Send ws false s g five says h =
     (refl, i ∙ awake-send b ws (bytesLeft b) refl five (sym (ap (λ (s : Step). s .words) i) ∙ h))
 by-event b Period ws d s g five says h = absurd says
 
-silent-idle : (b : BallBox) (e : Event) (a : Stepped) → StepPromise b e a → good b ≡ true → FiveBytes (b .going) → sentWords (a .sent) ≡ silence ∷ []
+silent-idle : (b : BallBox) (e : Event) (a : Stepped) → StepPromise b e a → good b ≡ true → FiveBytes (b .going) → sentWords a ≡ silence ∷ []
     → IsIdle b e × (a .next ≡ b)
 silent-idle b e a p g five h =
-    let says = only-send-and-host b e a silence [] p h in
-    let i = by-event b e [] (b .dormant) refl g five says (sym (ap (λ (s : Step). s .words) p) ∙ h) in
-    (i, ap (λ (s : Step). s .next) (p ∙ (ap (λ (x : Event). stepOf b x) (i .0) ∙ i .1)))
+    let speaks = only-send-and-host b e a silence [] p h in
+    let i = by-event b e [] (dormant b) refl g five speaks (sym (ap (λ (s : Step). s .words) (says b e a p)) ∙ h) in
+    (i, ap (λ (s : Step). s .next) (says b e a p ∙ (ap (λ (x : Event). stepOf b x) (i .0) ∙ i .1)))
 
 -- one event more, of which the silence is left out or not
-one-more : (b : BallBox) (e : Event) (a : Stepped) (events : List Event) (answers : List Stepped) (words : List ℕ) (s : Sent)
-    → sentWords (a .sent) ≡ sentWords s
-    → (sentWords s ≡ silence ∷ [] → IsIdle b e × (a .next ≡ b))
+one-more : (b : BallBox) (e : Event) (a : Stepped) (events : List Event) (answers : List Stepped) (words : List ℕ) (t : Bool) (w : ℕ)
+    → sentWords a ≡ cond t (w ∷ []) []
+    → (cond t (w ∷ []) [] ≡ silence ∷ [] → IsIdle b e × (a .next ≡ b))
     → ((rest : List ℕ) → Fewer rest (wordsGiven answers) → Chosen (a .next) events answers rest)
-    → Fewer words (sentWords s ++ wordsGiven answers)
+    → Fewer words (cond t (w ∷ []) [] ++ wordsGiven answers)
     → Chosen b (e ∷ events) (a ∷ answers) words
-one-more b e a events answers words Nothing same-words idles later f =
+one-more b e a events answers words false w same-words idles later f =
     let c = later words f in
     record { fewer = e ∷ c .fewer; answered = a ∷ c .answered; thins = same (c .thins); words-are = rw same-words (c .words-are) }
-one-more b e a events answers _ (Word w) same-words idles later (damage.stays {left = rest} f) =
+one-more b e a events answers _ true w same-words idles later (damage.stays {left = rest} f) =
     let c = later rest f in
     let is = ap (λ (l : List ℕ). w ∷ l) (c .words-are) in
     record { fewer = e ∷ c .fewer; answered = a ∷ c .answered; thins = same (c .thins); words-are = rw same-words is }
-one-more b e a events answers words (Word _) same-words idles later (damage.unheard f) =
+one-more b e a events answers words true _ same-words idles later (damage.unheard f) =
     let c = later words f in
     let i = idles refl in
     let t = subst (λ (x : BallBox). Thins x events answers (c .fewer) (c .answered)) (i .1) (c .thins) in
@@ -142,5 +142,5 @@ chosen [] [] b g five r _ damage.whole = record { fewer = []; answered = []; thi
 chosen [] (a ∷ answers) b g five r words f = absurd r
 chosen (e ∷ events) [] b g five r words f = absurd r
 chosen (e ∷ events) (a ∷ answers) b g five r words f =
-    one-more b e a events answers words (a .sent) refl (silent-idle b e a (r .0) g five)
+    one-more b e a events answers words (marked (a .sent)) (a .word) refl (silent-idle b e a (r .0) g five)
     (λ rest few. chosen events answers (a .next) (step-stays-good b e a (r .0) g) (step-bytes b e a (r .0) five) (r .1) rest few) f

@@ -17,6 +17,7 @@ use Rattle.frames.proofs.Passages.{finished-append}
 use Rattle.wire.specs.Messages.{Message, report, reply, messageBytes}
 use Rattle.wire.specs.Buttons.{presses, latchedButtons, buttonsSent}
 use Rattle.wire.proofs.Buttons.{lastOf, Repeats, ends, again, next, last-append, repeats-append, fewer}
+use Rattle.ballbox.specs.Box.{dormant}
 use Rattle.ballbox.specs.Box as box
 use Rattle.ballbox.specs.Presses.{remembered, anyRemembered, full, toShow}
 use Rattle.ballbox.specs.Latching.{latched, latchedReport, secondLatched}
@@ -105,7 +106,7 @@ no-change b Latch s = refl
 no-change b Send s = refl
 no-change b Period s = refl
 
-pub buttons-step : (b : BallBox) (e : Event) → good b ≡ true → b .dormant ≡ false → nextBox b e .settings .buttons ≡ lastOf (b .settings .buttons) (changeTo b e)
+pub buttons-step : (b : BallBox) (e : Event) → good b ≡ true → dormant b ≡ false → nextBox b e .settings .buttons ≡ lastOf (b .settings .buttons) (changeTo b e)
 buttons-step b e g d = go (aboveSeven e) refl
   where
     go : (t : Bool) → aboveSeven e ≡ t → nextBox b e .settings .buttons ≡ lastOf (b .settings .buttons) (changeTo b e)
@@ -200,7 +201,7 @@ awake-shows u b Send nothing k h = (ends, tt)
 awake-shows u b Send (first n m) k h = sent-shows u n (pairedAt b n m) (pair-shows u b n m (h .going))
 awake-shows u b Period g k h = (ends, h .going)
 
-step-shows : (u : ℕ) (b : BallBox) (e : Event) (g : UnderWay Message) → good b ≡ true → b .dormant ≡ false → Last u b g → ShownNow u b e g
+step-shows : (u : ℕ) (b : BallBox) (e : Event) (g : UnderWay Message) → good b ≡ true → dormant b ≡ false → Last u b g → ShownNow u b e g
 step-shows u b e g k d h = go (aboveSeven e) refl
   where
     go : (t : Bool) → aboveSeven e ≡ t → ShownNow u b e g

@@ -17,6 +17,7 @@ use Rattle.wire.specs.Messages.{Message, report, reply, messageBytes}
 use Rattle.wire.proofs.Letters.{letter-named, size-named}
 use Rattle.wire.proofs.Front.{size-between}
 use Rattle.wire.proofs.Codec.{bytes-length}
+use Rattle.ballbox.specs.Box.{due}
 use Rattle.ballbox.specs.Presses.{remembered, anyRemembered, full}
 use Rattle.ballbox.specs.Latching.{latchedReport}
 use Rattle.ballbox.specs.Events.{wanted}
@@ -98,9 +99,9 @@ latched-size b h =
     bytes-length f (latchedReport b) ∙ sym (ap sizeBy (known-format b (h .good)) ∙ size-named (letterOf f) (letter-named f))
 
 some-wanted : (b : BallBox) → anyRemembered (b .memory) ≡ true → wanted b ≡ true
-some-wanted b a = go (b .due) refl
+some-wanted b a = go (due b) refl
   where
-    go : (t : Bool) → b .due ≡ t → wanted b ≡ true
+    go : (t : Bool) → due b ≡ t → wanted b ≡ true
     go true e = rw e
     go false e = rw (e, a)
 

@@ -7,7 +7,7 @@ use Rattle.frames.specs.Passages.{Passage, silent, finished, broken, UnderWay, 
 use Rattle.wire.specs.Line.{known}
 use Rattle.wire.specs.Messages.{Message, report, reply}
 use Rattle.wire.specs.declared.Report.{Report}
-use Rattle.ballbox.specs.Box.{pair}
+use Rattle.ballbox.specs.Box.{pair, dormant}
 use Rattle.ballbox.specs.Motion.{isA}
 use Rattle.ballbox.specs.declared.BallBox.{BallBox}
 use Rattle.ballbox.specs.declared.Pair.{Pair}
@@ -27,7 +27,7 @@ addedOver next part s (e ∷ events) = part s e +ℤ addedOver next part (next s
 
 -- of a box, "while awake"
 abbrev pub whileAwake : BallBox → ℤ → ℤ
-whileAwake b v = cond (b .dormant) (pos 0) v
+whileAwake b v = cond (dormant b) (pos 0) v
 
 abbrev pub over : (BallBox → Event → ℤ) → BallBox → List Event → ℤ
 over part b events = addedOver nextBox (λ b e. whileAwake b (part b e)) b events
@@ -97,7 +97,7 @@ clearedBy a b Period = pos 0
 abbrev pub selectsA : BallBox → Event → Bool
 selectsA b (Motion dx dy) = false
 selectsA b (Buttons n) = false
-selectsA b (Host byte) = not (b .dormant) && isA byte
+selectsA b (Host byte) = not (dormant b) && isA byte
 selectsA b Latch = false
 selectsA b Send = false
 selectsA b Period = false

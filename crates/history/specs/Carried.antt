@@ -10,8 +10,9 @@ use Rattle.wire.specs.Table.{five}
 use Rattle.wire.specs.Holds.{accepted}
 use Rattle.wire.specs.Messages.{Message, report, reply, messageBytes, HeldBy}
 use Rattle.wire.specs.declared.Format.{Format}
+use Rattle.ballbox.specs.Box.{dormant}
 use Rattle.ballbox.specs.Box as box
-use Rattle.ballbox.specs.Presses.{remembered}
+use Rattle.ballbox.specs.Presses.{remembered, showing}
 use Rattle.ballbox.specs.Events.{bytesLeft}
 use Rattle.ballbox.specs.Good.{good}
 use Rattle.ballbox.specs.declared.BallBox.{BallBox}
@@ -31,7 +32,7 @@ Sendable b (reply bytes) = length bytes ≤ 3
 pub record Rightly (b : BallBox) (n : ℕ) (m : Message) : Type 0 where
   pub left : n < length (messageBytes m)
   pub sendable : Sendable b m
-  pub awake : b .dormant ≡ false
+  pub awake : dormant b ≡ false
 
 -- this is going in the box: it has no bytes left, or just these
 abbrev pub Carries : BallBox → UnderWay Message → Type 0
@@ -40,9 +41,9 @@ Carries b (first n m) = (b .going ≡ onLine (first n m)) × Rightly b n m
 
 -- the report that is going shows the first state that is remembered, or none
 abbrev pub Showing : BallBox → UnderWay Message → Type 0
-Showing b nothing = b .memory .showing ≡ false
-Showing b (first n (report l)) = (b .memory .showing ≡ l .shows) × (l .shows ≡ true → take 1 (remembered (b .memory)) ≡ l .report .buttons ∷ [])
-Showing b (first n (reply bytes)) = b .memory .showing ≡ false
+Showing b nothing = showing (b .memory) ≡ false
+Showing b (first n (report l)) = (showing (b .memory) ≡ l .shows) × (l .shows ≡ true → take 1 (remembered (b .memory)) ≡ l .report .buttons ∷ [])
+Showing b (first n (reply bytes)) = showing (b .memory) ≡ false
 
 -- a good box, and what is going in it
 pub record Carrying (b : BallBox) (g : UnderWay Message) : Type 0 where
@@ -53,7 +54,7 @@ pub record Carrying (b : BallBox) (g : UnderWay Message) : Type 0 where
 -- the box is set to f, good and awake, and this, which passes a test, is going
 pub record SetOf (f : Format) (T : Message → Type 0) (b : BallBox) (g : UnderWay Message) : Type 0 where
   pub good : good b ≡ true
-  pub awake : b .dormant ≡ false
+  pub awake : dormant b ≡ false
   pub format : b .settings .format ≡ letterOf f
   pub carries : Carries b g
   pub sound : SoundPart messageBytes T g

@@ -10,6 +10,7 @@ use Rattle.wire.specs.Messages.{Latched, Message, report, reply, messageBytes}
 use Rattle.wire.specs.declared.Report.{Report}
 use Rattle.wire.specs.declared.Format.{Format}
 use Rattle.wire.specs.declared.Format.the-variants.{FiveByte}
+use Rattle.ballbox.specs.Box.{dormant}
 use Rattle.ballbox.specs.Presses.{anyRemembered}
 use Rattle.ballbox.specs.Latching.{taken, latchedReport}
 use Rattle.ballbox.specs.Commands.{commandOf, ack, replyTo}
@@ -76,7 +77,7 @@ whenAsleep b Period g = told [] g
 
 -- a refused event ends nothing and changes nothing
 unfoldable pub toldBy : BallBox → Event → UnderWay Message → Told Message
-toldBy b e g = cond (aboveSeven e) (told [] g) (cond (b .dormant) (whenAsleep b e g) (whenAwake b e g))
+toldBy b e g = cond (aboveSeven e) (told [] g) (cond (dormant b) (whenAsleep b e g) (whenAwake b e g))
 
 -- over a list of events, from a box of which this is going: the passages, and what is going after them
 abbrev pub nextBox : BallBox → Event → BallBox

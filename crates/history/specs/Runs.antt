@@ -1,11 +1,9 @@
 -- A run: a list of events, and the answers of the public step to them.
 use Prim.Native.Nat.{ℕ}
 use mathlib.Core.List.{List, [], _∷_, _++_}
-use Rattle.ballbox.specs.Promises.{sentWords, stepOf, StepPromise}
+use Rattle.ballbox.specs.Promises.{stepped, sentWords, stepOf, StepPromise}
 use Rattle.ballbox.specs.declared.BallBox.{BallBox}
 use Rattle.ballbox.specs.declared.Event.{Event}
-use Rattle.ballbox.specs.declared.Sent.{Sent}
-use Rattle.ballbox.specs.declared.Sent.the-variants.{Nothing, Word}
 use Rattle.ballbox.specs.declared.Stepped.{Stepped}
 
 -- any answers that the promise permits, each for the box before it and its event
@@ -18,15 +16,11 @@ RunPromise b (e ∷ events) (a ∷ answers) = StepPromise b e a × RunPromise (a
 -- the words that they give
 abbrev pub wordsGiven : List Stepped → List ℕ
 wordsGiven [] = []
-wordsGiven (a ∷ answers) = sentWords (a .sent) ++ wordsGiven answers
+wordsGiven (a ∷ answers) = sentWords a ++ wordsGiven answers
 
 -- the answers that the rules give: of a step, and of a run
-unfoldable pub sentAs : List ℕ → Sent
-sentAs [] = Nothing
-sentAs (w ∷ words) = Word w
-
 unfoldable pub answerTo : BallBox → Event → Stepped
-answerTo b e = record { refusal = stepOf b e .refusal; next = stepOf b e .next; sent = sentAs (stepOf b e .words) }
+answerTo b e = stepped (stepOf b e)
 
 unfoldable pub answersTo : BallBox → List Event → List Stepped
 answersTo b [] = []

@@ -4,7 +4,7 @@ use mathlib.Core.Bool.{not, cond}
 use mathlib.Core.List.{List, [], _∷_, _++_, map}
 use Rattle.frames.specs.Words.{silence}
 use Rattle.wire.specs.Numbers.{badState}
-use Rattle.ballbox.specs.Box.{Step, refused}
+use Rattle.ballbox.specs.Box.{Step, refused, dormant}
 use Rattle.ballbox.specs.Latching.{latched}
 use Rattle.ballbox.specs.Events.{gives, bytesLeft, wanted, withByteReady, nextByte}
 use Rattle.ballbox.specs.Good.{good}
@@ -26,7 +26,7 @@ onSlot b =
 unfoldable pub slotOf : BallBox → Step
 slotOf b =
     cond (not (good b)) (refused badState b)
-    (cond (b .dormant) (gives (silence ∷ []) b) (onSlot b))
+    (cond (dormant b) (gives (silence ∷ []) b) (onSlot b))
 
 -- two steps as one: the words of both, and the number and the box of the second
 abbrev pub joined : Step → Step → Step

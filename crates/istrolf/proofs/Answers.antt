@@ -5,7 +5,9 @@ use mathlib.Core.List.{List}
 use lib.IntN.{ℤ}
 use Rattle.wire.specs.Encoder as wire
 use Rattle.wire.specs.declared.Report.{Report}
+use Rattle.ballbox.specs.declared.BallBox.{BallBox}
 use Rattle.ballbox.specs.declared.Event.{Event}
+use Rattle.ballbox.specs.declared.Stepped.{Stepped}
 use Rattle.replies.specs.declared.Asked.{Asked}
 use Rattle.port.specs.declared.Port.{Port}
 use Rattle.port.specs.declared.Words.{Words}
@@ -25,8 +27,6 @@ use Rattle.istrolf.specs.declared.FreshReader.{FreshReader}
 use Rattle.istrolf.specs.declared.ReadWord.{ReadWord}
 use Rattle.istrolf.specs.declared.ReadWords.{ReadWords}
 use Rattle.istrolf.specs.declared.Encoding.{Encoding}
-use Rattle.istrolf.specs.declared.HeldBox.{HeldBox}
-use Rattle.istrolf.specs.declared.SteppedBox.{SteppedBox}
 use Rattle.istrolf.specs.declared.HeldLister.{HeldLister}
 use Rattle.istrolf.specs.declared.ListedBytes.{ListedBytes}
 use Rattle.istrolf.specs.declared.HeldYard.{HeldYard}
@@ -48,10 +48,10 @@ use Rattle.istrolf.specs.declared.HeardWords.{HeardWords}
 use Rattle.istrolf.specs.declared.HeldReadback.{HeldReadback}
 use Rattle.istrolf.specs.declared.RewrittenLines.{RewrittenLines}
 use Rattle.istrolf.specs.declared.ReadLines.{ReadLines}
+use Rattle.puck.specs.declared.Puck.{Puck}
+use Rattle.puck.specs.declared.PuckStepped.{PuckStepped}
 use Rattle.puckreader.specs.Line.{Long}
 use Rattle.puckreader.specs.declared.PuckReader.{PuckReader}
-use Rattle.istrolf.specs.declared.HeldPuck.{HeldPuck}
-use Rattle.istrolf.specs.declared.SteppedPuck.{SteppedPuck}
 use Rattle.istrolf.specs.declared.ReadPuckWord.{ReadPuckWord}
 use Rattle.istrolf.specs.declared.ReadPuckWords.{ReadPuckWords}
 
@@ -74,10 +74,10 @@ pub one-encoding : (letter : ℕ) (report : Report) (buffer : List ℕ) (a b : E
 one-encoding letter report buffer a b x y e f =
     (λ i. record { refusal = (e ∙ sym f) i .refusal; length = (e ∙ sym f) i .told }, ap (λ (l : wire.Encoding). l .buffer) (e ∙ sym f))
 
-pub one-fresh-box : (a b : HeldBox) → FreshBoxPromise a → FreshBoxPromise b → a ≡ b
+pub one-fresh-box : (a b : BallBox) → FreshBoxPromise a → FreshBoxPromise b → a ≡ b
 one-fresh-box a b e f = e ∙ sym f
 
-pub one-box-step : (h : HeldBox) (e : Event) (a b : SteppedBox) → BoxStepPromise h e a → BoxStepPromise h e b → a ≡ b
+pub one-box-step : (h : BallBox) (e : Event) (a b : Stepped) → BoxStepPromise h e a → BoxStepPromise h e b → a ≡ b
 one-box-step h event a b e f = e ∙ sym f
 
 pub one-fresh-lister : (a b : HeldLister) → FreshListerPromise a → FreshListerPromise b → a ≡ b
@@ -144,10 +144,10 @@ pub one-readback-rewrite : (h : HeldReadback) (input out : List ℕ) (a b : Rewr
     → ReadbackRewritePromise h input out a x → ReadbackRewritePromise h input out b y → (a ≡ b) × (x ≡ y)
 one-readback-rewrite h input out a b x y e f = (ap (λ (l : readbacks.Rewriting). l .told) (e ∙ sym f), ap (λ (l : readbacks.Rewriting). l .out) (e ∙ sym f))
 
-pub one-made-puck : (buttons revision maker : ℕ) (a b : HeldPuck) → MadePuckPromise buttons revision maker a → MadePuckPromise buttons revision maker b → a ≡ b
+pub one-made-puck : (buttons revision maker : ℕ) (a b : Puck) → MadePuckPromise buttons revision maker a → MadePuckPromise buttons revision maker b → a ≡ b
 one-made-puck buttons revision maker a b e f = e ∙ sym f
 
-pub one-puck-step : (h : HeldPuck) (e : Event) (a b : SteppedPuck) → PuckStepPromise h e a → PuckStepPromise h e b → a ≡ b
+pub one-puck-step : (h : Puck) (e : Event) (a b : PuckStepped) → PuckStepPromise h e a → PuckStepPromise h e b → a ≡ b
 one-puck-step h event a b e f = e ∙ sym f
 
 pub one-fresh-puck-reader : (a b : PuckReader) → FreshPuckReaderPromise a → FreshPuckReaderPromise b → a ≡ b

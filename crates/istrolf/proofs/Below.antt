@@ -1,7 +1,7 @@
--- Runs of the C functions are runs of the functions below them.
+-- Runs of the readers' C functions are runs of the functions below them.
 use Prim.Native.Nat.{ℕ, zero, suc, _*_}
 use mathlib.Core.Path.{_≡_, refl, sym, _∙_, ap, ap₂, subst}
-use mathlib.Core.List.{List, [], _∷_, _++_, map}
+use mathlib.Core.List.{List, [], _∷_, map}
 use native.Mathlib.Omega.{arith}
 use lib.IntN.{ℤ}
 use lib.ListN.{length, take, drop, getD}
@@ -17,28 +17,19 @@ use Rattle.reader.specs.declared.Answer.the-variants as answer
 use Rattle.reader.specs.declared.Read.{Read}
 use Rattle.reader.specs.declared.Reader.{Reader}
 use Rattle.reader.proofs.Handed.{permitted}
-use Rattle.ballbox.specs.Promises as ballbox
-use Rattle.ballbox.specs.declared.BallBox.{BallBox}
-use Rattle.ballbox.specs.declared.Event.{Event}
-use Rattle.history.specs.Presses as history
-use Rattle.history.specs.Runs.{sentAs, answerTo, answersTo}
-use Rattle.history.specs.Runs as history-runs
 use Rattle.replies.specs.Promises as replies
 use Rattle.replies.specs.declared.Asked.{Asked}
 use Rattle.replies.specs.declared.ToldReader.{ToldReader}
-use Rattle.istrolf.specs.Boxes as boxes
 use Rattle.istrolf.specs.Told as told
 use Rattle.reader.specs.Line.{reading}
 use Rattle.istrolf.specs.Readers.{packed, answered, packedRead, Whole, packedLong}
-use Rattle.istrolf.specs.Promises.{FreshReaderPromise, readerStepOf, readOf, ReadPromise, boxStepOf, tellOf, toldStepOf, toldReadOf}
-use Rattle.istrolf.specs.Runs.{RunPromise, sentWords, wordsGiven, lastBox, StepsPromise, handedOut, handedOutAt, Took, HandsOutBy, HandsOut, HandsOutAt}
+use Rattle.istrolf.specs.Promises.{FreshReaderPromise, readerStepOf, readOf, ReadPromise, tellOf, toldStepOf, toldReadOf}
+use Rattle.istrolf.specs.Runs.{StepsPromise, handedOut, handedOutAt, Took, HandsOutBy, HandsOut, HandsOutAt}
 use Rattle.istrolf.specs.declared.HeldReader.{HeldReader}
 use Rattle.istrolf.specs.declared.FreshReader.{FreshReader}
 use Rattle.istrolf.specs.declared.ReadWord.{ReadWord}
 use Rattle.istrolf.specs.declared.ReadWords.{ReadWords}
-use Rattle.istrolf.specs.declared.HeldBox.{HeldBox}
-use Rattle.istrolf.specs.declared.SteppedBox.{SteppedBox}
-use Rattle.istrolf.proofs.RoundTrip.{reader-there, reader-stands, box-there, box-stands, told-there, told-stands}
+use Rattle.istrolf.proofs.RoundTrip.{reader-there, reader-stands, told-there, told-stands}
 
 -- a word to a reader in C is one to the library's own
 pub step-as : (r : Reader) (w : ℕ) → readerStepOf (packed r) w ≡ packedRead (reader.stepOf r w)
@@ -146,40 +137,6 @@ hands-out-at f words i p d =
             took-as r words (counts.handedOut (answers below)) before after b q (t .0),
             ap (λ (w : Whole). take 5 (drop (5 * length (counts.handedOut (take i (answers below)))) (w .out))) (q ∙ read-as r words before) ∙ t .1,
           );
-    }
-
--- an event of a box in C is one of the library's own
-pub box-step-as : (b : BallBox) (e : Event) → boxStepOf (boxes.packed b) e ≡ boxes.packedStep (ballbox.stepOf b e)
-unfolding boxStepOf
-box-step-as b e = simp (box-stands b) (ap (λ (q : BallBox). boxes.packedStep (ballbox.stepOf q e)) (box-there b))
-
-words-as : (words : List ℕ) (n : ℕ) (h : HeldBox)
-    → sentWords (record { refusal = n; sent = boxes.countOf words; word = boxes.wordOf words; next = h }) ≡ ballbox.sentWords (sentAs words)
-unfolding sentAs
-words-as [] n h = refl
-words-as (w ∷ words) n h = refl
-
-pub sent-as : (b : BallBox) (e : Event) (a : SteppedBox) → a ≡ boxStepOf (boxes.packed b) e → sentWords a ≡ ballbox.sentWords (answerTo b e .sent)
-unfolding answerTo
-sent-as b e a i =
-    let s = ballbox.stepOf b e in ap sentWords (i ∙ box-step-as b e) ∙ words-as (s .words) (s .refusal) (boxes.packed (s .next))
-
--- and a run gives the words and the box of the run below
-pub record RunsAs (b : BallBox) (events : List Event) (answers : List SteppedBox) : Type 0 where
-  pub words : wordsGiven answers ≡ history-runs.wordsGiven (answersTo b events)
-  pub last : lastBox (boxes.packed b) answers ≡ boxes.packed (history.lastBox b (answersTo b events))
-
-pub run-as : (b : BallBox) (events : List Event) (answers : List SteppedBox) → RunPromise (boxes.packed b) events answers → RunsAs b events answers
-unfolding RunPromise answersTo answerTo history.lastBox
-run-as b [] [] p = record { words = refl; last = refl }
-run-as b [] (a ∷ answers) p = absurd p
-run-as b (e ∷ events) [] p = absurd p
-run-as b (e ∷ events) (a ∷ answers) p =
-    let n : a .next ≡ boxes.packed (ballbox.stepOf b e .next) = ap (λ (s : SteppedBox). s .next) (p .0 ∙ box-step-as b e) in
-    let later = run-as (ballbox.stepOf b e .next) events answers (subst (λ (h : HeldBox). RunPromise h events answers) n (p .1)) in
-    record {
-      words = ap₂ (λ (x y : List ℕ). x ++ y) (sent-as b e a (p .0)) (later .words);
-      last = ap (λ (h : HeldBox). lastBox h answers) n ∙ later .last;
     }
 
 -- a telling, a word and a long read of a told reader in C are those of the library's own

@@ -8,17 +8,14 @@ use borrow.Author.Tests.{leb-true}
 use Rattle.numbers.proofs.Choices.{both}
 use Rattle.numbers.proofs.Tested.{left, right}
 use Rattle.reader.specs.declared.Reader.{Reader}
-use Rattle.ballbox.specs.declared.BallBox.{BallBox}
 use Rattle.listing.specs.declared.Lister.{Lister}
 use Rattle.yard.specs.declared.Yard.{Yard}
 use Rattle.bridge.specs.declared.Bridge.{Bridge}
 use Rattle.replies.specs.declared.Kind.{Kind}
 use Rattle.replies.specs.declared.Kind.the-variants as kind
 use Rattle.replies.specs.declared.ToldReader.{ToldReader}
-use Rattle.puck.specs.declared.Puck.{Puck}
-use Rattle.istrolf.specs.Marks.{isMark}
+use Rattle.ballbox.specs.Marks.{isMark}
 use Rattle.istrolf.specs.Readers as readers
-use Rattle.istrolf.specs.Boxes as boxes
 use Rattle.istrolf.specs.Listers as listers
 use Rattle.istrolf.specs.Yards as yards
 use Rattle.istrolf.specs.declared.HeldYard.{HeldYard}
@@ -27,14 +24,11 @@ use Rattle.istrolf.specs.Told as told
 use Rattle.istrolf.specs.Readbacks as readbacks
 use Rattle.readback.specs.declared.Readback.{Readback}
 use Rattle.istrolf.specs.declared.HeldReadback.{HeldReadback}
-use Rattle.istrolf.specs.Pucks as pucks
 use Rattle.istrolf.specs.declared.HeldReader.{HeldReader}
-use Rattle.istrolf.specs.declared.HeldBox.{HeldBox}
 use Rattle.istrolf.specs.declared.HeldLister.{HeldLister}
 use Rattle.istrolf.specs.declared.HeldBridge.{HeldBridge}
 use Rattle.istrolf.specs.declared.HeldTold.{HeldTold}
-use Rattle.istrolf.specs.declared.HeldPuck.{HeldPuck}
-use Rattle.istrolf.proofs.Marks.{mark-back, mark-stands, mark-of}
+use Rattle.ballbox.proofs.Marks.{mark-back, mark-stands, mark-of}
 
 -- a reader
 pub reader-there : (r : Reader) → readers.unpacked (readers.packed r) ≡ r
@@ -45,39 +39,6 @@ reader-back h s = λ i. record { format = h .format; kept = h .kept; count = h .
 
 pub reader-stands : (r : Reader) → readers.stands (readers.packed r) ≡ true
 reader-stands r = mark-stands (r .awaiting)
-
--- a box
-pub box-there : (b : BallBox) → boxes.unpacked (boxes.packed b) ≡ b
-box-there b = λ i.
-    record {
-      settings = b .settings;
-      track = b .track;
-      going = b .going;
-      memory = record { states = b .memory .states; count = b .memory .count; showing = mark-back (b .memory .showing) i };
-      sums = b .sums;
-      due = mark-back (b .due) i;
-      dormant = mark-back (b .dormant) i;
-    }
-
-pub box-back : (h : HeldBox) → boxes.stands h ≡ true → boxes.packed (boxes.unpacked h) ≡ h
-box-back h s =
-    let both = left (isMark (h .memory .showing) && isMark (h .due)) (isMark (h .dormant)) s in
-    let showing = mark-of (h .memory .showing) (left (isMark (h .memory .showing)) (isMark (h .due)) both) in
-    let due = mark-of (h .due) (right (isMark (h .memory .showing)) (isMark (h .due)) both) in
-    let dormant = mark-of (h .dormant) (right (isMark (h .memory .showing) && isMark (h .due)) (isMark (h .dormant)) s) in
-    λ i.
-    record {
-      settings = h .settings;
-      track = h .track;
-      going = h .going;
-      memory = record { states = h .memory .states; count = h .memory .count; showing = showing i };
-      sums = h .sums;
-      due = due i;
-      dormant = dormant i;
-    }
-
-pub box-stands : (b : BallBox) → boxes.stands (boxes.packed b) ≡ true
-box-stands b = rw (mark-stands (b .memory .showing), mark-stands (b .due), mark-stands (b .dormant))
 
 -- a lister
 pub lister-there : (m : Lister) → listers.unpacked (listers.packed m) ≡ m
@@ -178,13 +139,3 @@ readback-back h s =
 
 pub readback-stands : (r : Readback) → readbacks.stands (readbacks.packed r) ≡ true
 readback-stands r = rw (mark-stands (r .ended), mark-stands (r .salvage))
-
--- a puck
-pub puck-there : (p : Puck) → pucks.unpacked (pucks.packed p) ≡ p
-puck-there p = λ i. record { ball = box-there (p .ball) i; test = p .test; revision = p .revision; maker = p .maker }
-
-pub puck-back : (h : HeldPuck) → boxes.stands (h .ball) ≡ true → pucks.packed (pucks.unpacked h) ≡ h
-puck-back h s = λ i. record { ball = box-back (h .ball) s i; test = h .test; revision = h .revision; maker = h .maker }
-
-pub puck-stands : (p : Puck) → boxes.stands (pucks.packed p .ball) ≡ true
-puck-stands p = box-stands (p .ball)

@@ -1,7 +1,5 @@
-pub mod Marks
 pub mod Ports
 pub mod Readers
-pub mod Boxes
 pub mod Listers
 pub mod Yards
 pub mod Bridges
@@ -11,5 +9,4 @@ pub mod Pucks
 pub mod Readbacks
 pub mod Promises
 pub mod Runs
-pub mod Demand3
 pub mod Presses

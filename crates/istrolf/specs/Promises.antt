@@ -15,9 +15,10 @@ use Rattle.saves.specs.Promises as saves
 use Rattle.saves.specs.declared.Watch.{Watch}
 use Rattle.saves.specs.declared.Told.{Told}
 use Rattle.saves.specs.declared.Watched.{Watched}
-use Rattle.ballbox.specs.Box.{freshBox}
 use Rattle.ballbox.specs.Promises as ballbox
+use Rattle.ballbox.specs.declared.BallBox.{BallBox}
 use Rattle.ballbox.specs.declared.Event.{Event}
+use Rattle.ballbox.specs.declared.Stepped.{Stepped}
 use Rattle.listing.specs.Feeding as feeding
 use Rattle.listing.specs.Promises as listing
 use Rattle.yard.specs.Promises as yard
@@ -27,8 +28,9 @@ use Rattle.salvage.specs.declared.Picked.{Picked}
 use Rattle.salvaged.specs.Promises as salvaged
 use Rattle.replies.specs.Promises as replies
 use Rattle.replies.specs.declared.Asked.{Asked}
-use Rattle.puck.specs.Device as device
 use Rattle.puck.specs.Promises as puck
+use Rattle.puck.specs.declared.Puck.{Puck}
+use Rattle.puck.specs.declared.PuckStepped.{PuckStepped}
 use Rattle.puckreader.specs.State as puckreaders
 use Rattle.puckreader.specs.Promises as puckreader
 use Rattle.puckreader.specs.declared.PuckReader.{PuckReader}
@@ -36,7 +38,6 @@ use Rattle.readback.specs.Steps as steps
 use Rattle.readback.specs.Promises as readback
 use Rattle.istrolf.specs.Ports as ports
 use Rattle.istrolf.specs.Readers as readers
-use Rattle.istrolf.specs.Boxes as boxes
 use Rattle.istrolf.specs.Listers as listers
 use Rattle.istrolf.specs.Bridges as bridges
 use Rattle.istrolf.specs.Salvages as salvages
@@ -49,8 +50,6 @@ use Rattle.istrolf.specs.declared.FreshReader.{FreshReader}
 use Rattle.istrolf.specs.declared.ReadWord.{ReadWord}
 use Rattle.istrolf.specs.declared.ReadWords.{ReadWords}
 use Rattle.istrolf.specs.declared.Encoding.{Encoding}
-use Rattle.istrolf.specs.declared.HeldBox.{HeldBox}
-use Rattle.istrolf.specs.declared.SteppedBox.{SteppedBox}
 use Rattle.istrolf.specs.declared.HeldLister.{HeldLister}
 use Rattle.istrolf.specs.declared.ListedBytes.{ListedBytes}
 use Rattle.istrolf.specs.Yards as yards
@@ -67,8 +66,6 @@ use Rattle.istrolf.specs.declared.FreshTold.{FreshTold}
 use Rattle.istrolf.specs.declared.ToldCommand.{ToldCommand}
 use Rattle.istrolf.specs.declared.HeardWord.{HeardWord}
 use Rattle.istrolf.specs.declared.HeardWords.{HeardWords}
-use Rattle.istrolf.specs.declared.HeldPuck.{HeldPuck}
-use Rattle.istrolf.specs.declared.SteppedPuck.{SteppedPuck}
 use Rattle.istrolf.specs.declared.ReadPuckWord.{ReadPuckWord}
 use Rattle.istrolf.specs.declared.ReadPuckWords.{ReadPuckWords}
 use Rattle.istrolf.specs.declared.HeldReadback.{HeldReadback}
@@ -100,15 +97,12 @@ EncodePromise letter report before answer after =
     record { refusal = answer .refusal; told = answer .length; buffer = after } ≡ wire.encodeOf letter report before
 
 -- `istrolf_box_fresh()`
-abbrev pub FreshBoxPromise : HeldBox → Type 0
-FreshBoxPromise answer = answer ≡ boxes.packed freshBox
+abbrev pub FreshBoxPromise : BallBox → Type 0
+FreshBoxPromise answer = ballbox.FreshPromise answer
 
 -- `istrolf_box_motion`, `_buttons`, `_host`, `_latch`, `_send` and `_period`, each with its event
-unfoldable pub boxStepOf : HeldBox → Event → SteppedBox
-boxStepOf h e = cond (boxes.stands h) (boxes.packedStep (ballbox.stepOf (boxes.unpacked h) e)) (boxes.refusedStep h)
-
-abbrev pub BoxStepPromise : HeldBox → Event → SteppedBox → Type 0
-BoxStepPromise h e answer = answer ≡ boxStepOf h e
+abbrev pub BoxStepPromise : BallBox → Event → Stepped → Type 0
+BoxStepPromise b e answer = ballbox.StepPromise b e answer
 
 -- `istrolf_lister_fresh()`
 abbrev pub FreshListerPromise : HeldLister → Type 0
@@ -194,15 +188,12 @@ abbrev pub ToldReadPromise : HeldTold → List ℕ → List ℤ → HeardWords �
 ToldReadPromise h words before answer after = told.whole answer after ≡ toldReadOf h words before
 
 -- `istrolf_puck_made(buttons, revision, maker)`
-abbrev pub MadePuckPromise : ℕ → ℕ → ℕ → HeldPuck → Type 0
-MadePuckPromise buttons revision maker answer = answer ≡ pucks.packed (device.made buttons revision maker)
+abbrev pub MadePuckPromise : ℕ → ℕ → ℕ → Puck → Type 0
+MadePuckPromise buttons revision maker answer = puck.MadePromise buttons revision maker answer
 
 -- `istrolf_puck_motion`, `_buttons`, `_host`, `_latch`, `_send` and `_period`, each with its event
-unfoldable pub puckStepOf : HeldPuck → Event → SteppedPuck
-puckStepOf h e = cond (boxes.stands (h .ball)) (pucks.packedStep (puck.stepOf (pucks.unpacked h) e)) (pucks.refusedStep h)
-
-abbrev pub PuckStepPromise : HeldPuck → Event → SteppedPuck → Type 0
-PuckStepPromise h e answer = answer ≡ puckStepOf h e
+abbrev pub PuckStepPromise : Puck → Event → PuckStepped → Type 0
+PuckStepPromise p e answer = puck.StepPromise p e answer
 
 -- `istrolf_puck_reader_fresh()`
 abbrev pub FreshPuckReaderPromise : PuckReader → Type 0

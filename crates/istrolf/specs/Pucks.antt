@@ -1,12 +1,9 @@
--- A VSXXX puck as C holds it, and what its functions and its reader's give back.
+-- What the functions of a VSXXX puck's reader give back to C.
 use Prim.Native.Nat.{ℕ}
 use mathlib.Core.List.{List}
 use lib.IntN.{ℤ}
 use Rattle.fold.specs.Calls.{counts}
-use Rattle.wire.specs.Numbers.{badState}
 use Rattle.vsxxx.specs.declared.SelfTest.{SelfTest}
-use Rattle.puck.specs.Device.{Step}
-use Rattle.puck.specs.declared.Puck.{Puck}
 use Rattle.puckreader.specs.Line.{Long}
 use Rattle.puckreader.specs.declared.PuckReader.{PuckReader}
 use Rattle.puckreader.specs.declared.PuckRead.{PuckRead}
@@ -14,25 +11,8 @@ use Rattle.puckreader.specs.declared.PuckReading.{PuckReading}
 use Rattle.puckreader.specs.declared.PuckAnswer.{PuckAnswer}
 use Rattle.puckreader.specs.declared.PuckAnswer.the-variants as answer
 use Rattle.istrolf.specs.Readers.{noReport}
-use Rattle.istrolf.specs.Boxes as boxes
-use Rattle.istrolf.specs.Boxes.{countOf, wordOf}
-use Rattle.istrolf.specs.declared.HeldPuck.{HeldPuck}
-use Rattle.istrolf.specs.declared.SteppedPuck.{SteppedPuck}
 use Rattle.istrolf.specs.declared.ReadPuckWord.{ReadPuckWord}
 use Rattle.istrolf.specs.declared.ReadPuckWords.{ReadPuckWords}
-
-abbrev pub packed : Puck → HeldPuck
-packed p = record { ball = boxes.packed (p .ball); test = p .test; revision = p .revision; maker = p .maker }
-
-abbrev pub unpacked : HeldPuck → Puck
-unpacked h = record { ball = boxes.unpacked (h .ball); test = h .test; revision = h .revision; maker = h .maker }
-
-abbrev pub packedStep : Step → SteppedPuck
-packedStep s = record { refusal = s .refusal; sent = countOf (s .words); word = wordOf (s .words); next = packed (s .next) }
-
--- a refusal: the old state and no word
-abbrev pub refusedStep : HeldPuck → SteppedPuck
-refusedStep h = record { refusal = badState; sent = 0; word = 0; next = h }
 
 -- no self-test, as C sees it
 abbrev pub noTest : SelfTest

@@ -9,7 +9,7 @@ use Rattle.readback.specs.Rewriting as below
 use Rattle.readback.specs.declared.Readback.{Readback}
 use Rattle.readback.specs.declared.Back.{Back}
 use Rattle.readback.specs.declared.Rewritten.{Rewritten}
-use Rattle.istrolf.specs.Marks.{mark, marked, isMark}
+use Rattle.ballbox.specs.Marks.{mark, marked, isMark}
 use Rattle.istrolf.specs.declared.HeldReadback.{HeldReadback}
 use Rattle.istrolf.specs.declared.ReadLines.{ReadLines}
 use Rattle.istrolf.specs.declared.RewrittenLines.{RewrittenLines}

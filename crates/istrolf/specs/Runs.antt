@@ -1,4 +1,4 @@
--- Runs of the C functions, with whatever answers their promises permit: what a box sends and what a reader hands out.
+-- Runs of the reader's C functions, with whatever answers their promises permit: what a reader hands out. A run of the box's is a run of the box.
 use Prim.Native.Nat.{ℕ, _*_, _≤_}
 use mathlib.Core.Path.{_≡_}
 use mathlib.Core.Bool.{cond}
@@ -12,34 +12,11 @@ use Rattle.wire.specs.declared.Report.{Report}
 use Rattle.wire.specs.declared.Format.{Format}
 use Rattle.reader.specs.State.{fiveOf}
 use Rattle.reader.specs.Counts.{numbers}
-use Rattle.ballbox.specs.declared.Event.{Event}
-use Rattle.istrolf.specs.Promises.{FreshReaderPromise, ReaderStepPromise, ReadPromise, BoxStepPromise}
+use Rattle.istrolf.specs.Promises.{FreshReaderPromise, ReaderStepPromise, ReadPromise}
 use Rattle.istrolf.specs.declared.HeldReader.{HeldReader}
 use Rattle.istrolf.specs.declared.FreshReader.{FreshReader}
 use Rattle.istrolf.specs.declared.ReadWord.{ReadWord}
 use Rattle.istrolf.specs.declared.ReadWords.{ReadWords}
-use Rattle.istrolf.specs.declared.HeldBox.{HeldBox}
-use Rattle.istrolf.specs.declared.SteppedBox.{SteppedBox}
-
--- events of a box: each has the box that came back from the one before
-unfoldable pub RunPromise : HeldBox → List Event → List SteppedBox → Type 0
-RunPromise h [] [] = Unit
-RunPromise h [] (a ∷ answers) = ⊥
-RunPromise h (e ∷ events) [] = ⊥
-RunPromise h (e ∷ events) (a ∷ answers) = BoxStepPromise h e a × RunPromise (a .next) events answers
-
--- the words that they give
-abbrev pub sentWords : SteppedBox → List ℕ
-sentWords a = cond (eqb (a .sent) 1) (a .word ∷ []) []
-
-abbrev pub wordsGiven : List SteppedBox → List ℕ
-wordsGiven [] = []
-wordsGiven (a ∷ answers) = sentWords a ++ wordsGiven answers
-
--- and the box after them
-abbrev pub lastBox : HeldBox → List SteppedBox → HeldBox
-lastBox h [] = h
-lastBox h (a ∷ answers) = lastBox (a .next) answers
 
 -- words to a reader, one after the other
 unfoldable pub StepsPromise : HeldReader → List ℕ → List ReadWord → Type 0

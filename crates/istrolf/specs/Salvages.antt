@@ -3,7 +3,7 @@ use Prim.Native.Nat.{ℕ}
 use mathlib.Core.List.{List}
 use Rattle.salvaged.specs.Promises as salvaged
 use Rattle.salvaged.specs.declared.Salvaged.{Salvaged}
-use Rattle.istrolf.specs.Marks.{mark}
+use Rattle.ballbox.specs.Marks.{mark}
 use Rattle.istrolf.specs.declared.SalvagedBytes.{SalvagedBytes}
 
 abbrev pub packed : Salvaged → SalvagedBytes

@@ -5,7 +5,7 @@ use Rattle.yard.specs.declared.Yard.{Yard}
 use Rattle.yard.specs.declared.NewYard.{NewYard}
 use Rattle.yard.specs.declared.Judged.{Judged}
 use Rattle.yard.specs.declared.Checked.{Checked}
-use Rattle.istrolf.specs.Marks.{mark, marked, isMark}
+use Rattle.ballbox.specs.Marks.{mark, marked, isMark}
 use Rattle.istrolf.specs.declared.HeldYard.{HeldYard}
 use Rattle.istrolf.specs.declared.FreshYard.{FreshYard}
 use Rattle.istrolf.specs.declared.JudgedWord.{JudgedWord}

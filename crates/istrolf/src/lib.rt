@@ -1,10 +1,5 @@
 // The library's face for C: its states and answers as structs of plain numbers, its functions under plain names.
-use ballbox::Going;
-use ballbox::Settings;
-use ballbox::Sums;
-use ballbox::Track;
 use port::Port;
-use puck::Testing;
 use puckreader::PuckReader;
 use replies::Came;
 use vsxxx::SelfTest;
@@ -75,35 +70,6 @@ pub struct PortWord {
 pub struct Encoding {
     pub refusal: u8,
     pub length: usize,
-}
-
-// What is remembered, as C holds it: whether the report that is going shows the first is 0 or 1.
-#[repr(C)]
-pub struct HeldMemory {
-    pub states: [u8; 8],
-    pub count: u8,
-    pub showing: u8,
-}
-
-// A box as C holds it: whether a report is due and whether the box is dormant are 0 or 1.
-#[repr(C)]
-pub struct HeldBox {
-    pub settings: Settings,
-    pub track: Track,
-    pub going: Going,
-    pub memory: HeldMemory,
-    pub sums: Sums,
-    pub due: u8,
-    pub dormant: u8,
-}
-
-// What an event gives back: the refusal, how many words are sent, 0 or 1, the word, 0 where there is none, and the box.
-#[repr(C)]
-pub struct SteppedBox {
-    pub refusal: u8,
-    pub sent: u8,
-    pub word: u16,
-    pub next: HeldBox,
 }
 
 // A lister as C holds it: whether it has ended is 0 or 1.
@@ -255,24 +221,6 @@ pub(crate) struct Own {
     pub reports: u8,
     pub dropped: u8,
     pub report: Report,
-}
-
-// A VSXXX puck as C holds it.
-#[repr(C)]
-pub struct HeldPuck {
-    pub ball: HeldBox,
-    pub test: Testing,
-    pub revision: u8,
-    pub maker: u8,
-}
-
-// What an event gives back: the refusal, how many words are sent, 0 or 1, the word, 0 where there is none, and the device.
-#[repr(C)]
-pub struct SteppedPuck {
-    pub refusal: u8,
-    pub sent: u8,
-    pub word: u16,
-    pub next: HeldPuck,
 }
 
 // What a word is answered by: how many movements and how many self-tests, 0 or 1, how many bytes dropped, and the report, zeros where there is none.

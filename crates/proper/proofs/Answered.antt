@@ -15,7 +15,7 @@ use Rattle.wire.specs.Line.{letterOf, known}
 use Rattle.wire.specs.Numbers.{success, badWord}
 use Rattle.wire.specs.declared.Format.{Format}
 use Rattle.wire.proofs.Letters.{letter-named}
-use Rattle.ballbox.specs.Box.{Step, freshBox}
+use Rattle.ballbox.specs.Box.{Step, freshBox, dormant}
 use Rattle.ballbox.specs.Good.{good}
 use Rattle.ballbox.specs.Promises.{FreshPromise, StepPromise}
 use Rattle.ballbox.specs.declared.BallBox.{BallBox}
@@ -51,9 +51,9 @@ all-words y (w ∷ words) h = go (wordOf y w .can) refl (all-words (wordOf y w .
         both (leb w silence) (lineWords words) (can-word y w e) (r (omega arith))
     go false e r = let q : _≡_ {A = ℕ} 0 (suc (length words)) = rw e at h in absurd (omega arith)
 
-fresh-awake : (b : BallBox) → FreshPromise b → b .dormant ≡ false
+fresh-awake : (b : BallBox) → FreshPromise b → dormant b ≡ false
 unfolding freshBox
-fresh-awake b p = ap (λ (x : BallBox). x .dormant) p
+fresh-awake b p = ap dormant p
 
 module _ (f : Format) (words : List ℕ) (a : Checked) (told : CheckPromise (letterOf f) words a) where
   abbrev count : ℕ
@@ -103,13 +103,13 @@ module _ (f : Format) (words : List ℕ) (a : Checked) (told : CheckPromise (let
       omega (arith, sendable-most (noneGone (letterOf f)) words)
 
 -- whatever answers the promise permits give the same words
-pub whatever-answers : (b : BallBox) (f : Format) (words : List ℕ) → good b ≡ true → b .dormant ≡ false → (s : SendsFrom b f words)
+pub whatever-answers : (b : BallBox) (f : Format) (words : List ℕ) → good b ≡ true → dormant b ≡ false → (s : SendsFrom b f words)
     → (set : Stepped) (answers : List Stepped)
     → StepPromise b (Host (letterOf f)) set
     → RunPromise (set .next) (s .events) answers
     → wordsGiven answers ≡ words
 whatever-answers b f words k d s set answers is run =
-    let same : set .next ≡ s .set .next = ap (λ (x : Step). x .next) (is ∙ sym (s .is-set)) in
+    let same : set .next ≡ s .set .next = ap (λ (x : Stepped). x .next) (is ∙ sym (s .is-set)) in
     let at = set-to f b (s .set) k d (s .is-set) in
     let r : RunPromise (s .set .next) (s .events) answers = rw same at run in
     run-passages (s .set .next) (s .events) answers (at .good) (at .carries) r

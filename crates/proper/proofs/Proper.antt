@@ -13,13 +13,14 @@ use Rattle.wire.specs.Holds.{within}
 use Rattle.wire.specs.Messages.{Message, report, reply}
 use Rattle.wire.specs.declared.Format.{Format}
 use Rattle.wire.specs.declared.Format.the-variants.{Mm, Microsoft, Absolute, Relative, FiveByte, ThreeByte, Hexadecimal}
-use Rattle.ballbox.specs.Box.{Step, zeros, modeD}
+use Rattle.ballbox.specs.Box.{Step, zeros, modeD, dormant}
 use Rattle.ballbox.specs.Commands.{commandOf, obeyed}
 use Rattle.ballbox.specs.Events.{onHost, awake}
 use Rattle.ballbox.specs.Latching.{limits, cleared, latchedReport}
 use Rattle.ballbox.specs.Good.{good}
 use Rattle.ballbox.specs.declared.BallBox.{BallBox}
 use Rattle.ballbox.specs.declared.Event.the-variants.{Host}
+use Rattle.ballbox.proofs.Single.{says}
 use Rattle.ballbox.proofs.Parts.{good-shown}
 use Rattle.ballbox.proofs.Latches.{latched-range, taken-range}
 use Rattle.ballbox.proofs.Refusals.{ruled}
@@ -91,13 +92,13 @@ set-counter ThreeByte b = refl
 set-counter Hexadecimal b = refl
 
 -- every good box that is awake can send what passes, by events whose numbers can be handed in
-pub passing-sent : (f : Format) (b : BallBox) (words : List ℕ) → good b ≡ true → b .dormant ≡ false → sendable (noneGone (letterOf f)) words ≡ length words → (s : SendsFrom b f words) × (allHanded (s .events) ≡ true)
+pub passing-sent : (f : Format) (b : BallBox) (words : List ℕ) → good b ≡ true → dormant b ≡ false → sendable (noneGone (letterOf f)) words ≡ length words → (s : SendsFrom b f words) × (allHanded (s .events) ≡ true)
 passing-sent f b words k d h =
     let p = parsed f words h in
     let set = answerTo b (Host (letterOf f)) in
     let promise = answer-permitted b (Host (letterOf f)) in
     let at = set-to f b set k d promise in
-    let z : set .next .track .counter ≡ zeros = ap (λ (a : Step). a .next .track .counter) (promise ∙ ruled b (Host (letterOf f)) false k refl d) ∙ set-counter f b in
+    let z : set .next .track .counter ≡ zeros = ap (λ (a : Step). a .next .track .counter) (says b (Host (letterOf f)) set promise ∙ ruled b (Host (letterOf f)) false k refl d) ∙ set-counter f b in
     let D : Reach f (set .next) nothing [] nothing =
     record {
       events = Host modeD ∷ [];

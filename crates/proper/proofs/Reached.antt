@@ -28,7 +28,7 @@ use Rattle.wire.proofs.Letters.{letter-named}
 use Rattle.wire.proofs.Front.{size-between}
 use Rattle.wire.proofs.Codec.{bytes-length}
 use Rattle.wire.proofs.Codec.Ranges.{wider, at-most, only-zero}
-use Rattle.ballbox.specs.Box.{Step, modeD, pair, zeros, withMode, withMemory, withDue}
+use Rattle.ballbox.specs.Box.{Step, modeD, pair, zeros, withMode, withMemory, withDue, due, dormant}
 use Rattle.ballbox.specs.Presses.{toShow}
 use Rattle.ballbox.specs.Presses as presses
 use Rattle.ballbox.specs.Motion.{movedBy, counted, placed, placedAt, isA}
@@ -72,18 +72,18 @@ join (step {ps} a w n t p) q = rw append-assoc (step a w n t (join p q))
 -- a box set to f, at rest: in prompt mode, nothing due, nothing counted
 pub record Still (f : Format) (b : BallBox) (g : UnderWay Message) : Type 0 where
   pub good : good b ≡ true
-  pub awake : b .dormant ≡ false
+  pub awake : dormant b ≡ false
   pub format : b .settings .format ≡ letterOf f
   pub mode : b .settings .mode ≡ modeD
-  pub due : b .due ≡ false
+  pub due : due b ≡ false
   pub counter : b .track .counter ≡ zeros
   pub carries : Carries b g
 
 -- an event that is not refused
-told-awake : (b : BallBox) (e : Event) (g : UnderWay Message) → aboveSeven e ≡ false → b .dormant ≡ false → toldBy b e g ≡ whenAwake b e g
+told-awake : (b : BallBox) (e : Event) (g : UnderWay Message) → aboveSeven e ≡ false → dormant b ≡ false → toldBy b e g ≡ whenAwake b e g
 told-awake b e g p d = told-is b e g false p d
 
-next-awake : (b : BallBox) (e : Event) → good b ≡ true → aboveSeven e ≡ false → b .dormant ≡ false → nextBox b e ≡ awake b e .next
+next-awake : (b : BallBox) (e : Event) → good b ≡ true → aboveSeven e ≡ false → dormant b ≡ false → nextBox b e ≡ awake b e .next
 next-awake b e g p d = ap (λ (a : Step). a .next) (ruled b e false g p d)
 
 -- a silence: a word is sent between reports
@@ -99,7 +99,7 @@ dropped-counter : (b : BallBox) → dropped b .track .counter ≡ b .track .coun
 unfolding dropped
 dropped-counter b = cases (λ (c : BallBox). c .track .counter ≡ b .track .counter) (bytesLeft b) (λ _. refl) (λ _. refl)
 
-module _ (f : Format) (b : BallBox) (g : UnderWay Message) (k : good b ≡ true) (d : b .dormant ≡ false) (e : b .settings .format ≡ letterOf f)
+module _ (f : Format) (b : BallBox) (g : UnderWay Message) (k : good b ≡ true) (d : dormant b ≡ false) (e : b .settings .format ≡ letterOf f)
     (z : b .track .counter ≡ zeros) (h : Carries b g) where
   pub after-D : BallBox
   after-D = withMode modeD (withMemory presses.none (withDue false (dropped b)))
@@ -189,7 +189,7 @@ module _ (f : Format) (b : BallBox) (s : Still f b nothing) (n : ℕ) (few : n �
   unfolding b1
   buttons1 = pressed-buttons n b
 
-  awake1 : b1 .dormant ≡ false
+  awake1 : dormant b1 ≡ false
   awake1 = like1 .dormant ∙ s .awake
 
   idle1 : bytesLeft b1 ≡ false

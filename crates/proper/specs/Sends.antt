@@ -8,6 +8,7 @@ use Rattle.numbers.specs.Signed.{least, most}
 use Rattle.wire.specs.Line.{letterOf}
 use Rattle.wire.specs.Holds.{_to_, within}
 use Rattle.wire.specs.declared.Format.{Format}
+use Rattle.ballbox.specs.Box.{dormant}
 use Rattle.ballbox.specs.Good.{good}
 use Rattle.ballbox.specs.Promises.{StepPromise}
 use Rattle.ballbox.specs.declared.BallBox.{BallBox}
@@ -30,7 +31,7 @@ pub record SendsFrom (box : BallBox) (f : Format) (words : List ℕ) : Type 0 wh
 
 -- "some box of ours": a good one that is awake
 abbrev pub CanSend : Format → List ℕ → Type 0
-CanSend f words = (box : BallBox) × (good box ≡ true) × (box .dormant ≡ false) × SendsFrom box f words
+CanSend f words = (box : BallBox) × (good box ≡ true) × (dormant box ≡ false) × SendsFrom box f words
 
 -- the numbers of an event are such as a caller can hand in: 16 bits signed, a byte, and buttons that are not refused
 abbrev pub handed : Event → Bool

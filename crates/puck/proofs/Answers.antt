@@ -1,10 +1,8 @@
 -- The public functions give one answer: two that the promise permits are equal.
 use Prim.Native.Nat.{ℕ}
-use mathlib.Core.Path.{_≡_, sym, ap, _∙_}
+use mathlib.Core.Path.{_≡_, sym, _∙_}
 use mathlib.Core.Bool.{Bool}
 use Rattle.ballbox.specs.declared.Event.{Event}
-use Rattle.ballbox.proofs.Answers.{same-sent}
-use Rattle.puck.specs.Device.{Step}
 use Rattle.puck.specs.Promises.{outcome, MadePromise, GoodPromise, StepPromise}
 use Rattle.puck.specs.declared.Puck.{Puck}
 use Rattle.puck.specs.declared.PuckStepped.{PuckStepped}
@@ -15,10 +13,5 @@ one-made buttons revision maker p q h k = h ∙ sym k
 pub one-good : (p : Puck) (s t : Bool) → GoodPromise p s → GoodPromise p t → s ≡ t
 one-good p s t h k = h ∙ sym k
 
-same-answer : (r s : PuckStepped) → outcome r ≡ outcome s → r ≡ s
-same-answer r s e =
-    let sent = same-sent (r .sent) (s .sent) (ap (λ (x : Step). x .words) e) in
-    λ i. record { refusal = e i .refusal; next = e i .next; sent = sent i }
-
 pub one-step : (p : Puck) (e : Event) (r s : PuckStepped) → StepPromise p e r → StepPromise p e s → r ≡ s
-one-step p e r s h k = same-answer r s (h ∙ sym k)
+one-step p e r s h k = h ∙ sym k

@@ -8,7 +8,7 @@ use lib.Dec.{eqb, leb}
 use borrow.Author.Tests.{eqb-true, leb-false, le-leb, le-ltb, lt-ltb}
 use Rattle.numbers.proofs.Choices.{cases, or-else}
 use Rattle.wire.specs.Line.{sizeBy, known, namedBy}
-use Rattle.ballbox.specs.Box.{modeD, goingFrom, Step}
+use Rattle.ballbox.specs.Box.{modeD, goingFrom, Step, dormant}
 use Rattle.ballbox.specs.Latching.{latched}
 use Rattle.ballbox.specs.Commands.{letterP, commandOf, obeyed}
 use Rattle.ballbox.specs.Events.{bytesLeft, wanted, latching, withByteReady, after, moreBehind, nextByte, sending, dropped, onButtons, onHost, onPeriod, awake}
@@ -106,7 +106,7 @@ awake-follows b Send f = sending-follows b f
 awake-follows b Period f = record { format = f .format; mode = f .mode; awake = f .awake; length = f .length }
 
 -- what holds of a box and of what an event does to it awake holds after the step, refused or not
-pub by-rules : (P : BallBox → Type 0) (b : BallBox) (e : Event) → boxes.good b ≡ true → b .dormant ≡ false → P b → P (awake b e .next) → P (box.stepOf b e .next)
+pub by-rules : (P : BallBox → Type 0) (b : BallBox) (e : Event) → boxes.good b ≡ true → dormant b ≡ false → P b → P (awake b e .next) → P (box.stepOf b e .next)
 by-rules P b e g d h k = go (aboveSeven e) refl
   where
     go : (t : Bool) → aboveSeven e ≡ t → P (box.stepOf b e .next)
@@ -215,4 +215,4 @@ made-is-good buttons revision maker p e =
 
 -- and stays so
 pub step-stays-good : (p : Puck) (e : Event) (r : PuckStepped) → StepPromise p e r → good p ≡ true → good (r .next) ≡ true
-step-stays-good p e r s g = ap (λ (x : device.Step). good (x .next)) s ∙ stepped-puck p e g
+step-stays-good p e r s g = ap (λ (x : PuckStepped). good (x .next)) s ∙ stepped-puck p e g

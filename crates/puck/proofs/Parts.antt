@@ -10,7 +10,7 @@ use Rattle.numbers.proofs.Choices.{or-else}
 use Rattle.numbers.proofs.Tested.{left, right}
 use Rattle.wire.specs.Line.{letterOf}
 use Rattle.wire.specs.declared.Format.the-variants.{Mm}
-use Rattle.ballbox.specs.Box.{modeD}
+use Rattle.ballbox.specs.Box.{modeD, due, dormant}
 use Rattle.ballbox.specs.Good as boxes
 use Rattle.ballbox.specs.declared.BallBox.{BallBox}
 use Rattle.puck.specs.Rules.{modeR}
@@ -32,7 +32,7 @@ of-one n a b (inr e) = go (eqb n a) (eqb n b) (eq-eqb n b e)
 pub record Follows (b : BallBox) : Type 0 where
   pub format : b .settings .format ≡ letterOf Mm
   pub mode : (b .settings .mode ≡ modeR) ⊎ (b .settings .mode ≡ modeD)
-  pub awake : b .dormant ≡ false
+  pub awake : dormant b ≡ false
   pub length : (b .going .length ≡ 0) ⊎ (b .going .length ≡ 3)
 
 pub follows-parts : (b : BallBox) → follows b ≡ true → Follows b
@@ -40,14 +40,14 @@ unfolding follows
 follows-parts b h =
     let f = eqb (b .settings .format) (letterOf Mm) in
     let m = eqb (b .settings .mode) modeR || eqb (b .settings .mode) modeD in
-    let d = not (b .dormant) in
+    let d = not (dormant b) in
     let l = eqb (b .going .length) 0 || eqb (b .going .length) 3 in
     let three = left (f && m && d) l h in
     let two = left (f && m) d three in
     record {
       format = eqb-true (b .settings .format) (letterOf Mm) (left f m two);
       mode = one-of (b .settings .mode) modeR modeD (right f m two);
-      awake = not-true (b .dormant) (right (f && m) d three);
+      awake = not-true (dormant b) (right (f && m) d three);
       length = one-of (b .going .length) 0 3 (right (f && m && d) l h);
     }
 
@@ -59,7 +59,7 @@ follows-again b p =
 pub record Rests (b : BallBox) : Type 0 where
   pub length : b .going .length ≡ 0
   pub mode : b .settings .mode ≡ modeD
-  pub undue : b .due ≡ false
+  pub undue : due b ≡ false
   pub none : b .memory .count ≡ 0
 
 pub rests-parts : (b : BallBox) → rests b ≡ true → Rests b
@@ -67,14 +67,14 @@ unfolding rests
 rests-parts b h =
     let l = eqb (b .going .length) 0 in
     let m = eqb (b .settings .mode) modeD in
-    let d = not (b .due) in
+    let d = not (due b) in
     let n = eqb (b .memory .count) 0 in
     let three = left (l && m && d) n h in
     let two = left (l && m) d three in
     record {
       length = eqb-true (b .going .length) 0 (left l m two);
       mode = eqb-true (b .settings .mode) modeD (right l m two);
-      undue = not-true (b .due) (right (l && m) d three);
+      undue = not-true (due b) (right (l && m) d three);
       none = eqb-true (b .memory .count) 0 (right (l && m && d) n h);
     }
 

@@ -20,16 +20,17 @@ use Rattle.puck.specs.Promises.{outcome, stepOf, StepRefusal, StepPromis
 use Rattle.puck.specs.declared.Puck.{Puck}
 use Rattle.puck.specs.declared.PuckStepped.{PuckStepped}
 use Rattle.puck.proofs.Parts.{parts}
+use Rattle.puck.proofs.Single.{says}
 
 -- 6: the old device and no word
 pub bad-state : (p : Puck) (e : Event) (r : PuckStepped) → StepPromise p e r → good p ≡ false → outcome r ≡ refused badState p
 unfolding stepOf
-bad-state p e r s g = rw g at s
+bad-state p e r s g = rw g at (says p e r s)
 
 -- else the rules
 pub ruled : (p : Puck) (e : Event) (r : PuckStepped) → StepPromise p e r → good p ≡ true → outcome r ≡ rules p e
 unfolding stepOf
-ruled p e r s g = rw g at s
+ruled p e r s g = rw g at (says p e r s)
 
 -- 3: after 6, whether or not a self-test is going
 box-refuses : (p : Puck) (n : ℕ) → boxes.good (p .ball) ≡ true → 7 < n → byBox p (Buttons n) ≡ refused badButtons p
@@ -79,4 +80,4 @@ rules-rightly p e = cases (StepRefusal p) (testing p) (λ _. in-rightly p e) (λ
 
 pub refusals : (p : Puck) (e : Event) (r : PuckStepped) → StepPromise p e r → StepRefusal p (outcome r)
 unfolding stepOf
-refusals p e r s = rw s (cases (StepRefusal p) (good p) (λ _. rules-rightly p e) (λ _. refusal (here refl)))
+refusals p e r s = rw (says p e r s) (cases (StepRefusal p) (good p) (λ _. rules-rightly p e) (λ _. refusal (here refl)))

@@ -38,8 +38,8 @@ poweredBox buttons =
       going = nothing;
       memory = none;
       sums = noSums;
-      due = false;
-      dormant = false;
+      due = 0;
+      dormant = 0;
     }
 
 -- "It and T clear all but the buttons and start a self-test"

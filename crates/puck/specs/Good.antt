@@ -3,7 +3,7 @@ use mathlib.Core.Bool.{Bool, not, _&&_, _||_}
 use lib.Dec.{eqb, ltb, leb}
 use Rattle.wire.specs.Line.{letterOf}
 use Rattle.wire.specs.declared.Format.the-variants.{Mm}
-use Rattle.ballbox.specs.Box.{modeD}
+use Rattle.ballbox.specs.Box.{modeD, dormant, due}
 use Rattle.ballbox.specs.Good as boxes
 use Rattle.ballbox.specs.declared.BallBox.{BallBox}
 use Rattle.puck.specs.Rules.{modeR}
@@ -12,12 +12,12 @@ use Rattle.puck.specs.declared.Puck.{Puck}
 -- a box in S, in mode R or D, awake, with nothing or a report going
 unfoldable pub follows : BallBox → Bool
 follows b =
-    eqb (b .settings .format) (letterOf Mm) && (eqb (b .settings .mode) modeR || eqb (b .settings .mode) modeD) && not (b .dormant) &&
+    eqb (b .settings .format) (letterOf Mm) && (eqb (b .settings .mode) modeR || eqb (b .settings .mode) modeD) && not (dormant b) &&
     (eqb (b .going .length) 0 || eqb (b .going .length) 3)
 
 -- nothing is going in it, it is in prompt mode, and nothing is due or remembered
 unfoldable pub rests : BallBox → Bool
-rests b = eqb (b .going .length) 0 && eqb (b .settings .mode) modeD && not (b .due) && eqb (b .memory .count) 0
+rests b = eqb (b .going .length) 0 && eqb (b .settings .mode) modeD && not (due b) && eqb (b .memory .count) 0
 
 -- no self-test, or one to four of its bytes left, while the box rests
 unfoldable pub goodTest : Puck → Bool

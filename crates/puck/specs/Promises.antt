@@ -2,9 +2,9 @@
 use Prim.Native.Nat.{ℕ}
 use mathlib.Core.Path.{_≡_}
 use mathlib.Core.Bool.{Bool, cond}
-use mathlib.Core.List.{[], _∷_}
+use mathlib.Core.List.{List, [], _∷_}
 use Rattle.wire.specs.Numbers.{badState, badButtons, RefusesRightly}
-use Rattle.ballbox.specs.Promises.{sentWords}
+use Rattle.ballbox.specs.Promises.{countOf, wordOf, wordsOf}
 use Rattle.ballbox.specs.declared.Event.{Event}
 use Rattle.puck.specs.Device.{made, Step, refused}
 use Rattle.puck.specs.Rules.{rules}
@@ -12,8 +12,15 @@ use Rattle.puck.specs.Good as devices
 use Rattle.puck.specs.declared.Puck.{Puck}
 use Rattle.puck.specs.declared.PuckStepped.{PuckStepped}
 
+-- a step as the program hands it back, and read again
+abbrev pub stepped : Step → PuckStepped
+stepped a = record { refusal = a .refusal; sent = countOf (a .words); word = wordOf (a .words); rest = 0; next = a .next }
+
+abbrev pub sentWords : PuckStepped → List ℕ
+sentWords r = wordsOf (r .sent) (r .word)
+
 abbrev pub outcome : PuckStepped → Step
-outcome r = record { refusal = r .refusal; next = r .next; words = sentWords (r .sent) }
+outcome r = record { refusal = r .refusal; next = r .next; words = sentWords r }
 
 -- the promise of `made`
 abbrev pub MadePromise : ℕ → ℕ → ℕ → Puck → Type 0
@@ -33,4 +40,4 @@ StepRefusal p a = RefusesRightly (λ (s : Step). s .refusal) (refused badState p
 
 -- the promise of `step`
 abbrev pub StepPromise : Puck → Event → PuckStepped → Type 0
-StepPromise p e r = outcome r ≡ stepOf p e
+StepPromise p e r = r ≡ stepped (stepOf p e)

@@ -14,7 +14,7 @@ fn follows(ball: BallBox) -> bool
 {
     (ball.settings.format == FORMAT_S)
         & ((ball.settings.mode == MODE_R) | (ball.settings.mode == MODE_D))
-        & !ball.dormant
+        & (ball.dormant != 1)
         & ((ball.going.length == 0) | (ball.going.length == 3))
 }
 
@@ -22,7 +22,10 @@ fn follows(ball: BallBox) -> bool
 fn rests(ball: BallBox) -> bool
     ensures { λ r. ⌜ r ≡ rests ball ⌝ }
 {
-    (ball.going.length == 0) & (ball.settings.mode == MODE_D) & !ball.due & (ball.memory.count == 0)
+    (ball.going.length == 0)
+        & (ball.settings.mode == MODE_D)
+        & (ball.due != 1)
+        & (ball.memory.count == 0)
 }
 
 impl Puck {

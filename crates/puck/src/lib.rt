@@ -1,10 +1,9 @@
 // The Digital VSXXX puck: the ball box in S, with the commands R, D, P and T alone, and its self-test. Here stand its parts and what a user calls.
 ghost use mathlib.Core.Path.{_≡_};
 ghost use Rattle.puck.specs.Device.{refused};
-ghost use Rattle.puck.specs.Promises.{outcome, MadePromise, StepPromise};
+ghost use Rattle.puck.specs.Promises.{stepped, MadePromise, StepPromise};
 use ballbox::BallBox;
 use ballbox::Event;
-use ballbox::Sent;
 
 mod good;
 mod rules;
@@ -22,6 +21,7 @@ pub struct Testing {
 }
 
 // A box in S, and beside it the self-test, the firmware's revision and the maker's location.
+#[repr(C)]
 pub struct Puck {
     pub ball: BallBox,
     pub test: Testing,
@@ -29,11 +29,14 @@ pub struct Puck {
     pub maker: u8,
 }
 
-// What a step hands back: the number of the refusal, 0 for success, the device and the word.
+// What a step hands back, as the box's: the number of the refusal, how many words are sent, the word, 0, and the device.
+#[repr(C)]
 pub struct PuckStepped {
     pub refusal: u8,
+    pub sent: u8,
+    pub word: u16,
+    pub rest: u32,
     pub next: Puck,
-    pub sent: Sent,
 }
 
 impl Puck {
@@ -46,12 +49,14 @@ impl Puck {
 
     // The old device and no word.
     fn refused(self, number: u8) -> PuckStepped
-        ensures { λ r. ⌜ outcome r ≡ refused number self ⌝ }
+        ensures { λ r. ⌜ r ≡ stepped (refused number self) ⌝ }
     {
         PuckStepped {
             refusal: number,
+            sent: 0,
+            word: 0,
+            rest: 0,
             next: self,
-            sent: Sent::Nothing,
         }
     }
 

@@ -6,7 +6,7 @@ ghost use Rattle.vsxxx.specs.SelfTests.{testBytes};
 ghost use Rattle.wire.specs.Reading.{at};
 ghost use Rattle.puck.specs.Device.{testing, testOf, poweredBox, powered};
 ghost use Rattle.puck.specs.Rules.{gives, isBoxes, asBox, byBox, byT, lessOne, testByte, inTest, outOfTest};
-ghost use Rattle.puck.specs.Promises.{outcome};
+ghost use Rattle.puck.specs.Promises.{stepped};
 use crate::Puck;
 use crate::PuckStepped;
 use crate::SUCCESS;
@@ -17,7 +17,6 @@ use ballbox::Excess;
 use ballbox::Going;
 use ballbox::Memory;
 use ballbox::Pair;
-use ballbox::Sent;
 use ballbox::Settings;
 use ballbox::Sums;
 use ballbox::Track;
@@ -69,14 +68,14 @@ fn powered_box(buttons: u8) -> BallBox
         memory: Memory {
             states: [0u8; 8],
             count: 0,
-            showing: false,
+            showing: 0,
         },
         sums: Sums {
             limit: none,
             counter: none,
         },
-        due: false,
-        dormant: false,
+        due: 0,
+        dormant: 0,
     }
 }
 
@@ -162,44 +161,49 @@ impl Puck {
 
     // The device, with a word or with none.
     fn quietly(self) -> PuckStepped
-        ensures { λ r. ⌜ outcome r ≡ gives [] self ⌝ }
+        ensures { λ r. ⌜ r ≡ stepped (gives [] self) ⌝ }
     {
         PuckStepped {
             refusal: SUCCESS,
+            sent: 0,
+            word: 0,
+            rest: 0,
             next: self,
-            sent: Sent::Nothing,
         }
     }
 
     fn gives(self, word: u16) -> PuckStepped
-        ensures { λ r. ⌜ outcome r ≡ gives (word ∷ []) self ⌝ }
+        ensures { λ r. ⌜ r ≡ stepped (gives (word ∷ []) self) ⌝ }
     {
         PuckStepped {
             refusal: SUCCESS,
+            sent: 1,
+            word: word,
+            rest: 0,
             next: self,
-            sent: Sent::Word(word),
         }
     }
 
     // The box's step.
     fn by_box(mut self, event: Event) -> PuckStepped
-        ensures { λ r. ⌜ outcome r ≡ byBox self event ⌝ }
+        ensures { λ r. ⌜ r ≡ stepped (byBox self event) ⌝ }
     {
         let ball = self.ball;
         let s = ball.step(as_box(event));
         let next = s.next;
-        let sent = s.sent;
         self.ball = next;
         PuckStepped {
             refusal: s.refusal,
+            sent: s.sent,
+            word: s.word,
+            rest: s.rest,
             next: self,
-            sent: sent,
         }
     }
 
     // T: what is going is broken off, all but the buttons is cleared, and a self-test starts.
     fn by_t(self) -> PuckStepped
-        ensures { λ r. ⌜ outcome r ≡ byT self ⌝ }
+        ensures { λ r. ⌜ r ≡ stepped (byT self) ⌝ }
     {
         let going = self.ball.going;
         let next = powered(self.ball.settings.buttons, self.revision, self.maker);
@@ -211,7 +215,7 @@ impl Puck {
 
     // A byte of the self-test is sent.
     fn test_byte(mut self) -> PuckStepped
-        ensures { λ r. ⌜ outcome r ≡ testByte self ⌝ }
+        ensures { λ r. ⌜ r ≡ stepped (testByte self) ⌝ }
     {
         let test = self.test;
         let byte = byte_of_test(test.left, self.revision, self.maker, test.buttons);
@@ -221,7 +225,7 @@ impl Puck {
 
     // While a self-test is going, bytes of the host's do nothing.
     pub(crate) fn in_test(self, event: Event) -> PuckStepped
-        ensures { λ r. ⌜ outcome r ≡ inTest self event ⌝ }
+        ensures { λ r. ⌜ r ≡ stepped (inTest self event) ⌝ }
     {
         match event {
             Event::Motion(_, _) => self.by_box(event),
@@ -235,7 +239,7 @@ impl Puck {
 
     // While none is going, the box's rules, but for T.
     pub(crate) fn out_of_test(self, event: Event) -> PuckStepped
-        ensures { λ r. ⌜ outcome r ≡ outOfTest self event ⌝ }
+        ensures { λ r. ⌜ r ≡ stepped (outOfTest self event) ⌝ }
     {
         match event {
             Event::Motion(_, _) => self.by_box(event),

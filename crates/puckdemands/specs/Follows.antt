@@ -69,17 +69,17 @@ follows answers = box-run streaming stretch answers refl refl refl
 pub followed : Words streaming stretch
     (0x90 ∷ 0x05 ∷ 256 ∷ 0x9C ∷ 0x00 ∷ 0x00 ∷ 257 ∷ [])
     (0x90 ∷ 0x05 ∷ 256 ∷ 0x9C ∷ 0x00 ∷ 0x00 ∷ 257 ∷ [])
-unfolding computing box.answersTo box.answerTo box.sentAs
+unfolding computing box.answersTo box.answerTo
 followed = record { of-device = refl; of-box = refl }
 
 -- in a self-test the device sends a byte of it, where its box is silent
 pub in-a-self-test : Words (made 0 1 3) (Send ∷ []) (0xA1 ∷ []) (257 ∷ [])
-unfolding computing box.answersTo box.answerTo box.sentAs
+unfolding computing box.answersTo box.answerTo
 in-a-self-test = record { of-device = refl; of-box = refl }
 
 -- T starts one, where its box ignores the byte
 pub with-T : Words streaming (Host letterT ∷ Send ∷ []) (0xA1 ∷ []) (257 ∷ [])
-unfolding computing box.answersTo box.answerTo box.sentAs
+unfolding computing box.answersTo box.answerTo
 with-T = record { of-device = refl; of-box = refl }
 
 -- and a device that is not good, of revision 16, is refused where its box is not
@@ -87,5 +87,5 @@ abbrev sixteen : Puck
 sixteen = record { ball = streaming .ball; test = streaming .test; revision = 16; maker = 3 }
 
 pub not-good : Words sixteen (Send ∷ []) [] (257 ∷ [])
-unfolding computing box.answersTo box.answerTo box.sentAs
+unfolding computing box.answersTo box.answerTo
 not-good = record { of-device = refl; of-box = refl }

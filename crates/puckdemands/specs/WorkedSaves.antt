@@ -20,7 +20,6 @@ use Rattle.ballbox.specs.Presses.{remembered}
 use Rattle.ballbox.specs.Commands.{letterP}
 use Rattle.ballbox.specs.declared.Event.{Event}
 use Rattle.ballbox.specs.declared.Event.the-variants.{Motion, Buttons, Host, Latch, Send, Period}
-use Rattle.history.specs.Runs.{sentAs}
 use Rattle.history.specs.Asked.{allHosts}
 use Rattle.history.specs.Presses.{buttonsTold, neverNinth, slotsFrom, among-seven}
 use Rattle.vsxxx.specs.Reports.{PuckReport, movement, self-test, PuckMessage, of-box, of-test}
@@ -84,7 +83,7 @@ abbrev scarredWords : List ℕ
 scarredWords = 0xA1 ∷ 0x32 ∷ 0x00 ∷ 0x00 ∷ 0x98 ∷ 0x05 ∷ 256 ∷ 0x32 ∷ 0x00 ∷ 0x00 ∷ 0x98 ∷ 0x00 ∷ 0x00 ∷ []
 
 pub shown-in-a-test : TrueBy fresh scarredWords sentReports
-unfolding computing answersTo answerTo sentAs
+unfolding computing answersTo answerTo
 shown-in-a-test =
     true-where-damage-shows (run moves)
     (stays (stays (stays (stays (stays (stays (scar (0x03 ∷ 0xA1 ∷ []) (stays (stays (stays (stays (stays (stays whole))))))))))))) fresh refl
@@ -123,7 +122,7 @@ tap-seen = (refl, refl, refl)
 -- watch tells one press at most
 pub tap-scarred : (r : PuckReader) → FreshPromise r → (steps : List PuckRead) → reading.StepsPromise r (0x32 ∷ 0x00 ∷ 0x00 ∷ 0x9A ∷ 0x00 ∷ 0x32 ∷ 256 ∷ 0x98 ∷ 0x00 ∷ 0x00 ∷ []) steps
     → TellsAtMost 1 middle 0 (movementsIn (handedOut (reading.answers steps)))
-unfolding computing answersTo answerTo sentAs presses buttonsTold
+unfolding computing answersTo answerTo presses buttonsTold
 tap-scarred =
     never-a-second-save (run tap)
     (lost (stays (stays (stays (stays (stays (lost (lost (stays (lost (lost (a-break (stays (stays (stays whole))))))))))))))) middle
@@ -176,12 +175,12 @@ press =
     }
 
 pub tap-survives : ShowsStates fresh (0xA1 ∷ 0x32 ∷ 0x00 ∷ 0x00 ∷ 0x98 ∷ 0x05 ∷ 0x00 ∷ 0x9A ∷ 0x00 ∷ 0x00 ∷ 0x98 ∷ []) (self-test test ∷ []) (2 ∷ [])
-unfolding computing answersTo answerTo sentAs remembered
+unfolding computing answersTo answerTo remembered
 tap-survives = a-press-survives under-way 2 released (run (under-way ++ (Buttons 2 ∷ released))) press fresh refl
 
 -- and it does where the second byte of the self-test, which was over at the press, has become two others
 pub tap-seen-after-damage : SeenAt (0xA1 ∷ 0x98 ∷ 0x07 ∷ 0x00 ∷ 0x00 ∷ 0x98 ∷ 0x05 ∷ 0x00 ∷ 0x9A ∷ 0x00 ∷ 0x00 ∷ 0x98 ∷ []) 2
-unfolding computing answersTo answerTo sentAs
+unfolding computing answersTo answerTo
 tap-seen-after-damage =
     seen-after-the-stretch under-way 2 released (run (under-way ++ (Buttons 2 ∷ released))) press
     (0xA1 ∷ []) (0x32 ∷ []) (0x98 ∷ 0x07 ∷ []) (0x00 ∷ 0x00 ∷ 0x98 ∷ 0x05 ∷ 0x00 ∷ 0x9A ∷ 0x00 ∷ 0x00 ∷ 0x98 ∷ []) refl refl (omega arith)

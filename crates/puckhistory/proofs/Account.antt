@@ -16,7 +16,7 @@ use Rattle.frames.specs.Retold.{passagesAs, underWayAs}
 use Rattle.wire.specs.Line.{known, namedBy}
 use Rattle.wire.specs.Messages.{Message}
 use Rattle.wire.specs.declared.Format.the-variants.{Mm}
-use Rattle.ballbox.specs.Box.{zeros}
+use Rattle.ballbox.specs.Box.{zeros, dormant}
 use Rattle.ballbox.specs.Motion.{isA}
 use Rattle.ballbox.specs.Thrown.{noSums}
 use Rattle.ballbox.specs.Excesses.{thrown, addedUp, areLong}
@@ -60,7 +60,7 @@ none-known byte = of-four (λ (x : ℕ). known x ≡ false) refl refl refl refl 
 not-A : (p : Puck) (e : Event) → selectsA (p .ball) (asBox e) ≡ false
 not-A p (Motion dx dy) = refl
 not-A p (Buttons n) = refl
-not-A p (Host byte) = rw (of-four (λ (x : ℕ). isA x ≡ false) refl refl refl refl byte) (and-false (not (p .ball .dormant)))
+not-A p (Host byte) = rw (of-four (λ (x : ℕ). isA x ≡ false) refl refl refl refl byte) (and-false (not (dormant (p .ball))))
 not-A p Latch = refl
 not-A p Send = refl
 not-A p Period = refl
@@ -72,11 +72,11 @@ stands p g h u = record { good = h .good; carries = h .carries; relative = ap is
 -- a byte of the host's throws nothing away, and neither does Send where nothing is going
 host-throws : (b : BallBox) (byte : ℕ) → thrown b (Host byte) ≡ noSums
 unfolding thrown
-host-throws b byte = cases (λ (s : Sums). s ≡ noSums) (not (boxes.good b) || false || b .dormant) (λ _. refl) (λ _. refl)
+host-throws b byte = cases (λ (s : Sums). s ≡ noSums) (not (boxes.good b) || false || dormant b) (λ _. refl) (λ _. refl)
 
 send-throws : (b : BallBox) → bytesLeft b ≡ false → thrown b Send ≡ noSums
 unfolding thrown
-send-throws b l = rw l (cases (λ (s : Sums). s ≡ noSums) (not (boxes.good b) || false || b .dormant) (λ _. refl) (λ _. refl))
+send-throws b l = rw l (cases (λ (s : Sums). s ≡ noSums) (not (boxes.good b) || false || dormant b) (λ _. refl) (λ _. refl))
 
 none-thrown : (k : Kind) (a : Axis) (s : Sums) → s ≡ noSums → excessOf k a s ≡ pos 0
 none-thrown k a s e = ap (excessOf k a) e ∙ none-along k a
@@ -118,7 +118,7 @@ module _ (a : Axis) where
   going-as-told (first n m) = refl
 
   -- what an event feeds the box, throws away there and clears there
-  same-fed : (b : BallBox) (e : Event) → b .dormant ≡ false → box.fedBy a b e ≡ whileAwake b (box.fedBy a b (asBox e))
+  same-fed : (b : BallBox) (e : Event) → dormant b ≡ false → box.fedBy a b e ≡ whileAwake b (box.fedBy a b (asBox e))
   same-fed b e d = go e ∙ sym (ap (λ (t : Bool). cond t (pos 0) (box.fedBy a b (asBox e))) d)
     where
       go : (e : Event) → box.fedBy a b e ≡ box.fedBy a b (asBox e)
@@ -130,7 +130,7 @@ module _ (a : Axis) where
       go Period = refl
 
   none-cleared : (b : BallBox) (e : Event) → whileAwake b (box.clearedBy a b (asBox e)) ≡ pos 0
-  none-cleared b e = ap (whileAwake b) (go e) ∙ cases (λ (v : ℤ). v ≡ pos 0) (b .dormant) (λ _. refl) (λ _. refl)
+  none-cleared b e = ap (whileAwake b) (go e) ∙ cases (λ (v : ℤ). v ≡ pos 0) (dormant b) (λ _. refl) (λ _. refl)
     where
       go : (e : Event) → box.clearedBy a b (asBox e) ≡ pos 0
       go (Motion dx dy) = refl
@@ -148,7 +148,7 @@ module _ (a : Axis) where
     pub to : inGoing a (u .going) ≡ box.inGoing a (t .going)
 
   box-balances : (p : Puck) (e : Event) {g : UnderWay Message} {t : Told Message} {h : UnderWay PuckMessage} {u : Told PuckMessage} (c : BallBox)
-      → boxes.good (p .ball) ≡ true → p .ball .dormant ≡ false → isT p e ≡ false
+      → boxes.good (p .ball) ≡ true → dormant (p .ball) ≡ false → isT p e ≡ false
       → ToldAs g t h u → Balances (accounts.box a) (p .ball) (asBox e) g c t → Balances device p e h (withBall c p) u
   box-balances p e c k d isnt same s =
       let b = p .ball in
@@ -279,7 +279,7 @@ last-puck p [] [] h = refl
 last-puck p [] (a ∷ answers) h = absurd h
 last-puck p (e ∷ events) [] h = absurd h
 last-puck p (e ∷ events) (a ∷ answers) h =
-    let n : a .next ≡ nextPuck p e = ap (λ (x : Step). x .next) (h .0) in
+    let n : a .next ≡ nextPuck p e = ap (λ (x : PuckStepped). x .next) (h .0) in
     last-puck (a .next) events answers (h .1) ∙ ap (λ (q : Puck). puckAfter q events) n
 
 -- nothing is added where nothing is thrown away: as of a refused event, which leaves the box as it is

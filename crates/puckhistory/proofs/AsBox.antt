@@ -21,7 +21,7 @@ use Rattle.vsxxx.specs.Reports.{PuckMessage, of-box}
 use Rattle.puck.specs.Device.{withBall, Step}
 use Rattle.puck.specs.Rules.{letterT, asBox, byBox, outOfTest, rules}
 use Rattle.puck.specs.Good.{good}
-use Rattle.puck.specs.Promises.{stepOf, StepPromise}
+use Rattle.puck.specs.Promises.{stepped, stepOf, StepPromise}
 use Rattle.puck.specs.declared.Puck.{Puck}
 use Rattle.puck.specs.declared.PuckStepped.{PuckStepped}
 use Rattle.puck.proofs.Goodness.{stepped-puck}
@@ -70,9 +70,7 @@ module _ (p : Puck) (e : Event) (k : good p ≡ true) (z : p .test .left ≡ 0) 
 
   box-answer : (a : PuckStepped) → StepPromise p e a → boxes.StepPromise (p .ball) (asBox e) (asBoxAnswer a)
   unfolding byBox
-  box-answer a s =
-      let q = s ∙ by-box p e k z h in
-      λ i. record { refusal = q i .refusal; next = q i .next .ball; words = q i .words }
+  box-answer a s = ap asBoxAnswer (s ∙ ap stepped (by-box p e k z h))
 
   told-is : (g : UnderWay Message) → toldBy p e (underWayAs of-box g) ≡ toldAs of-box (box-history.toldBy (p .ball) (asBox e) g)
   unfolding toldBy boxTells
@@ -90,7 +88,7 @@ box-run p [] (a ∷ answers) k z w r = absurd r
 box-run p (e ∷ events) [] k z w r = absurd r
 box-run p (e ∷ events) (a ∷ answers) k z w r =
     let h = left (T-free e) (withoutT events) w in
-    let n : a .next ≡ nextPuck p e = ap (λ (s : Step). s .next) (r .0) in
+    let n : a .next ≡ nextPuck p e = ap (λ (s : PuckStepped). s .next) (r .0) in
     let good-next : good (a .next) ≡ true = rw n (stepped-puck p e k) in
     let none : a .next .test .left ≡ 0 = ap (λ (q : Puck). q .test .left) (n ∙ next-is p e k z h) ∙ z in
     (box-answer p e k z h a (r .0), box-run (a .next) events answers good-next none (right (T-free e) (withoutT events) w) (r .1))

@@ -17,6 +17,7 @@ use Rattle.frames.proofs.Sender.{givenOver, sends, breaks, bridge}
 use Rattle.wire.specs.Line.{known, namedBy}
 use Rattle.wire.specs.Messages.{Message}
 use Rattle.wire.specs.declared.Format.the-variants.{Mm}
+use Rattle.ballbox.specs.Box.{dormant}
 use Rattle.ballbox.specs.Commands.{commandOf}
 use Rattle.ballbox.specs.Promises as boxes
 use Rattle.ballbox.specs.declared.BallBox.{BallBox}
@@ -42,6 +43,7 @@ use Rattle.puck.proofs.Goodness.{Quiet, of-four, stepped-puck, made-is-good}
 use Rattle.puckhistory.specs.Runs.{RunPromise, wordsGiven, nextPuck}
 use Rattle.puckhistory.specs.Carried.{Holds, by-box, by-test}
 use Rattle.puckhistory.specs.History.{inBox, boxTells, testTells, tellsIn, tellsOut, toldBy, passagesOf, goingAfter, atPowerUp}
+use Rattle.puck.proofs.Single.{says}
 
 -- the box is handed only bytes that ask for reports, and one that it ignores
 hands : (e : Event) → Asks (asBox e)
@@ -98,7 +100,7 @@ t-sends p (first n m) h k =
     }
 
 -- in a self-test the box tells nothing
-pub quiet-told : (b : BallBox) (e : Event) → parts-of.Rests b → b .dormant ≡ false → Quiet e → told-by.toldBy b (asBox e) nothing ≡ told [] nothing
+pub quiet-told : (b : BallBox) (e : Event) → parts-of.Rests b → dormant b ≡ false → Quiet e → told-by.toldBy b (asBox e) nothing ≡ told [] nothing
 unfolding told-by.toldBy
 quiet-told b (Motion dx dy) r d q = rw d
 quiet-told b (Buttons n) r d q = rw d (cases (λ (t : Told Message). t ≡ told [] nothing) (ltb 7 n) (λ _. refl) (λ _. refl))
@@ -208,8 +210,8 @@ permitted p [] [] h = refl
 permitted p [] (a ∷ answers) h = absurd h
 permitted p (e ∷ events) [] h = absurd h
 permitted p (e ∷ events) (a ∷ answers) h =
-    let n : a .next ≡ nextPuck p e = ap (λ (x : Step). x .next) (h .0) in
-    ap₂ _++_ (ap (λ (x : Step). x .words) (h .0)) (permitted (a .next) events answers (h .1) ∙ rw n)
+    let n : a .next ≡ nextPuck p e = ap (λ (x : PuckStepped). x .next) (h .0) in
+    ap₂ _++_ (ap (λ (x : Step). x .words) (says p e a (h .0))) (permitted (a .next) events answers (h .1) ∙ rw n)
 
 pub run-passages : (p : Puck) (g : UnderWay PuckMessage) (events : List Event) (answers : List PuckStepped) → good p ≡ true → Holds p g → RunPromise p events answers
     → partWords puckBytes g ++ wordsGiven answers ≡ passageWords puckBytes (passagesOf p g events) ++ partWords puckBytes (goingAfter p g events)

@@ -17,7 +17,7 @@ use Rattle.wire.specs.Messages.{Message, report, reply}
 use Rattle.wire.specs.Buttons.{presses, buttonsOf, buttonsBegun, buttonsGoing}
 use Rattle.wire.specs.declared.Format.the-variants.{Mm}
 use Rattle.wire.proofs.Buttons.{lastOf, last-append, presses-append, fewer, stays-so}
-use Rattle.ballbox.specs.Presses.{remembered}
+use Rattle.ballbox.specs.Presses.{remembered, showing}
 use Rattle.ballbox.specs.declared.BallBox.{BallBox}
 use Rattle.ballbox.specs.declared.Event.{Event}
 use Rattle.ballbox.specs.declared.Event.the-variants.{Motion, Buttons, Host, Latch, Send, Period}
@@ -156,7 +156,7 @@ owed-none : (n : ℕ) → owed (poweredBox n) nothing ≡ n ∷ []
 unfolding poweredBox remembered
 owed-none n = refl
 
-powered-none : (n : ℕ) → poweredBox n .memory .showing ≡ false
+powered-none : (n : ℕ) → showing (poweredBox n .memory) ≡ false
 unfolding poweredBox
 powered-none n = refl
 
@@ -299,9 +299,9 @@ module _ (buttons revision maker : ℕ) (p : Puck) (events : List Event) (made :
   abbrev going : UnderWay PuckMessage
   going = goingAfter p (atPowerUp (buttons % 8) (revision % 16) (maker % 8)) events
 
-  made-showing : p .ball .memory .showing ≡ false
+  made-showing : showing (p .ball .memory) ≡ false
   unfolding powered
-  made-showing = ap (λ (q : Puck). q .ball .memory .showing) made ∙ powered-none (buttons % 8)
+  made-showing = ap (λ (q : Puck). showing (q .ball .memory)) made ∙ powered-none (buttons % 8)
 
   pub made-stands : Stands p (atPowerUp (buttons % 8) (revision % 16) (maker % 8))
   made-stands = record { good = made-is-good buttons revision maker p made; holds = made-holds buttons revision maker p made; showing = made-showing }

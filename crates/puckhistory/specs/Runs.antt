@@ -3,13 +3,11 @@ use Prim.Native.Nat.{ℕ}
 use mathlib.Core.Bool.{Bool, not}
 use mathlib.Core.List.{List, [], _∷_, _++_}
 use lib.Dec.{eqb}
-use Rattle.ballbox.specs.Promises.{sentWords}
 use Rattle.ballbox.specs.declared.Event.{Event}
 use Rattle.ballbox.specs.declared.Stepped.{Stepped}
 use Rattle.history.specs.Asked.{allHosts}
-use Rattle.history.specs.Runs.{sentAs}
 use Rattle.puck.specs.Rules.{letterT}
-use Rattle.puck.specs.Promises.{StepPromise, stepOf}
+use Rattle.puck.specs.Promises.{stepped, sentWords, StepPromise, stepOf}
 use Rattle.puck.specs.declared.Puck.{Puck}
 use Rattle.puck.specs.declared.PuckStepped.{PuckStepped}
 
@@ -23,7 +21,7 @@ RunPromise p (e ∷ events) (a ∷ answers) = StepPromise p e a × RunPromise (a
 -- the words that they give, and the last device
 abbrev pub wordsGiven : List PuckStepped → List ℕ
 wordsGiven [] = []
-wordsGiven (a ∷ answers) = sentWords (a .sent) ++ wordsGiven answers
+wordsGiven (a ∷ answers) = sentWords a ++ wordsGiven answers
 
 abbrev pub lastPuck : Puck → List PuckStepped → Puck
 lastPuck p [] = p
@@ -44,7 +42,7 @@ puckWords p (e ∷ events) = stepOf p e .words ++ puckWords (nextPuck p e) event
 
 -- the answers that the rules give: of a step, and of a run
 unfoldable pub answerTo : Puck → Event → PuckStepped
-answerTo p e = record { refusal = stepOf p e .refusal; next = nextPuck p e; sent = sentAs (stepOf p e .words) }
+answerTo p e = stepped (stepOf p e)
 
 unfoldable pub answersTo : Puck → List Event → List PuckStepped
 answersTo p [] = []
@@ -52,7 +50,7 @@ answersTo p (e ∷ events) = answerTo p e ∷ answersTo (nextPuck p e) events
 
 -- an answer of the device, as its box gave it; and events of which none is T
 abbrev pub asBoxAnswer : PuckStepped → Stepped
-asBoxAnswer a = record { refusal = a .refusal; next = a .next .ball; sent = a .sent }
+asBoxAnswer a = record { refusal = a .refusal; sent = a .sent; word = a .word; rest = a .rest; next = a .next .ball }
 
 abbrev pub withoutT : List Event → Bool
 withoutT events = allHosts (λ byte. not (eqb byte letterT)) events

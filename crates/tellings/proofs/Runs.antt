@@ -12,6 +12,7 @@ use Rattle.frames.specs.Passages.{finished, broken, UnderWay, nothing, first, p
 use Rattle.frames.specs.Sender.{Told, told, sentOne, passagesOver, goingOver}
 use Rattle.wire.specs.Messages.{Latched, Message, report, reply, messageBytes}
 use Rattle.wire.specs.declared.Format.{Format}
+use Rattle.ballbox.specs.Box.{dormant}
 use Rattle.ballbox.specs.Box as box
 use Rattle.ballbox.specs.Commands.{commandOf, asksForReports}
 use Rattle.ballbox.specs.Commands as commands
@@ -23,6 +24,7 @@ use Rattle.ballbox.specs.declared.BallBox.{BallBox}
 use Rattle.ballbox.specs.declared.Event.{Event}
 use Rattle.ballbox.specs.declared.Event.the-variants.{Motion, Buttons, Host, Latch, Send, Period}
 use Rattle.ballbox.specs.declared.Stepped.{Stepped}
+use Rattle.ballbox.proofs.Single.{says}
 use Rattle.ballbox.proofs.Refusals.{ruled}
 use Rattle.history.specs.Runs.{RunPromise}
 use Rattle.history.specs.Asked.{hostsPass, allHosts}
@@ -109,14 +111,14 @@ latch-items b (first n m) = refl
 abbrev Reaches : BallBox → Event → UnderWay Message → Told Message → Type 0
 Reaches b e g t = partItems g ++ (asItems (stepOf b e .words) ++ tellingOf e) ≡ lineItems (t .passages) ++ partItems (t .going)
 
-host-items : (b : BallBox) (byte : ℕ) (g : UnderWay Message) → good b ≡ true → b .dormant ≡ false → Carries b g → asksOrTells byte ≡ true → Reaches b (Host byte) g (whenAwake b (Host byte) g)
+host-items : (b : BallBox) (byte : ℕ) (g : UnderWay Message) → good b ≡ true → dormant b ≡ false → Carries b g → asksOrTells byte ≡ true → Reaches b (Host byte) g (whenAwake b (Host byte) g)
 unfolding awake onHost
 host-items b byte nothing k d h t = rw (ruled b (Host byte) false k refl d, h) (host-told b byte k t)
 host-items b byte (first n m) k d h t =
     rw (ruled b (Host byte) false k refl d, bytes-left b n m h)
     (sym (append-assoc (partItems (first n m)) (word break ∷ []) (tellingOf (Host byte))) ∙ rw (broken-items n m, host-told b byte k t))
 
-awake-items : (b : BallBox) (e : Event) (g : UnderWay Message) → good b ≡ true → b .dormant ≡ false → Carries b g → aboveSeven e ≡ false → hostsPass asksOrTells e ≡ true → Reaches b e g (whenAwake b e g)
+awake-items : (b : BallBox) (e : Event) (g : UnderWay Message) → good b ≡ true → dormant b ≡ false → Carries b g → aboveSeven e ≡ false → hostsPass asksOrTells e ≡ true → Reaches b e g (whenAwake b e g)
 unfolding awake
 awake-items b (Motion dx dy) g k d h p t = rw (ruled b (Motion dx dy) false k p d) (append-nil (partItems g))
 awake-items b (Buttons n) g k d h p t = rw (ruled b (Buttons n) false k p d) (append-nil (partItems g))
@@ -151,8 +153,8 @@ run-items f [] b g (a ∷ answers) t h p = absurd p
 run-items f (e ∷ events) b g [] t h p = absurd p
 run-items f (e ∷ events) b g (a ∷ answers) t h p =
     let pass = left (hostsPass asksOrTells e) (allHosts asksOrTells events) t in
-    let next : a .next ≡ nextBox b e = ap (λ (x : box.Step). x .next) (p .0) in
-    let ws : sentWords (a .sent) ≡ stepOf b e .words = ap (λ (x : box.Step). x .words) (p .0) in
+    let next : a .next ≡ nextBox b e = ap (λ (x : Stepped). x .next) (p .0) in
+    let ws : sentWords a ≡ stepOf b e .words = ap (λ (x : box.Step). x .words) (says b e a (p .0)) in
     let later = run-items f events (nextBox b e) (toldBy b e g .going) answers (right (hostsPass asksOrTells e) (allHosts asksOrTells events) t) (hosted-step with-replies f b e g pass h .1) (rw next at (p .1)) in
     let rest = itemsGiven events answers in
     rw (ws, items-append (toldBy b e g .passages) (passagesOf (nextBox b e) (toldBy b e g .going) events))

@@ -1,7 +1,7 @@
 -- The words that a box sends behind a command that has a reply, or behind the byte that woke it: that reply.
 use Prim.Native.Nat.{ℕ, _+_}
 use mathlib.Core.Path.{_≡_, refl, _∙_, ap, ap₂}
-use mathlib.Core.Bool.{Bool, true, false}
+use mathlib.Core.Bool.{Bool, true, false, cond}
 use mathlib.Core.List.{List, [], _∷_, _++_, append-assoc, append-nil}
 use native.Mathlib.Omega.{arith}
 use lib.ListN.{length, take}
@@ -13,7 +13,7 @@ use Rattle.frames.specs.Sender.{told, sentOne}
 use Rattle.wire.specs.Line.{known, namedBy}
 use Rattle.wire.specs.Messages.{Message, reply, messageBytes}
 use Rattle.ballbox.specs.Box as box
-use Rattle.ballbox.specs.Box.{goingFrom}
+use Rattle.ballbox.specs.Box.{goingFrom, dormant}
 use Rattle.ballbox.specs.Commands.{ack, commandOf, obeyed}
 use Rattle.ballbox.specs.Commands as commands
 use Rattle.ballbox.specs.Events.{Speaks, dropped, onHost, asleep, woken}
@@ -22,13 +22,13 @@ use Rattle.ballbox.specs.Promises.{sentWords, aboveSeven, stepOf, StepPromise}
 use Rattle.ballbox.specs.declared.BallBox.{BallBox}
 use Rattle.ballbox.specs.declared.Event.{Event}
 use Rattle.ballbox.specs.declared.Event.the-variants.{Motion, Buttons, Host, Latch, Send, Period}
-use Rattle.ballbox.specs.declared.Sent.{Sent}
-use Rattle.ballbox.specs.declared.Sent.the-variants.{Nothing, Word}
 use Rattle.ballbox.specs.declared.Stepped.{Stepped}
+use Rattle.ballbox.proofs.Single.{says}
 use Rattle.ballbox.proofs.Cases.{dropped-idle}
 use Rattle.ballbox.proofs.Goodness.{stepped-good}
 use Rattle.ballbox.proofs.Obeying.{heard, dropped-settings, dropped-awake}
 use Rattle.ballbox.proofs.Refusals.{asleep-step}
+use Rattle.ballbox.specs.Marks.{marked}
 use Rattle.ballbox.proofs.Words.{only-send-and-host}
 use Rattle.history.specs.Runs.{RunPromise, wordsGiven}
 use Rattle.history.specs.Asked.{allHosts}
@@ -46,12 +46,12 @@ use Rattle.tellings.proofs.Answering.{Asks, a-space, an-f, a-t, a-05, a
 use Rattle.tellings.proofs.Passed.{IsReply}
 
 -- a step that does not speak gives no word
-unspoken : (b : BallBox) (e : Event) (a : Stepped) → StepPromise b e a → (Speaks b e → ⊥) → sentWords (a .sent) ≡ []
-unspoken b e a p never = go (a .sent) refl
+unspoken : (b : BallBox) (e : Event) (a : Stepped) → StepPromise b e a → (Speaks b e → ⊥) → sentWords a ≡ []
+unspoken b e a p never = go (marked (a .sent)) refl
   where
-    go : (s : Sent) → a .sent ≡ s → sentWords s ≡ []
-    go Nothing q = refl
-    go (Word w) q = absurd (never (only-send-and-host b e a w [] p (ap sentWords q)))
+    go : (t : Bool) → marked (a .sent) ≡ t → cond t (a .word ∷ []) [] ≡ []
+    go false q = refl
+    go true q = absurd (never (only-send-and-host b e a (a .word) [] p (rw q)))
 
 -- no word comes of events without Sends and bytes of the host's
 none-sent : (events : List Event) (b : BallBox) (answers : List Stepped) → noHost events ≡ true → sendsIn events ≡ 0 → RunPromise b events answers → wordsGiven answers ≡ []
@@ -74,9 +74,9 @@ module _ (bytes : List ℕ) where
   record Still (n : ℕ) (a : Stepped) : Type 0 where
     good-next : good (a .next) ≡ true
     carries : Carries (a .next) (gone n)
-    words : sentWords (a .sent) ≡ []
+    words : sentWords a ≡ []
 
-  stays : (b : BallBox) (e : Event) (n : ℕ) → b .dormant ≡ false → whenAwake b e (gone n) ≡ told [] (gone n) → toldBy b e (gone n) ≡ told [] (gone n)
+  stays : (b : BallBox) (e : Event) (n : ℕ) → dormant b ≡ false → whenAwake b e (gone n) ≡ told [] (gone n) → toldBy b e (gone n) ≡ told [] (gone n)
   stays b e n d w = go (aboveSeven e) refl
     where
       go : (t : Bool) → aboveSeven e ≡ t → toldBy b e (gone n) ≡ told [] (gone n)
@@ -85,7 +85,7 @@ module _ (bytes : List ℕ) where
 
   still : (b : BallBox) (e : Event) (n : ℕ) (a : Stepped) → good b ≡ true → Carries b (gone n) → StepPromise b e a → (Speaks b e → ⊥) → whenAwake b e (gone n) ≡ told [] (gone n) → Still n a
   still b e n a g h p never w =
-      let next : a .next ≡ nextBox b e = ap (λ (x : box.Step). x .next) p in
+      let next : a .next ≡ nextBox b e = ap (λ (x : Stepped). x .next) p in
       let moved : history.Sends (stepOf b e) (gone n) (told [] (gone n)) = rw (stays b e n (h .1 .awake) w) at (step-sends b e (gone n) g h) in
       record {
         good-next = rw next (stepped-good b e g);
@@ -117,20 +117,20 @@ module _ (bytes : List ℕ) where
       sends = rw (told-is b Send (gone n) false refl (h .1 .awake)) at (step-sends b Send (gone n) g h)
 
       next : a .next ≡ nextBox b Send
-      next = ap (λ (x : box.Step). x .next) (p .0)
+      next = ap (λ (x : Stepped). x .next) (p .0)
 
-      words : sentWords (a .sent) ≡ stepOf b Send .words
-      words = ap (λ (x : box.Step). x .words) (p .0)
+      words : sentWords a ≡ stepOf b Send .words
+      words = ap (λ (x : box.Step). x .words) (says b Send a (p .0))
 
       go : (t : Bool) → eqb (n + 1) (length bytes) ≡ t
           → (good (a .next) ≡ true → Carries (a .next) (gone (n + 1)) → n + 1 + sendsIn events ≡ length bytes → take (n + 1) bytes ++ wordsGiven answers ≡ bytes)
-          → take n bytes ++ (sentWords (a .sent) ++ wordsGiven answers) ≡ bytes
+          → take n bytes ++ (sentWords a ++ wordsGiven answers) ≡ bytes
       go true e later =
           let last = eqb-true (n + 1) (length bytes) e in
-          rw (none-sent events (a .next) answers q (omega arith) (p .1), append-nil (sentWords (a .sent)), words) (rw (e, append-nil, append-nil) at (sends .words))
+          rw (none-sent events (a .next) answers q (omega arith) (p .1), append-nil (sentWords a), words) (rw (e, append-nil, append-nil) at (sends .words))
       go false e later =
           let s = rw e at sends in
-          rw (← append-assoc (take n bytes) (sentWords (a .sent)) (wordsGiven answers), words, s .words)
+          rw (← append-assoc (take n bytes) (sentWords a) (wordsGiven answers), words, s .words)
           (later (rw next (stepped-good b Send g)) (rw next (s .carries)) (omega arith))
 
 -- a reply tells what is set, whatever was broken off
@@ -153,14 +153,14 @@ unsent [] r = absurd (r .whole)
 unsent (b ∷ bytes) r = refl
 
 -- the reply to a command, over the public step
-pub reply-sent : (b : BallBox) (byte : ℕ) (a : Stepped) (events : List Event) (answers : List Stepped) → good b ≡ true → b .dormant ≡ false → Asks byte → StepPromise b (Host byte) a
+pub reply-sent : (b : BallBox) (byte : ℕ) (a : Stepped) (events : List Event) (answers : List Stepped) → good b ≡ true → dormant b ≡ false → Asks byte → StepPromise b (Host byte) a
     → noHost events ≡ true
     → sendsIn events ≡ sizeOf (replyTo byte)
     → RunPromise (a .next) events answers
     → wordsGiven answers ≡ commands.replyTo b (commandOf byte)
 unfolding onHost
 reply-sent b byte a events answers g d asks p q k run =
-    let next : a .next ≡ stepOf b (Host byte) .next = ap (λ (x : box.Step). x .next) p in
+    let next : a .next ≡ stepOf b (Host byte) .next = ap (λ (x : Stepped). x .next) p in
     let after : a .next ≡ obeyed (commandOf byte) (dropped b) = ap (λ (x : box.Step). x .next) (heard b byte a p g d) in
     let idle = host-idle (dropped b) byte (dropped-awake b ∙ d) (none-left b) .carries in
     let same = same-reply b (dropped b) byte asks (dropped-settings b) in
@@ -169,14 +169,14 @@ reply-sent b byte a events answers g d asks p q k run =
     rest-sent (commands.replyTo b (commandOf byte)) events (a .next) 0 answers (rw next (stepped-good b (Host byte) g)) carries q (omega (arith, reply-size b byte asks)) run
 
 -- and the ACK of a box that was dormant
-pub ack-sent : (b : BallBox) (byte : ℕ) (a : Stepped) (events : List Event) (answers : List Stepped) → good b ≡ true → b .dormant ≡ true → StepPromise b (Host byte) a
+pub ack-sent : (b : BallBox) (byte : ℕ) (a : Stepped) (events : List Event) (answers : List Stepped) → good b ≡ true → dormant b ≡ true → StepPromise b (Host byte) a
     → noHost events ≡ true
     → sendsIn events ≡ 1
     → RunPromise (a .next) events answers
     → wordsGiven answers ≡ ack
 unfolding asleep woken goingFrom
 ack-sent b byte a events answers g d p q k run =
-    let next : a .next ≡ stepOf b (Host byte) .next = ap (λ (x : box.Step). x .next) p in
+    let next : a .next ≡ stepOf b (Host byte) .next = ap (λ (x : Stepped). x .next) p in
     let after : a .next ≡ woken b = ap (λ (x : box.Step). x .next) (asleep-step b (Host byte) a p g refl d) in
     let carries : Carries (a .next) (first 0 (reply ack)) = rw after (refl, record { left = lit< tt; sendable = lit≤ tt; awake = refl }) in
     rest-sent ack events (a .next) 0 answers (rw next (stepped-good b (Host byte) g)) carries q (omega arith) run

@@ -7,6 +7,7 @@ use native.Mathlib.Omega.{arith}
 use lib.ListN.{length, replicate}
 use lib.Seq.{take-all}
 use Rattle.numbers.proofs.Choices.{both}
+use Rattle.ballbox.specs.Box.{dormant}
 use Rattle.ballbox.specs.Commands.{ack, commandOf}
 use Rattle.ballbox.specs.Commands as box
 use Rattle.ballbox.specs.Good.{good}
@@ -82,7 +83,7 @@ unfolding fits
 woken s done k p = whole-read s Waking ack reply.Ack done k refl (refl, refl) refl p
 
 -- the same of the words that a box sends
-pub there-sent : (b : BallBox) (byte : ℕ) (a : Stepped) (events : List Event) (answers : List Stepped) (s : ToldReader) (done : List Done) → good b ≡ true → b .dormant ≡ false → hasReply byte ≡ true → StepPromise b (Host byte) a
+pub there-sent : (b : BallBox) (byte : ℕ) (a : Stepped) (events : List Event) (answers : List Stepped) (s : ToldReader) (done : List Done) → good b ≡ true → dormant b ≡ false → hasReply byte ≡ true → StepPromise b (Host byte) a
     → noHost events ≡ true
     → sendsIn events ≡ sizeOf (replyTo byte)
     → RunPromise (a .next) events answers
@@ -93,7 +94,7 @@ there-sent b byte a events answers s done g d h p q k run t items =
     let is = reply-sent b byte a events answers g d (asks-by byte h) p q k run in
     rw is (there b byte s done g h t (rw is at items))
 
-pub woken-sent : (b : BallBox) (byte : ℕ) (a : Stepped) (events : List Event) (answers : List Stepped) (s : ToldReader) (done : List Done) → good b ≡ true → b .dormant ≡ true → StepPromise b (Host byte) a
+pub woken-sent : (b : BallBox) (byte : ℕ) (a : Stepped) (events : List Event) (answers : List Stepped) (s : ToldReader) (done : List Done) → good b ≡ true → dormant b ≡ true → StepPromise b (Host byte) a
     → noHost events ≡ true
     → sendsIn events ≡ 1
     → RunPromise (a .next) events answers

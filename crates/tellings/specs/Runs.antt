@@ -48,7 +48,7 @@ tellingOf Period = []
 abbrev pub itemsGiven : List Event → List Stepped → List Item
 itemsGiven [] answers = []
 itemsGiven (e ∷ events) [] = []
-itemsGiven (e ∷ events) (a ∷ answers) = asItems (sentWords (a .sent)) ++ (tellingOf e ++ itemsGiven events answers)
+itemsGiven (e ∷ events) (a ∷ answers) = asItems (sentWords a) ++ (tellingOf e ++ itemsGiven events answers)
 
 -- the Sends among events
 abbrev pub sendsIn : List Event → ℕ

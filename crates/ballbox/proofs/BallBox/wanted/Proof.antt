@@ -4,7 +4,7 @@ use Rattle.ballbox.proofs.BallBox.wanted.Statement.{statement}
 use Rattle.ballbox.proofs.BallBox.wanted.Tie as tie
 
 returns : tie.Need-returns
-returns c = simp (c .before .before .any .ensures, c .before .before .before .moved .ensures)
+returns c = simp (c .before .any .ensures, c .before .before .before .moved .ensures)
 
 pub wanted-spec : {M : Type 1} → statement M
 wanted-spec = tie.close (tie.spec (λ c κs. search needs) (λ c κs. search needs) returns)

@@ -1,6 +1,6 @@
 -- `shown`: the first taken out, or nothing.
 use borrow.Author.Needs.{needs}
-use borrow.Author.Tests.{not-true, not-false}
+use borrow.Author.Tests.{eq-eqb, ne-eqb}
 use lib.ListN.{length}
 use mathlib.Core.Path.{_≡_}
 use Rattle.ballbox.proofs.Remembering.{eight-up}
@@ -10,14 +10,14 @@ use Rattle.ballbox.proofs.Memory.shown.Tie as tie
 
 returns : tie.Need-returns
 unfolding shown
-returns c = simp (not-true (c .before .before .args .self .showing) (c .if1 .taken))
+returns c = simp (ne-eqb _ _ (c .if1 .taken))
 
 returns-2 : tie.Need-returns-2
 unfolding shown
 returns-2 c =
     let m = c .before .before .before .before .args .self in
     let eight : length (m .states) ≡ 8 = search needs in
-    simp (not-false (m .showing) (c .before .before .if1 .left), c .less .ensures, eight-up (m .states) eight)
+    simp (eq-eqb _ _ (c .before .before .if1 .left), c .less .ensures, eight-up (m .states) eight)
 
 pub shown-spec : {M : Type 1} → statement M
 shown-spec = tie.close (tie.spec returns (λ c. search needs) (λ c. search needs) (λ c. search needs) (λ c. search needs) (λ c. search needs) (λ c. search needs) (λ c. search needs) (λ c κs. search needs) returns-2)

@@ -1,7 +1,7 @@
 -- The format, or a bad line.
 use borrow.Author.Needs.{needs}
 use mathlib.Core.Path.{ap}
-use Rattle.ballbox.specs.Box.{Step}
+use Rattle.ballbox.specs.declared.Stepped.{Stepped}
 use Rattle.driver.proofs.driving.first_line.Statement.{statement}
 use Rattle.driver.proofs.driving.first_line.Tie as tie
 
@@ -9,7 +9,7 @@ returns : tie.Need-returns
 returns c = rw (c .before .enum-told .given .1) (c .ending .ensures)
 
 returns-2 : tie.Need-returns-2
-returns-2 c = rw (c .before .before .before .before .order .given .1, ap (λ (s : Step). s .next) (c .before .step .ensures), c .before .before .fresh .ensures)
+returns-2 c = rw (c .before .before .before .before .order .given .1, ap (λ (s : Stepped). s .next) (c .before .step .ensures), c .before .before .fresh .ensures)
 
 returns-3 : tie.Need-returns-3
 returns-3 c = rw (c .before .enum-told2 .given .1) (c .ending2 .ensures)

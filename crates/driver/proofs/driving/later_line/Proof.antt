@@ -1,6 +1,7 @@
 -- A line behind the first, by what it says.
 use borrow.Author.Needs.{needs}
 use mathlib.Core.Path.{_∙_, ap}
+use Rattle.ballbox.proofs.Single.{says}
 use Rattle.driver.specs.Driving.{eventDone, slots}
 use Rattle.driver.proofs.driving.later_line.Statement.{statement}
 use Rattle.driver.proofs.driving.later_line.Tie as tie
@@ -13,7 +14,7 @@ returns-2 c = rw (c .before .enum-told2 .given .1) (c .ending2 .ensures)
 
 returns-3 : tie.Need-returns-3
 returns-3 c = let a = c .before .before .before .before .before .args in
-    rw (c .before .before .before .order .given .1) (c .event-done .ensures ∙ ap (eventDone (a .n) (a .ball)) (c .before .step .ensures))
+    rw (c .before .before .before .order .given .1) (c .event-done .ensures ∙ ap (eventDone (a .n) (a .ball)) (says _ _ _ (c .before .step .ensures)))
 
 returns-4 : tie.Need-returns-4
 unfolding slots

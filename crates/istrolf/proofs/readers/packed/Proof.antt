@@ -2,7 +2,7 @@
 use borrow.Author.Needs.{needs}
 use Prim.Native.Nat.{ℕ}
 use mathlib.Core.Path.{ap}
-use Rattle.istrolf.proofs.Marks.{as-number}
+use Rattle.ballbox.proofs.Marks.{as-number}
 use Rattle.istrolf.proofs.readers.packed.Statement.{statement}
 use Rattle.istrolf.proofs.readers.packed.Tie as tie
 

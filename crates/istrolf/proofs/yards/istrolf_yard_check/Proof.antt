@@ -2,7 +2,7 @@
 use borrow.Author.Needs.{needs}
 use Prim.Native.Nat.{ℕ}
 use mathlib.Core.Path.{ap, _∙_}
-use Rattle.istrolf.proofs.Marks.{as-number}
+use Rattle.ballbox.proofs.Marks.{as-number}
 use Rattle.istrolf.specs.Yards.{packedChecked}
 use Rattle.istrolf.proofs.yards.istrolf_yard_check.Statement.{statement}
 use Rattle.istrolf.proofs.yards.istrolf_yard_check.Tie as tie

@@ -1,6 +1,6 @@
 -- The next check packed, and whether the word can be sent as a number.
 use borrow.Author.Needs.{needs}
-use Rattle.istrolf.proofs.Marks.{as-number}
+use Rattle.ballbox.proofs.Marks.{as-number}
 use Rattle.istrolf.proofs.yards.packed_judged.Statement.{statement}
 use Rattle.istrolf.proofs.yards.packed_judged.Tie as tie
 
