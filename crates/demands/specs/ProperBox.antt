@@ -15,7 +15,7 @@ use Rattle.ballbox.specs.declared.BallBox.{BallBox}
 use Rattle.ballbox.specs.declared.Stepped.{Stepped}
 use Rattle.ballbox.specs.declared.Event.the-variants.{Host}
 use Rattle.history.specs.Runs.{RunPromise, wordsGiven}
-use Rattle.yard.specs.Log.{judgement}
+use Rattle.yard.specs.Log.{judgement, passes}
 use Rattle.yard.specs.Promises.{CheckPromise}
 use Rattle.yard.specs.declared.Checked.{Checked}
 use Rattle.yard.proofs.Computing.{computing}
@@ -25,7 +25,7 @@ use Rattle.proper.proofs.Answered as answered
 module _ (f : Format) (words : List ℕ) (a : Checked) (told : CheckPromise (letterOf f) words a) where
   -- "say yes exactly when some box of ours, set to that format and then asked only for reports, can send those words from there on": where it says yes
   -- a fresh box can, by events whose numbers can be handed in
-  pub yes : a .proper ≡ true → (b : BallBox) → FreshPromise b → (s : SendsFrom b f words) × (allHanded (s .events) ≡ true)
+  pub yes : passes a ≡ true → (b : BallBox) → FreshPromise b → (s : SendsFrom b f words) × (allHanded (s .events) ≡ true)
   yes = answered.yes f words a told
 
   -- and where any good box that is awake can, it says yes
@@ -42,7 +42,7 @@ module _ (f : Format) (words : List ℕ) (a : Checked) (told : CheckPromise (let
   beyond = answered.beyond f words a told
 
   -- and it is a word of the log
-  pub place : a .refusal ≡ success → a .proper ≡ false → a .sendable < length words
+  pub place : a .refusal ≡ success → passes a ≡ false → a .sendable < length words
   place = answered.place f words a told
 
 -- "can send" leaves no choice to the box: whatever answers the promise of the public step permits, to the letter and to the events, give these words

@@ -174,7 +174,7 @@ fn heard(r: Reader, word: u16) -> Reader {
 // What the yard check says of words: that they are a box's, or from which on, the first being 0, they are no box's.
 fn judged(letter: u8, words: &[u16]) {
     let c = yard::check(letter, words);
-    if c.proper {
+    if c.proper == 1 {
         print::say(b", a box's\n");
     } else {
         print::say(b", no box's from word ");

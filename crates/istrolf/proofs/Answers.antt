@@ -15,6 +15,10 @@ use Rattle.port.proofs.Answers as port
 use Rattle.saves.specs.declared.Watch.{Watch}
 use Rattle.saves.specs.declared.Told.{Told}
 use Rattle.saves.specs.declared.Watched.{Watched}
+use Rattle.yard.specs.declared.Yard.{Yard}
+use Rattle.yard.specs.declared.NewYard.{NewYard}
+use Rattle.yard.specs.declared.Judged.{Judged}
+use Rattle.yard.specs.declared.Checked.{Checked}
 use Rattle.istrolf.specs.Readers as readers
 use Rattle.istrolf.specs.Listers as listers
 use Rattle.istrolf.specs.Bridges as bridges
@@ -29,10 +33,6 @@ use Rattle.istrolf.specs.declared.ReadWords.{ReadWords}
 use Rattle.istrolf.specs.declared.Encoding.{Encoding}
 use Rattle.istrolf.specs.declared.HeldLister.{HeldLister}
 use Rattle.istrolf.specs.declared.ListedBytes.{ListedBytes}
-use Rattle.istrolf.specs.declared.HeldYard.{HeldYard}
-use Rattle.istrolf.specs.declared.FreshYard.{FreshYard}
-use Rattle.istrolf.specs.declared.JudgedWord.{JudgedWord}
-use Rattle.istrolf.specs.declared.CheckedWords.{CheckedWords}
 use Rattle.istrolf.specs.declared.HeldBridge.{HeldBridge}
 use Rattle.istrolf.specs.declared.FreshBridge.{FreshBridge}
 use Rattle.istrolf.specs.declared.ConvertedWords.{ConvertedWords}
@@ -91,13 +91,13 @@ pub one-finish : (h : HeldLister) (out : List ℕ) (a b : ListedBytes) (x y : Li
     → FinishPromise h out a x → FinishPromise h out b y → (a ≡ b) × (x ≡ y)
 one-finish h out a b x y e f = listed-same (e ∙ sym f)
 
-pub one-fresh-yard : (letter : ℕ) (a b : FreshYard) → FreshYardPromise letter a → FreshYardPromise letter b → a ≡ b
+pub one-fresh-yard : (letter : ℕ) (a b : NewYard) → FreshYardPromise letter a → FreshYardPromise letter b → a ≡ b
 one-fresh-yard letter a b e f = e ∙ sym f
 
-pub one-yard-step : (h : HeldYard) (w : ℕ) (a b : JudgedWord) → YardStepPromise h w a → YardStepPromise h w b → a ≡ b
-one-yard-step h w a b e f = e ∙ sym f
+pub one-yard-step : (y : Yard) (w : ℕ) (a b : Judged) → YardStepPromise y w a → YardStepPromise y w b → a ≡ b
+one-yard-step y w a b e f = e ∙ sym f
 
-pub one-yard-check : (letter : ℕ) (words : List ℕ) (a b : CheckedWords) → YardCheckPromise letter words a → YardCheckPromise letter words b → a ≡ b
+pub one-yard-check : (letter : ℕ) (words : List ℕ) (a b : Checked) → YardCheckPromise letter words a → YardCheckPromise letter words b → a ≡ b
 one-yard-check letter words a b e f = e ∙ sym f
 
 pub one-fresh-bridge : (letter : ℕ) (a b : FreshBridge) → FreshBridgePromise letter a → FreshBridgePromise letter b → a ≡ b

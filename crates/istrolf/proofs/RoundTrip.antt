@@ -9,7 +9,6 @@ use Rattle.numbers.proofs.Choices.{both}
 use Rattle.numbers.proofs.Tested.{left, right}
 use Rattle.reader.specs.declared.Reader.{Reader}
 use Rattle.listing.specs.declared.Lister.{Lister}
-use Rattle.yard.specs.declared.Yard.{Yard}
 use Rattle.bridge.specs.declared.Bridge.{Bridge}
 use Rattle.replies.specs.declared.Kind.{Kind}
 use Rattle.replies.specs.declared.Kind.the-variants as kind
@@ -17,8 +16,6 @@ use Rattle.replies.specs.declared.ToldReader.{ToldReader}
 use Rattle.ballbox.specs.Marks.{isMark}
 use Rattle.istrolf.specs.Readers as readers
 use Rattle.istrolf.specs.Listers as listers
-use Rattle.istrolf.specs.Yards as yards
-use Rattle.istrolf.specs.declared.HeldYard.{HeldYard}
 use Rattle.istrolf.specs.Bridges as bridges
 use Rattle.istrolf.specs.Told as told
 use Rattle.istrolf.specs.Readbacks as readbacks
@@ -56,16 +53,6 @@ lister-back h s =
 
 pub lister-stands : (m : Lister) → listers.stands (listers.packed m) ≡ true
 lister-stands m = rw (mark-stands (m .scanner .ended), mark-stands (m .reader .awaiting))
-
--- a yard check
-pub yard-there : (y : Yard) → yards.unpacked (yards.packed y) ≡ y
-yard-there y = λ i. record { format = y .format; first = y .first; last = y .last; count = y .count; ended = mark-back (y .ended) i }
-
-pub yard-back : (h : HeldYard) → yards.stands h ≡ true → yards.packed (yards.unpacked h) ≡ h
-yard-back h s = λ i. record { format = h .format; first = h .first; last = h .last; count = h .count; ended = mark-of (h .ended) s i }
-
-pub yard-stands : (y : Yard) → yards.stands (yards.packed y) ≡ true
-yard-stands y = mark-stands (y .ended)
 
 -- a bridge
 pub bridge-there : (b : Bridge) → bridges.unpacked (bridges.packed b) ≡ b

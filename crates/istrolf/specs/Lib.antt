@@ -1,7 +1,6 @@
 pub mod Ports
 pub mod Readers
 pub mod Listers
-pub mod Yards
 pub mod Bridges
 pub mod Salvages
 pub mod Told

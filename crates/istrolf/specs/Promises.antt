@@ -22,6 +22,10 @@ use Rattle.ballbox.specs.declared.Stepped.{Stepped}
 use Rattle.listing.specs.Feeding as feeding
 use Rattle.listing.specs.Promises as listing
 use Rattle.yard.specs.Promises as yard
+use Rattle.yard.specs.declared.Yard.{Yard}
+use Rattle.yard.specs.declared.NewYard.{NewYard}
+use Rattle.yard.specs.declared.Judged.{Judged}
+use Rattle.yard.specs.declared.Checked.{Checked}
 use Rattle.bridge.specs.Promises as bridge
 use Rattle.salvage.specs.Promises as salvage
 use Rattle.salvage.specs.declared.Picked.{Picked}
@@ -52,11 +56,6 @@ use Rattle.istrolf.specs.declared.ReadWords.{ReadWords}
 use Rattle.istrolf.specs.declared.Encoding.{Encoding}
 use Rattle.istrolf.specs.declared.HeldLister.{HeldLister}
 use Rattle.istrolf.specs.declared.ListedBytes.{ListedBytes}
-use Rattle.istrolf.specs.Yards as yards
-use Rattle.istrolf.specs.declared.HeldYard.{HeldYard}
-use Rattle.istrolf.specs.declared.FreshYard.{FreshYard}
-use Rattle.istrolf.specs.declared.JudgedWord.{JudgedWord}
-use Rattle.istrolf.specs.declared.CheckedWords.{CheckedWords}
 use Rattle.istrolf.specs.declared.HeldBridge.{HeldBridge}
 use Rattle.istrolf.specs.declared.FreshBridge.{FreshBridge}
 use Rattle.istrolf.specs.declared.ConvertedWords.{ConvertedWords}
@@ -125,19 +124,16 @@ abbrev pub FinishPromise : HeldLister → List ℕ → ListedBytes → List ℕ 
 FinishPromise h before answer after = listers.whole answer after ≡ finishOf h before
 
 -- `istrolf_yard_fresh(letter)`
-abbrev pub FreshYardPromise : ℕ → FreshYard → Type 0
-FreshYardPromise letter answer = answer ≡ yards.packedFresh (yard.freshOf letter)
+abbrev pub FreshYardPromise : ℕ → NewYard → Type 0
+FreshYardPromise letter answer = yard.FreshPromise letter answer
 
 -- `istrolf_yard_step(yard, word)`
-unfoldable pub yardStepOf : HeldYard → ℕ → JudgedWord
-yardStepOf h w = cond (yards.stands h) (yards.packedJudged (yard.stepOf (yards.unpacked h) w)) (yards.refusedJudged h)
-
-abbrev pub YardStepPromise : HeldYard → ℕ → JudgedWord → Type 0
-YardStepPromise h w answer = answer ≡ yardStepOf h w
+abbrev pub YardStepPromise : Yard → ℕ → Judged → Type 0
+YardStepPromise y w answer = yard.StepPromise y w answer
 
 -- `istrolf_yard_check(letter, words)`
-abbrev pub YardCheckPromise : ℕ → List ℕ → CheckedWords → Type 0
-YardCheckPromise letter words answer = answer ≡ yards.packedChecked (yard.checkOf letter words)
+abbrev pub YardCheckPromise : ℕ → List ℕ → Checked → Type 0
+YardCheckPromise letter words answer = yard.CheckPromise letter words answer
 
 -- `istrolf_bridge_fresh(letter)`
 abbrev pub FreshBridgePromise : ℕ → FreshBridge → Type 0

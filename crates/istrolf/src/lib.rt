@@ -92,39 +92,6 @@ pub struct ListedBytes {
     pub next: HeldLister,
 }
 
-// A yard check as C holds it: whether it has ended is 0 or 1.
-#[repr(C)]
-pub struct HeldYard {
-    pub format: u8,
-    pub first: u8,
-    pub last: u8,
-    pub count: u8,
-    pub ended: u8,
-}
-
-// A new check, or why there is none of this letter.
-#[repr(C)]
-pub struct FreshYard {
-    pub refusal: u8,
-    pub yard: HeldYard,
-}
-
-// What a word gives back: whether a box can have sent it, 0 or 1.
-#[repr(C)]
-pub struct JudgedWord {
-    pub refusal: u8,
-    pub can: u8,
-    pub next: HeldYard,
-}
-
-// What a log gives back: whether a box can send all of it, 0 or 1, and how many of its words it can.
-#[repr(C)]
-pub struct CheckedWords {
-    pub refusal: u8,
-    pub proper: u8,
-    pub sendable: usize,
-}
-
 // A bridge as C holds it: whether there is a base and whether the middle was down are 0 or 1; the base stands at the end.
 #[repr(C)]
 pub struct HeldBridge {

@@ -19,13 +19,14 @@ use Rattle.listing.proofs.Scanned as scan
 use Rattle.listing.proofs.Viewed.{View, is-over, is-bad, is-format, is-word, viewed}
 use Rattle.yard.specs.State.{noneGone}
 use Rattle.yard.specs.Good.{good}
-use Rattle.yard.specs.Rules.{wordOf}
-use Rattle.yard.specs.Log.{sendable, judgement, checkedOf}
+use Rattle.yard.specs.Rules.{sent, wordOf}
+use Rattle.yard.specs.Log.{sendable, judgement, passes, checkedOf}
 use Rattle.yard.specs.Promises.{freshOf, stepOf, checkOf, CheckPromise}
 use Rattle.yard.specs.declared.Yard.{Yard}
 use Rattle.yard.specs.declared.Judged.{Judged}
 use Rattle.yard.specs.declared.Checked.{Checked}
 use Rattle.yard.proofs.Keeps.{none-good, word-good}
+use Rattle.yard.proofs.Logs.{judged-passes}
 use Rattle.yard.proofs.Goodness.{step-word}
 use Rattle.myard.specs.Judging.{wordsIn, judged, unless, verdictIn, verdictOn}
 use Rattle.myard.specs.Hearing.{judgedBy, verdictFrom, waiting, unheard, behindByte, behindBytes, lastOf}
@@ -61,7 +62,7 @@ all-words end = refl
 -- a verdict of no stays
 stays-no : {n : ℕ} {fs : List Found} (y : Yard) (m : ℕ) → Behind n fs → verdictFrom y (No m) fs ≡ unless fs (No m)
 unfolding verdictFrom judgedBy
-stays-no y m (word {n} {w} {fs} h b) = ap (λ (v : Verdict). verdictFrom (stepOf y w .next) v fs) (keeps-no (stepOf y w .can)) ∙ stays-no (stepOf y w .next) m b
+stays-no y m (word {n} {w} {fs} h b) = ap (λ (v : Verdict). verdictFrom (stepOf y w .next) v fs) (keeps-no (sent (stepOf y w))) ∙ stays-no (stepOf y w .next) m b
   where
     keeps-no : (t : Bool) → judgedBy (No m) t (n + 1) ≡ No m
     keeps-no true = refl
@@ -88,8 +89,8 @@ words-said y g over = refl
 words-said y g end = refl
 words-said y g (word {n} {w} {fs} h b) =
     let ws = wordsIn fs in
-    ap (λ (j : Judged). verdictFrom (j .next) (judgedBy Yes (j .can) (n + 1)) fs) (step-word y w g)
-    ∙ go (wordOf y w .can) (words-said (wordOf y w .next) (word-good y g w) b)
+    ap (λ (j : Judged). verdictFrom (j .next) (judgedBy Yes (sent j) (n + 1)) fs) (step-word y w g)
+    ∙ go (sent (wordOf y w)) (words-said (wordOf y w .next) (word-good y g w) b)
   where
     go : (t : Bool) → let y′ = wordOf y w .next in let k = sendable y′ (wordsIn fs) in let count = length (wordsIn fs) in
         verdictFrom y′ Yes fs ≡ unless fs (placed (n + 1) k count) → verdictFrom y′ (judgedBy Yes t (n + 1)) fs ≡ unless fs (placed n (cond t (suc k) 0) (suc count))
@@ -121,8 +122,10 @@ of-lines (l ∷ ls) = go (lineIn width 0 (saidBy l)) (viewed 0 l) (behind ls 1 (
     go (found.Bad m) (is-bad h) b = refl
     go (found.Format letter) (is-format z k) b =
         let fs = foundIn width 1 ls in
+        let k′ = sendable (noneGone letter) (wordsIn fs) in
+        let count = length (wordsIn fs) in
         ap (λ (y : Yard). verdictFrom y Yes fs) (fresh letter k) ∙ words-said (noneGone letter) (none-good letter k) b
-        ∙ ap (λ (c : Checked). unless fs (judged c)) (sym (checked letter k b))
+        ∙ ap (λ (t : Bool). unless fs (cond t Yes (No (2 + k′)))) (sym (judged-passes k′ count)) ∙ ap (λ (c : Checked). unless fs (judged c)) (sym (checked letter k b))
     go (found.Word m w) (is-word h p) b = absurd (omega arith)
 
 -- where nothing is found nothing is said
@@ -161,7 +164,7 @@ on-lines n (w ∷ words) v = let later = on-lines (suc n) words v in (ap (λ (ws
 
 -- AS CHECKED: of a recording of a log it says what the check says: yes, or no and the line of the word, the first word standing on line 2
 pub as-checked : (input : List ℕ) (letter : ℕ) (words : List ℕ) (a : Checked) → recordingOf width input ≡ found.Format letter ∷ onLines 2 words
-    → CheckPromise letter words a → verdictOn input ≡ cond (a .proper) Yes (No (2 + a .sendable))
+    → CheckPromise letter words a → verdictOn input ≡ cond (passes a) Yes (No (2 + a .sendable))
 unfolding verdictOn
 as-checked input letter words a e p =
     let v : Verdict = judged (checkOf letter words) in

@@ -13,6 +13,7 @@ use Rattle.listing.specs.declared.Scanner.{Scanner}
 use Rattle.listing.specs.declared.Scan.{Scan}
 use Rattle.listing.specs.declared.Found.{Found}
 use Rattle.listing.specs.declared.Found.the-variants as found
+use Rattle.yard.specs.Rules.{sent}
 use Rattle.yard.specs.Promises.{freshOf, stepOf}
 use Rattle.yard.specs.declared.Yard.{Yard}
 use Rattle.myard.specs.Judging.{lineFor}
@@ -42,7 +43,7 @@ yardAfter y found.End = y
 abbrev pub verdictAfter : Yard → Verdict → Found → Verdict
 verdictAfter y v found.Nothing = v
 verdictAfter y v (found.Format letter) = v
-verdictAfter y v (found.Word line w) = judgedBy v (stepOf y w .can) line
+verdictAfter y v (found.Word line w) = judgedBy v (sent (stepOf y w)) line
 verdictAfter y v (found.Bad n) = Bad n
 verdictAfter y v found.Over = Over
 verdictAfter y v found.End = v

@@ -7,6 +7,7 @@ use Rattle.text.specs.Decimals.{plain, decimalOf}
 use Rattle.listing.specs.Scanning.{width, recordingOf}
 use Rattle.listing.specs.declared.Found.{Found}
 use Rattle.listing.specs.declared.Found.the-variants as found
+use Rattle.yard.specs.Log.{passes}
 use Rattle.yard.specs.Promises.{checkOf}
 use Rattle.yard.specs.declared.Checked.{Checked}
 use Rattle.myard.specs.declared.Verdict.{Verdict}
@@ -35,7 +36,7 @@ wordsIn (found.End ∷ fs) = wordsIn fs
 -- what the check says of them: yes, or no and the line of the first word that cannot be sent. Line 1 is the format's, so the word at a place, counted
 -- from 0, stands two lines on.
 abbrev pub judged : Checked → Verdict
-judged c = cond (c .proper) Yes (No (2 + c .sendable))
+judged c = cond (passes c) Yes (No (2 + c .sendable))
 
 -- unless a line is bad, wherever it stands, or one too many: then that is said
 abbrev pub unless : List Found → Verdict → Verdict

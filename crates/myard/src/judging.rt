@@ -112,7 +112,7 @@ impl Judge {
                 Judge {
                     scanner: next,
                     yard: after,
-                    verdict: judged(verdict, j.can, line),
+                    verdict: judged(verdict, j.can == 1, line),
                 }
             }
             Found::Bad(n) => Judge {

@@ -26,26 +26,26 @@ use Rattle.history.specs.Runs.{RunPromise, wordsGiven}
 use Rattle.history.proofs.Bridge.{run-passages}
 use Rattle.history.proofs.Setting.{set-to}
 use Rattle.yard.specs.State.{noneGone}
-use Rattle.yard.specs.Rules.{wordOf}
-use Rattle.yard.specs.Log.{sendable, judgement, refused, checkedOf}
+use Rattle.yard.specs.Rules.{sent, wordOf}
+use Rattle.yard.specs.Log.{sendable, judgement, passes, refused, checkedOf}
 use Rattle.yard.specs.Promises.{checkOf, CheckPromise}
 use Rattle.yard.specs.declared.Yard.{Yard}
 use Rattle.yard.specs.declared.Checked.{Checked}
 use Rattle.yard.proofs.Keeps.{by-word}
-use Rattle.yard.proofs.Logs.{sendable-front, sendable-beyond, sendable-most}
+use Rattle.yard.proofs.Logs.{judged-passes, sendable-front, sendable-beyond, sendable-most}
 use Rattle.proper.specs.Sends.{SendsFrom, CanSend, allHanded}
 use Rattle.proper.proofs.Proper.{sent-passes, passing-sent}
 
 -- words of which each can be sent are line words
-can-word : (y : Yard) (w : ℕ) → wordOf y w .can ≡ true → leb w silence ≡ true
-can-word y w = by-word (λ j. j .can ≡ true → leb w silence ≡ true) y w (λ b e. absurd (holds e)) (λ l _. l) (λ l _. l) (λ l _ _ _. l)
+can-word : (y : Yard) (w : ℕ) → sent (wordOf y w) ≡ true → leb w silence ≡ true
+can-word y w = by-word (λ j. sent j ≡ true → leb w silence ≡ true) y w (λ b e. absurd (holds e)) (λ l _. l) (λ l _. l) (λ l _ _ _. l)
 
 all-words : (y : Yard) (words : List ℕ) → sendable y words ≡ length words → lineWords words ≡ true
 unfolding sendable lineWords
 all-words y [] h = refl
-all-words y (w ∷ words) h = go (wordOf y w .can) refl (all-words (wordOf y w .next) words)
+all-words y (w ∷ words) h = go (sent (wordOf y w)) refl (all-words (wordOf y w .next) words)
   where
-    go : (t : Bool) → wordOf y w .can ≡ t → (sendable (wordOf y w .next) words ≡ length words → lineWords words ≡ true) → leb w silence && lineWords words ≡ true
+    go : (t : Bool) → sent (wordOf y w) ≡ t → (sendable (wordOf y w .next) words ≡ length words → lineWords words ≡ true) → leb w silence && lineWords words ≡ true
     go true e r =
         let q : suc (sendable (wordOf y w .next) words) ≡ suc (length words) = rw e at h in
         both (leb w silence) (lineWords words) (can-word y w e) (r (omega arith))
@@ -71,14 +71,14 @@ module _ (f : Format) (words : List ℕ) (a : Checked) (told : CheckPromise (let
       go true e = rw e at is-checked
       go false e = let q : a ≡ refused badWord = rw e at is-checked in absurd (omega (arith, ap (λ (c : Checked). c .refusal) q))
 
-  accepted : a .proper ≡ true → count ≡ length words
+  accepted : passes a ≡ true → count ≡ length words
   accepted h = go (lineWords words) refl
     where
       go : (t : Bool) → lineWords words ≡ t → count ≡ length words
-      go true e = let q : a ≡ judgement count (length words) = rw e at is-checked in eqb-true count (length words) (sym (ap (λ (c : Checked). c .proper) q) ∙ h)
-      go false e = let q : a ≡ refused badWord = rw e at is-checked in absurd (holds (sym (ap (λ (c : Checked). c .proper) q) ∙ h))
+      go true e = let q : a ≡ judgement count (length words) = rw e at is-checked in eqb-true count (length words) (sym (ap passes q ∙ judged-passes count (length words)) ∙ h)
+      go false e = let q : a ≡ refused badWord = rw e at is-checked in absurd (holds (sym (ap passes q) ∙ h))
 
-  pub yes : a .proper ≡ true → (b : BallBox) → FreshPromise b → (s : SendsFrom b f words) × (allHanded (s .events) ≡ true)
+  pub yes : passes a ≡ true → (b : BallBox) → FreshPromise b → (s : SendsFrom b f words) × (allHanded (s .events) ≡ true)
   yes h b p = passing-sent f b words (fresh-is-good b p) (fresh-awake b p) (accepted h)
 
   pub only : CanSend f words → a ≡ judgement (length words) (length words)
@@ -96,10 +96,10 @@ module _ (f : Format) (words : List ℕ) (a : Checked) (told : CheckPromise (let
       let s : a .sendable ≡ count = ap (λ (c : Checked). c .sendable) (judged h) in
       omega (arith, sent-passes f (take n words) c, sendable-beyond (noneGone (letterOf f)) n words (omega arith), length-take-le n words m)
 
-  pub place : a .refusal ≡ success → a .proper ≡ false → a .sendable < length words
+  pub place : a .refusal ≡ success → passes a ≡ false → a .sendable < length words
   place h p =
       let s : a .sendable ≡ count = ap (λ (c : Checked). c .sendable) (judged h) in
-      let d = eqb-false count (length words) (sym (ap (λ (c : Checked). c .proper) (judged h)) ∙ p) in
+      let d = eqb-false count (length words) (sym (ap passes (judged h) ∙ judged-passes count (length words)) ∙ p) in
       omega (arith, sendable-most (noneGone (letterOf f)) words)
 
 -- whatever answers the promise permits give the same words

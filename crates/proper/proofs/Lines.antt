@@ -22,7 +22,7 @@ use Rattle.wire.proofs.Letters.{letter-named, size-named, fits-named}
 use Rattle.wire.proofs.Front.{size-between}
 use Rattle.wire.proofs.Codec.{bytes-length, fits-byte}
 use Rattle.yard.specs.Stands.{barredBy, stands, standsBy}
-use Rattle.yard.specs.State.{noneGone}
+use Rattle.yard.specs.State.{ended, noneGone}
 use Rattle.yard.specs.Rules.{can, firstWith, oneMore, byteCan, silenceOf, wordOf}
 use Rattle.yard.specs.Log.{sendable}
 use Rattle.yard.specs.declared.Yard.{Yard}
@@ -56,13 +56,13 @@ module _ (f : Format) where
   having-more : (k : List ℕ) (b : ℕ) → oneMore (having f k) b ≡ having f (k ++ (b ∷ []))
   unfolding oneMore firstWith
   having-more [] b = refl
-  having-more (a ∷ k) b = rw (last-more (a ∷ k) b, eqb·suc-zero (length k)) (ap (λ (n : ℕ). record { format = letterOf f; first = a; last = b; count = n; ended = false }) n)
+  having-more (a ∷ k) b = rw (last-more (a ∷ k) b, eqb·suc-zero (length k)) (ap (λ (n : ℕ). record { format = letterOf f; first = a; last = b; count = n; ended = 0 }) n)
     where
       n : suc (length k) + 1 ≡ suc (length (k ++ (b ∷ [])))
       n = omega (arith, length-append k (b ∷ []))
 
   -- a byte: one that stands, the last or not, and one that does not
-  byte-word : (y : Yard) (b : ℕ) → b < 256 → y .ended ≡ false → wordOf y b ≡ byteCan y b
+  byte-word : (y : Yard) (b : ℕ) → b < 256 → ended y ≡ false → wordOf y b ≡ byteCan y b
   unfolding wordOf
   byte-word y b l e = rw (le-leb b silence (omega arith), e, le-leb b 255 (omega arith))
 

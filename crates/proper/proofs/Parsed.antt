@@ -19,7 +19,7 @@ use Rattle.wire.specs.declared.Format.{Format}
 use Rattle.wire.proofs.Front.{size-between}
 use Rattle.yard.specs.Stands.{stands}
 use Rattle.yard.specs.State.{noneGone}
-use Rattle.yard.specs.Rules.{byteCan, silenceOf, wordOf}
+use Rattle.yard.specs.Rules.{sent, byteCan, silenceOf, wordOf}
 use Rattle.yard.specs.Log.{sendable}
 use Rattle.yard.specs.declared.Judged.{Judged}
 use Rattle.proper.proofs.Latchable.{Latchable, strict, lastOf, having}
@@ -60,7 +60,7 @@ module _ (f : Format) where
   none [] e = refl
   none (b ∷ k) e = absurd (omega arith)
 
-  byte-told : (k : List ℕ) (w : ℕ) → length k < sizeOf f → wordOf (having f k) w ≡ byteCan (having f k) w → byteCan (having f k) w .can ≡ true → Sent k w
+  byte-told : (k : List ℕ) (w : ℕ) → length k < sizeOf f → wordOf (having f k) w ≡ byteCan (having f k) w → sent (byteCan (having f k) w) ≡ true → Sent k w
   unfolding byteCan
   byte-told k w l is c = go (strict f .fits k w) refl (eqb (length k + 1) (sizeOf f)) refl
     where
@@ -72,7 +72,7 @@ module _ (f : Format) where
           more e n (ap (λ (j : Judged). j .next) (more-word f k w e n))
       go false e t h = absurd (holds (rw (stands-by f (length k) (at 0 k) (lastOf k) w, e) at c))
 
-  told : (k : List ℕ) (w : ℕ) → length k < sizeOf f → wordOf (having f k) w .can ≡ true → Sent k w
+  told : (k : List ℕ) (w : ℕ) → length k < sizeOf f → sent (wordOf (having f k) w) ≡ true → Sent k w
   unfolding wordOf silenceOf
   told k w l c = go (leb w silence) refl (isByte w) refl (eqb w break) refl (eqb (length k) 0) refl
     where
@@ -85,11 +85,11 @@ module _ (f : Format) where
           quiet (omega (arith, leb-true w silence p, leb-false w 255 q)) (none k (eqb-true (length k) 0 s)) (rw (p, q, r, s))
       go true p false q false r false s = absurd (holds (rw (p, q, r, s) at c))
 
-  first-sent : (k : List ℕ) (w : ℕ) (ws : List ℕ) → sendable (having f k) (w ∷ ws) ≡ suc (length ws) → (wordOf (having f k) w .can ≡ true) × (sendable (wordOf (having f k) w .next) ws ≡ length ws)
+  first-sent : (k : List ℕ) (w : ℕ) (ws : List ℕ) → sendable (having f k) (w ∷ ws) ≡ suc (length ws) → (sent (wordOf (having f k) w) ≡ true) × (sendable (wordOf (having f k) w .next) ws ≡ length ws)
   unfolding sendable
-  first-sent k w ws h = go (wordOf (having f k) w .can) refl
+  first-sent k w ws h = go (sent (wordOf (having f k) w)) refl
     where
-      go : (t : Bool) → wordOf (having f k) w .can ≡ t → (wordOf (having f k) w .can ≡ true) × (sendable (wordOf (having f k) w .next) ws ≡ length ws)
+      go : (t : Bool) → sent (wordOf (having f k) w) ≡ t → (sent (wordOf (having f k) w) ≡ true) × (sendable (wordOf (having f k) w .next) ws ≡ length ws)
       go true e = let q : suc (sendable (wordOf (having f k) w .next) ws) ≡ suc (length ws) = rw e at h in (e, omega arith)
       go false e = let q : _≡_ {A = ℕ} 0 (suc (length ws)) = rw e at h in absurd (omega arith)
 

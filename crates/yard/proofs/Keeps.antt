@@ -17,7 +17,7 @@ use Rattle.wire.specs.declared.Format.{Format}
 use Rattle.wire.specs.declared.Format.the-variants.{Mm, Microsoft, Absolute, Relative, FiveByte, ThreeByte, Hexadecimal}
 use Rattle.wire.proofs.Letters.{size-positive}
 use Rattle.yard.specs.Stands.{leastW, barred, barredBy, standsBy}
-use Rattle.yard.specs.State.{noneGone, over}
+use Rattle.yard.specs.State.{ended, noneGone, over}
 use Rattle.yard.specs.Good.{goneRightly, good}
 use Rattle.yard.specs.Rules.{can, cannot, refusing, firstWith, oneMore, byteCan, silenceOf, wordOf}
 use Rattle.yard.specs.declared.Yard.{Yard}
@@ -26,11 +26,11 @@ use Rattle.yard.specs.declared.Judged.{Judged}
 -- what is told of a good check
 module _ (y : Yard) (g : good y ≡ true) where
   abbrev begun : Bool
-  begun = cond (eqb (y .count) 0) (eqb (y .first) 0 && eqb (y .last) 0) (not (y .ended) && goneRightly y)
+  begun = cond (eqb (y .count) 0) (eqb (y .first) 0 && eqb (y .last) 0) (not (ended y) && goneRightly y)
 
   of-size : known (y .format) && ltb (y .count) (sizeBy (y .format)) ≡ true
   unfolding good
-  of-size = left (known (y .format) && ltb (y .count) (sizeBy (y .format))) begun g
+  of-size = left (known (y .format) && ltb (y .count) (sizeBy (y .format))) (leb (y .ended) 1) (left (known (y .format) && ltb (y .count) (sizeBy (y .format)) && leb (y .ended) 1) begun g)
 
   pub of-known : known (y .format) ≡ true
   of-known = left (known (y .format)) (ltb (y .count) (sizeBy (y .format))) of-size
@@ -40,7 +40,7 @@ module _ (y : Yard) (g : good y ≡ true) where
 
   rightly : begun ≡ true
   unfolding good
-  rightly = right (known (y .format) && ltb (y .count) (sizeBy (y .format))) begun g
+  rightly = right (known (y .format) && ltb (y .count) (sizeBy (y .format)) && leb (y .ended) 1) begun g
 
   pub none-first : y .count ≡ 0 → (y .first ≡ 0) × (y .last ≡ 0)
   none-first e =
@@ -50,8 +50,8 @@ module _ (y : Yard) (g : good y ≡ true) where
   first-stands : (y .count ≡ 0 → ⊥) → standsBy (y .format) 0 0 0 (y .first) ≡ true
   unfolding goneRightly
   first-stands ne =
-      let h : not (y .ended) && goneRightly y ≡ true = rw (ne-eqb (y .count) 0 ne) at rightly in
-      left (standsBy (y .format) 0 0 0 (y .first)) _ (right (not (y .ended)) (goneRightly y) h)
+      let h : not (ended y) && goneRightly y ≡ true = rw (ne-eqb (y .count) 0 ne) at rightly in
+      left (standsBy (y .format) 0 0 0 (y .first)) _ (right (not (ended y)) (goneRightly y) h)
 
 -- a word by cases: above 257; one that cannot be sent; one behind which nothing has gone; one byte more of a report
 pub by-word : (P : Judged → Type 0) (y : Yard) (w : ℕ)
@@ -63,7 +63,7 @@ pub by-word : (P : Judged → Type 0) (y : Yard) (w : ℕ)
 unfolding wordOf byteCan silenceOf
 by-word P y w bad stop none more =
     cases P (leb w silence)
-    (λ l. cases P (y .ended) (λ _. stop l)
+    (λ l. cases P (ended y) (λ _. stop l)
     (λ _. cases P (isByte w)
     (λ _. cases P (standsBy (y .format) (y .count) (y .first) (y .last) w) (λ s. cases P (eqb (y .count + 1) (sizeBy (y .format))) (λ _. none l) (λ f. more l s f)) (λ _. stop l))
     (λ _. cases P (eqb w break) (λ _. none l) (λ _. cases P (eqb (y .count) 0) (λ _. none l) (λ _. stop l)))))

@@ -5,7 +5,6 @@ use mathlib.Core.Bool.{true}
 use mathlib.Core.List.{List, [], _∷_}
 use lib.ListN.{length}
 use lib.Dec.{leb}
-use Rattle.numbers.specs.Bits.{value}
 use Rattle.numbers.proofs.Tested.{left, right}
 use Rattle.frames.specs.Words.{silence, lineWords}
 use Rattle.wire.specs.Line.{known}
@@ -32,7 +31,7 @@ counted y (w ∷ words) (s ∷ steps) g l p =
     let e = p .0 ∙ step-word y w g in
     let n : s .next ≡ wordOf y w .next = ap (λ (j : Judged). j .next) e in
     let r = counted (s .next) words steps (rw n (word-good y g w)) (right (leb w silence) (lineWords words) l) (p .1) in
-    ap₂ _+_ (ap (λ (j : Judged). value (j .can)) e) (r ∙ ap (λ (z : Yard). sendable z words) n) ∙ sym (one-word y w words (left (leb w silence) (lineWords words) l))
+    ap₂ _+_ (ap (λ (j : Judged). j .can) e) (r ∙ ap (λ (z : Yard). sendable z words) n) ∙ sym (one-word y w words (left (leb w silence) (lineWords words) l))
 
 -- as many of its words can be sent as the steps say
 pub in-pieces : (letter : ℕ) (words : List ℕ) (new : NewYard) (steps : List Judged) (a : Checked) → known letter ≡ true → lineWords words ≡ true

@@ -1,9 +1,8 @@
 -- Wrong answers, two for each promise, that it does not permit.
-use mathlib.Core.Path.{ap, sym}
+use mathlib.Core.Path.{ap}
 use mathlib.Core.Bool.{false}
 use mathlib.Core.List.{[], _∷_}
 use native.Mathlib.Omega.{arith}
-use Rattle.numbers.proofs.Tested.{holds}
 use Rattle.wire.specs.Line.{letterOf}
 use Rattle.wire.specs.declared.Format.the-variants.{Mm, FiveByte, ThreeByte}
 use Rattle.yard.specs.State.{yard, noneGone}
@@ -27,11 +26,11 @@ fresh-not-refused e = omega (arith, ap (λ (n : NewYard). n .refusal) e)
 -- -128 in T taken; and a break between reports not
 pub step-takes-least : StepPromise (yard (letterOf ThreeByte) 0 0 1 false) 128 (can (yard (letterOf ThreeByte) 0 128 2 false)) → ⊥
 unfolding computing
-step-takes-least e = holds (sym (ap (λ (j : Judged). j .can) e))
+step-takes-least e = omega (arith, ap (λ (j : Judged). j .can) e)
 
 pub step-refuses-break : StepPromise (noneGone (letterOf ThreeByte)) 256 (cannot (letterOf ThreeByte)) → ⊥
 unfolding computing
-step-refuses-break e = holds (ap (λ (j : Judged). j .can) e)
+step-refuses-break e = omega (arith, ap (λ (j : Judged). j .can) e)
 
 -- a minus zero told at its first byte; and a word above 257 overlooked, behind one that cannot be sent
 pub check-tells-early : CheckPromise (letterOf Mm) (0x80 ∷ 0 ∷ []) (judgement 0 2) → ⊥

@@ -1,7 +1,6 @@
 -- Steps, one after the other: a log that comes in pieces, a word at a time.
 use Prim.Native.Nat.{ℕ, _+_}
 use mathlib.Core.List.{List, [], _∷_}
-use Rattle.numbers.specs.Bits.{value}
 use Rattle.yard.specs.Promises.{StepPromise}
 use Rattle.yard.specs.declared.Yard.{Yard}
 use Rattle.yard.specs.declared.Judged.{Judged}
@@ -16,4 +15,4 @@ StepsPromise y (w ∷ words) (s ∷ steps) = StepPromise y w s × StepsPromise (
 -- how many of their words can be sent
 unfoldable pub canCount : List Judged → ℕ
 canCount [] = 0
-canCount (s ∷ steps) = value (s .can) + canCount steps
+canCount (s ∷ steps) = s .can + canCount steps

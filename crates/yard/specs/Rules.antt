@@ -1,25 +1,29 @@
 -- What one word does to a good check.
 use Prim.Native.Nat.{ℕ, _+_}
-use mathlib.Core.Bool.{true, false, cond}
+use mathlib.Core.Bool.{Bool, false, cond}
 use lib.Dec.{eqb, leb}
 use Rattle.frames.specs.Words.{isByte, break, silence}
 use Rattle.wire.specs.Line.{sizeBy}
 use Rattle.wire.specs.Numbers.{success, badWord}
 use Rattle.yard.specs.Stands.{standsBy}
-use Rattle.yard.specs.State.{yard, noneGone, over}
+use Rattle.yard.specs.State.{yard, ended, noneGone, over}
 use Rattle.yard.specs.declared.Yard.{Yard}
 use Rattle.yard.specs.declared.Judged.{Judged}
 
 -- a word that a box can send, and one that none can: behind it none can be sent
 abbrev pub can : Yard → Judged
-can next = record { refusal = success; next = next; can = true }
+can next = record { refusal = success; can = 1; next = next }
 
 abbrev pub cannot : ℕ → Judged
-cannot letter = record { refusal = success; next = over letter; can = false }
+cannot letter = record { refusal = success; can = 0; next = over letter }
+
+-- whether one can: 1 stands for yes
+abbrev pub sent : Judged → Bool
+sent j = eqb (j .can) 1
 
 -- "A refusal returns the old state"
 abbrev pub refusing : ℕ → Yard → Judged
-refusing n y = record { refusal = n; next = y; can = false }
+refusing n y = record { refusal = n; can = 0; next = y }
 
 -- a byte more of the report has gone
 unfoldable pub firstWith : Yard → ℕ → ℕ
@@ -44,7 +48,7 @@ silenceOf y = cond (eqb (y .count) 0) (can (noneGone (y .format))) (cannot (y .f
 unfoldable pub wordOf : Yard → ℕ → Judged
 wordOf y w =
     cond (leb w silence)
-    (cond (y .ended) (cannot (y .format))
+    (cond (ended y) (cannot (y .format))
     (cond (isByte w) (byteCan y w)
     (cond (eqb w break) (can (noneGone (y .format)))
     (silenceOf y))))

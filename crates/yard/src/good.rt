@@ -22,10 +22,10 @@ impl Yard {
     pub(crate) fn good(self) -> bool
         ensures { λ r. ⌜ r ≡ good self ⌝ }
     {
-        let below = (self.count as usize) < wire::size(self.format);
+        let below = ((self.count as usize) < wire::size(self.format)) & (self.ended <= 1);
         if self.count == 0 {
             return below & ((self.first == 0) & (self.last == 0));
         }
-        below & (!self.ended & self.gone_rightly())
+        below & ((self.ended != 1) & self.gone_rightly())
     }
 }

@@ -26,33 +26,37 @@ pub(crate) const BAD_STATE: u8 = 6;
 // The letter of the five byte format.
 pub(crate) const FORMAT_U: u8 = b'U';
 
-// How far a log has been checked: the format by its letter; of the report that is going the first byte, the last byte and how many have gone; and
-// whether a word has come that no box could send.
+// How far a log has been checked: the format by its letter; of the report that is going the first byte, the last byte
+// and how many have gone; and 1 where a word has come that no box could send, else 0.
+#[repr(C)]
 pub struct Yard {
     pub format: u8,
     pub first: u8,
     pub last: u8,
     pub count: u8,
-    pub ended: bool,
+    pub ended: u8,
 }
 
 // A new check, or why there is none of this letter.
+#[repr(C)]
 pub struct NewYard {
     pub refusal: u8,
     pub yard: Yard,
 }
 
-// What a word gives back: whether a box can have sent it, with those before it.
+// What a word gives back: 1 where a box can have sent it, with those before it, else 0.
+#[repr(C)]
 pub struct Judged {
     pub refusal: u8,
+    pub can: u8,
     pub next: Yard,
-    pub can: bool,
 }
 
-// What a log gives back: whether a box can send all of it, and how many of its words, from the first, it can.
+// What a log gives back: 1 where a box can send all of it, else 0, and how many of its words, from the first, it can.
+#[repr(C)]
 pub struct Checked {
     pub refusal: u8,
-    pub proper: bool,
+    pub proper: u8,
     pub sendable: usize,
 }
 

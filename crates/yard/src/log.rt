@@ -1,7 +1,6 @@
 // A whole log: one pass over its words.
 ghost use mathlib.Core.Path.{_≡_};
 ghost use mathlib.Core.Bool.{true};
-ghost use Rattle.numbers.specs.Bits.{value};
 ghost use Rattle.yard.specs.Good.{good};
 ghost use Rattle.yard.specs.Log.{refused, checkedOf};
 use crate::BAD_WORD;
@@ -15,19 +14,9 @@ pub(crate) fn refused(number: u8) -> Checked
 {
     Checked {
         refusal: number,
-        proper: false,
+        proper: 0,
         sendable: 0,
     }
-}
-
-// A word that can be sent counts one.
-fn one(can: bool) -> usize
-    ensures { λ r. ⌜ r ≡ value can ⌝ }
-{
-    if can {
-        return 1;
-    }
-    0
 }
 
 // The words, one after the other: behind one that cannot be sent they are looked at for a word above 257 alone.
@@ -45,12 +34,12 @@ pub(crate) fn checked(yard: Yard, words: &[u16]) -> Checked
         }
         let next = s.next;
         y = next;
-        sendable = sendable + one(s.can);
+        sendable = sendable + s.can as usize;
         at = at + 1;
     }
     Checked {
         refusal: SUCCESS,
-        proper: sendable == at,
+        proper: (sendable == at) as u8,
         sendable: sendable,
     }
 }

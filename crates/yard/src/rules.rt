@@ -21,7 +21,7 @@ pub(crate) fn none_gone(letter: u8) -> Yard
         first: 0,
         last: 0,
         count: 0,
-        ended: false,
+        ended: 0,
     }
 }
 
@@ -34,7 +34,7 @@ fn over(letter: u8) -> Yard
         first: 0,
         last: 0,
         count: 0,
-        ended: true,
+        ended: 1,
     }
 }
 
@@ -44,8 +44,8 @@ fn can(next: Yard) -> Judged
 {
     Judged {
         refusal: SUCCESS,
+        can: 1,
         next: next,
-        can: true,
     }
 }
 
@@ -54,8 +54,8 @@ fn cannot(letter: u8) -> Judged
 {
     Judged {
         refusal: SUCCESS,
+        can: 0,
         next: over(letter),
-        can: false,
     }
 }
 
@@ -65,8 +65,8 @@ pub(crate) fn refusing(number: u8, yard: Yard) -> Judged
 {
     Judged {
         refusal: number,
+        can: 0,
         next: yard,
-        can: false,
     }
 }
 
@@ -91,7 +91,7 @@ impl Yard {
             first: self.first_with(byte),
             last: byte,
             count: self.count + 1,
-            ended: false,
+            ended: 0,
         }
     }
 
@@ -126,8 +126,8 @@ impl Yard {
     {
         Judged {
             refusal: SUCCESS,
+            can: 1,
             next: none_gone(self.format),
-            can: true,
         }
     }
 
@@ -139,7 +139,7 @@ impl Yard {
         if word > SILENCE {
             return refusing(BAD_WORD, self);
         }
-        if self.ended {
+        if self.ended == 1 {
             return cannot(self.format);
         }
         if word <= 255 {

@@ -37,7 +37,7 @@ returns-2 : tie.Need-returns-2
 returns-2 c = rw (c .before .before .before .found .given .1, c .before .fresh .ensures)
 
 returns-3 : tie.Need-returns-3
-returns-3 c = rw (c .before .before .before .before .found2 .given .1, c .judged .ensures, c .before .before .step .ensures)
+returns-3 c = rw (c .before .before .before .before .before .found2 .given .1, c .judged .ensures, c .before .before .before .step .ensures)
 
 returns-4 : tie.Need-returns-4
 returns-4 c = rw (c .before .found3 .given .1)

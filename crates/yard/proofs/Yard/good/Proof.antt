@@ -14,7 +14,7 @@ size-requires c κs = search needs
 
 returns : tie.Need-returns
 unfolding good
-returns c = let z = c .before .before .before .before in
+returns c = let z = c .before .before .before .before .before in
     simp (known-below (z .before .before .args .self .format) (z .before .before .args .self .count), eq-eqb _ _ (c .before .before .if1 .taken), z .size .ensures)
 
 gone-rightly-requires : tie.Need-gone-rightly-requires
@@ -22,7 +22,7 @@ gone-rightly-requires c κs = search needs
 
 returns-2 : tie.Need-returns-2
 unfolding good
-returns-2 c = let z = c .before .before .before .before in
+returns-2 c = let z = c .before .before .before .before .before in
     simp (known-below (z .before .before .args .self .format) (z .before .before .args .self .count), ne-eqb _ _ (c .before .before .if1 .left), z .size .ensures, c .gone-rightly .ensures)
 
 pub good-spec : {M : Type 1} → statement M

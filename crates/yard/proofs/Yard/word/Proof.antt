@@ -17,7 +17,7 @@ cannot-requires c κs = search needs
 
 returns-2 : tie.Need-returns-2
 unfolding wordOf
-returns-2 c = simp (le-leb _ _ (c .before .before .if1 .left), c .before .if2 .taken) (c .cannot .ensures)
+returns-2 c = simp (le-leb _ _ (c .before .before .before .if1 .left), eq-eqb _ _ (c .before .if2 .taken)) (c .cannot .ensures)
 
 cast-byte : tie.Need-cast-byte
 cast-byte c = search needs
@@ -27,21 +27,21 @@ byte-requires c κs = search needs
 
 returns-3 : tie.Need-returns-3
 unfolding wordOf
-returns-3 c = simp (le-leb _ _ (c .before .before .before .if1 .left), c .before .before .if2 .left, le-leb _ _ (c .before .if3 .taken)) (c .byte .ensures)
+returns-3 c = simp (le-leb _ _ (c .before .before .before .before .if1 .left), ne-eqb _ _ (c .before .before .if2 .left), le-leb _ _ (c .before .if3 .taken)) (c .byte .ensures)
 
 broken-requires : tie.Need-broken-requires
 broken-requires c κs = search needs
 
 returns-4 : tie.Need-returns-4
 unfolding wordOf
-returns-4 c = simp (le-leb _ _ (c .before .before .before .before .if1 .left), c .before .before .before .if2 .left, lt-leb _ _ (c .before .before .if3 .left), eq-eqb _ _ (c .before .if4 .taken)) (c .broken .ensures)
+returns-4 c = simp (le-leb _ _ (c .before .before .before .before .before .if1 .left), ne-eqb _ _ (c .before .before .before .if2 .left), lt-leb _ _ (c .before .before .if3 .left), eq-eqb _ _ (c .before .if4 .taken)) (c .broken .ensures)
 
 silence-requires : tie.Need-silence-requires
 silence-requires c κs = search needs
 
 returns-5 : tie.Need-returns-5
 unfolding wordOf
-returns-5 c = simp (le-leb _ _ (c .before .before .before .before .if1 .left), c .before .before .before .if2 .left, lt-leb _ _ (c .before .before .if3 .left), ne-eqb _ _ (c .before .if4 .left)) (c .silence .ensures)
+returns-5 c = simp (le-leb _ _ (c .before .before .before .before .before .if1 .left), ne-eqb _ _ (c .before .before .before .if2 .left), lt-leb _ _ (c .before .before .if3 .left), ne-eqb _ _ (c .before .if4 .left)) (c .silence .ensures)
 
 pub word-spec : {M : Type 1} → statement M
 word-spec =

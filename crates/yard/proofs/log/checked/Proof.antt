@@ -1,23 +1,30 @@
 -- `checked`: what is told of the words behind those passed, with the count so far, is told of the log.
 use Prim.Native.Nat.{ℕ, suc, _+_, _-_, _<_, _≤_}
-use mathlib.Core.Path.{_≡_, sym, ap, _∙_}
-use mathlib.Core.Bool.{true}
+use mathlib.Core.Path.{_≡_, refl, sym, ap, _∙_}
+use mathlib.Core.Bool.{Bool, true, false}
 use mathlib.Core.List.{List, _∷_}
 use native.Mathlib.Omega.{arith}
 use lib.ListN.{length, drop, drop-of-length-le, getD}
 use lib.Seq.{drop-cons}
+use lib.Dec.{eqb}
 use borrow.Author.Needs.{needs}
+use mir.Val.{boolByte}
 use Rattle.numbers.specs.Bits.{value}
-use Rattle.numbers.proofs.Rows.{value-small}
+use Rattle.wire.specs.Numbers.{success}
 use Rattle.yard.specs.Good.{good}
 use Rattle.yard.specs.Rules.{wordOf}
 use Rattle.yard.specs.Log.{checkedOf}
 use Rattle.yard.specs.declared.Yard.{Yard}
 use Rattle.yard.specs.declared.Judged.{Judged}
 use Rattle.yard.proofs.Keeps.{below-size, word-good}
-use Rattle.yard.proofs.Logs.{is-word, no-word, rest, rest-start, rest-bad, rest-step, rest-end}
+use Rattle.yard.proofs.Logs.{is-word, no-word, can-small, rest, rest-start, rest-bad, rest-step, rest-end}
 use Rattle.yard.proofs.log.checked.Statement.{statement}
 use Rattle.yard.proofs.log.checked.Tie as tie
+
+-- a yes and its number
+as-number : (b : Bool) → boolByte b ≡ value b
+as-number true = refl
+as-number false = refl
 
 -- the words from a place on, and a step among them
 here : (y₀ y : Yard) (at count sendable : ℕ) (words : List ℕ) → at < length words → checkedOf y₀ words ≡ rest y sendable count (drop at words) → checkedOf y₀ words ≡ rest y sendable count (getD words at 0 ∷ drop (at + 1) words)
@@ -52,12 +59,12 @@ returns c = let l = c .before .before .before .before .before .before .loop in
     let k = no-word (l .y) w (λ e. c .before .if1 .taken (ap (λ (j : Judged). j .refusal) (c .before .before .before .word .ensures) ∙ e)) in
     c .refused .ensures ∙ sym (here (a .yard) (l .y) (l .at) _ (l .sendable) (a .words .now) (omega arith) (l .inv .0) ∙ rest-bad (l .y) (l .sendable) _ w _ k)
 
-one-requires : tie.Need-one-requires Inv-loop μ-loop
-one-requires c κs = search needs
+cast-sendable : tie.Need-cast-sendable Inv-loop μ-loop
+cast-sendable c = search needs
 
 add-sendable : tie.Need-add-sendable Inv-loop μ-loop
 add-sendable c = let l = c .before .before .before .before .before .before .before .loop in
-    omega (arith, value-small (c .before .before .before .before .word .result .can), c .one .ensures, l .inv .2)
+    omega (arith, l .inv .2)
 
 add-at : tie.Need-add-at Inv-loop μ-loop
 add-at c = omega arith
@@ -71,19 +78,23 @@ loop-again c = let l = c .before .before .before .before .before .before .before
     let w = getD (a .words .now) (l .at) 0 in
     let j = c .before .before .before .before .word .ensures in
     let k = is-word (l .y) w (ap (λ (j : Judged). j .refusal) (sym j) ∙ c .before .before .if1 .left) in
-    let one : c .one .result ≡ value (wordOf (l .y) w .can) = c .one .ensures ∙ ap (λ (j : Judged). value (j .can)) j in
+    let one = ap (λ (j : Judged). j .can) j in
     let next : c .before .before .before .before .word .result .next ≡ wordOf (l .y) w .next = ap (λ (j : Judged). j .next) j in (
       here (a .yard) (l .y) (l .at) _ (l .sendable) (a .words .now) (omega arith) (l .inv .0) ∙ rest-step (l .y) (l .sendable) _ w _ k ∙ rw (one, next),
       rw next (word-good (l .y) (l .inv .1) w),
-      omega (arith, one, value-small (wordOf (l .y) w .can)),
+      omega (arith, one, can-small (l .y) w),
       omega arith,
     )
+
+cast-t13 : tie.Need-cast-t13 Inv-loop μ-loop
+cast-t13 c = search needs
 
 returns-2 : tie.Need-returns-2 Inv-loop μ-loop
 returns-2 c = let l = c .before .loop in
     let a = c .before .before .before .args in
     let e : length (a .words .now) ≡ l .at = omega arith in
-    sym (l .inv .0 ∙ rw (drop-of-length-le (a .words .now) {i = l .at} (omega arith), rest-end (l .y) (l .sendable) (length (a .words .now)), e))
+    ap (λ (n : ℕ). record { refusal = success; proper = n; sendable = l .sendable }) (as-number (eqb (l .sendable) (l .at)))
+    ∙ sym (l .inv .0 ∙ rw (drop-of-length-le (a .words .now) {i = l .at} (omega arith), rest-end (l .y) (l .sendable) (length (a .words .now)), e))
 
 pub checked-spec : {M : Type 1} → statement M
 checked-spec =
@@ -97,9 +108,10 @@ checked-spec =
     word-requires
     refused-requires
     returns
-    one-requires
+    cast-sendable
     add-sendable
     add-at
     loop-less
     loop-again
+    cast-t13
     returns-2)
