@@ -23,7 +23,10 @@ use Rattle.istrolf.specs.Readers as readers
 use Rattle.istrolf.specs.Listers as listers
 use Rattle.istrolf.specs.Bridges as bridges
 use Rattle.istrolf.specs.Told as told
-use Rattle.istrolf.specs.Readbacks as readbacks
+use Rattle.readback.specs.declared.Readback.{Readback}
+use Rattle.readback.specs.declared.Back.{Back}
+use Rattle.readback.specs.declared.Rewritten.{Rewritten}
+use Rattle.readback.proofs.Answers as readback
 use Rattle.istrolf.specs.Promises.{FreshReaderPromise, ReaderStepPromise, ReadPromise, EncodePromise, FreshBoxPromise, BoxStepPromise, FreshListerPromise, FeedPromise, FinishPromise, FreshYardPromise, YardStepPromise, YardCheckPromise, FreshBridgePromise, ConvertPromise, PickPromise, SalvagePromise, FreshToldPromise, TellPromise, ToldStepPromise, ToldReadPromise, FreshReadbackPromise, ReadbackReadPromise, ReadbackFinishPromise, ReadbackRewritePromise, MadePuckPromise, PuckStepPromise, FreshPuckReaderPromise, PuckReaderStepPromise, PuckReadPromise, FreshPortPromise, ClearingPortPromise, PortBytePromise, PortBytesPromise, PortQuietPromise, PortLostPromise, FreshWatchPromise, KnowingWatchPromise, WatchHeardPromise, WatchOverPromise}
 use Rattle.istrolf.specs.declared.PortWord.{PortWord}
 use Rattle.istrolf.specs.declared.HeldReader.{HeldReader}
@@ -45,9 +48,6 @@ use Rattle.istrolf.specs.declared.FreshTold.{FreshTold}
 use Rattle.istrolf.specs.declared.ToldCommand.{ToldCommand}
 use Rattle.istrolf.specs.declared.HeardWord.{HeardWord}
 use Rattle.istrolf.specs.declared.HeardWords.{HeardWords}
-use Rattle.istrolf.specs.declared.HeldReadback.{HeldReadback}
-use Rattle.istrolf.specs.declared.RewrittenLines.{RewrittenLines}
-use Rattle.istrolf.specs.declared.ReadLines.{ReadLines}
 use Rattle.puck.specs.declared.Puck.{Puck}
 use Rattle.puck.specs.declared.PuckStepped.{PuckStepped}
 use Rattle.puckreader.specs.Line.{Long}
@@ -130,19 +130,19 @@ pub one-told-read : (h : HeldTold) (words : List ℕ) (out : List ℤ) (a b : He
 one-told-read h words out a b x y e f =
     (ap (λ (l : told.Whole). l .line) (e ∙ sym f), ap (λ (l : told.Whole). l .out) (e ∙ sym f))
 
-pub one-fresh-readback : (a b : HeldReadback) → FreshReadbackPromise a → FreshReadbackPromise b → a ≡ b
-one-fresh-readback a b e f = e ∙ sym f
+pub one-fresh-readback : (a b : Readback) → FreshReadbackPromise a → FreshReadbackPromise b → a ≡ b
+one-fresh-readback a b = readback.one-fresh
 
-pub one-readback-read : (h : HeldReadback) (input : List ℕ) (out : List ℤ) (a b : ReadLines) (x y : List ℤ)
-    → ReadbackReadPromise h input out a x → ReadbackReadPromise h input out b y → (a ≡ b) × (x ≡ y)
-one-readback-read h input out a b x y e f = (ap (λ (l : readbacks.Whole). l .back) (e ∙ sym f), ap (λ (l : readbacks.Whole). l .out) (e ∙ sym f))
+pub one-readback-read : (r : Readback) (input : List ℕ) (out : List ℤ) (a b : Back) (x y : List ℤ)
+    → ReadbackReadPromise r input out a x → ReadbackReadPromise r input out b y → (a ≡ b) × (x ≡ y)
+one-readback-read r input out a b x y = readback.one-read r input out
 
-pub one-readback-finish : (h : HeldReadback) (left : ℕ) (a b : ReadLines) → ReadbackFinishPromise h left a → ReadbackFinishPromise h left b → a ≡ b
-one-readback-finish h left a b e f = e ∙ sym f
+pub one-readback-finish : (r : Readback) (left : ℕ) (a b : Back) → ReadbackFinishPromise r left a → ReadbackFinishPromise r left b → a ≡ b
+one-readback-finish r left a b = readback.one-finish r left
 
-pub one-readback-rewrite : (h : HeldReadback) (input out : List ℕ) (a b : RewrittenLines) (x y : List ℕ)
-    → ReadbackRewritePromise h input out a x → ReadbackRewritePromise h input out b y → (a ≡ b) × (x ≡ y)
-one-readback-rewrite h input out a b x y e f = (ap (λ (l : readbacks.Rewriting). l .told) (e ∙ sym f), ap (λ (l : readbacks.Rewriting). l .out) (e ∙ sym f))
+pub one-readback-rewrite : (r : Readback) (input out : List ℕ) (a b : Rewritten) (x y : List ℕ)
+    → ReadbackRewritePromise r input out a x → ReadbackRewritePromise r input out b y → (a ≡ b) × (x ≡ y)
+one-readback-rewrite r input out a b x y = readback.one-rewrite r input out
 
 pub one-made-puck : (buttons revision maker : ℕ) (a b : Puck) → MadePuckPromise buttons revision maker a → MadePuckPromise buttons revision maker b → a ≡ b
 one-made-puck buttons revision maker a b e f = e ∙ sym f

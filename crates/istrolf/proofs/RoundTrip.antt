@@ -18,9 +18,6 @@ use Rattle.istrolf.specs.Readers as readers
 use Rattle.istrolf.specs.Listers as listers
 use Rattle.istrolf.specs.Bridges as bridges
 use Rattle.istrolf.specs.Told as told
-use Rattle.istrolf.specs.Readbacks as readbacks
-use Rattle.readback.specs.declared.Readback.{Readback}
-use Rattle.istrolf.specs.declared.HeldReadback.{HeldReadback}
 use Rattle.istrolf.specs.declared.HeldReader.{HeldReader}
 use Rattle.istrolf.specs.declared.HeldLister.{HeldLister}
 use Rattle.istrolf.specs.declared.HeldBridge.{HeldBridge}
@@ -113,16 +110,3 @@ told-back h s =
 
 pub told-stands : (s : ToldReader) → told.stands (told.packed s) ≡ true
 told-stands s = both (readers.stands (readers.packed (s .reader))) (leb (told.kindNumber (s .awaited .kind)) 4) (reader-stands (s .reader)) (kind-stands (s .awaited .kind))
-
--- a reader of listings
-pub readback-there : (r : Readback) → readbacks.unpacked (readbacks.packed r) ≡ r
-readback-there r = λ i. record { salvage = mark-back (r .salvage) i; width = r .width; last = r .last; lines = r .lines; ended = mark-back (r .ended) i }
-
-pub readback-back : (h : HeldReadback) → readbacks.stands h ≡ true → readbacks.packed (readbacks.unpacked h) ≡ h
-readback-back h s =
-    let e = left (isMark (h .ended)) (isMark (h .salvage)) s in
-    let k = right (isMark (h .ended)) (isMark (h .salvage)) s in
-    λ i. record { width = h .width; ended = mark-of (h .ended) e i; salvage = mark-of (h .salvage) k i; last = h .last; lines = h .lines }
-
-pub readback-stands : (r : Readback) → readbacks.stands (readbacks.packed r) ≡ true
-readback-stands r = rw (mark-stands (r .ended), mark-stands (r .salvage))

@@ -5,7 +5,6 @@ pub mod Bridges
 pub mod Salvages
 pub mod Told
 pub mod Pucks
-pub mod Readbacks
 pub mod Promises
 pub mod Runs
 pub mod Presses

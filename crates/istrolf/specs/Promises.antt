@@ -38,8 +38,10 @@ use Rattle.puck.specs.declared.PuckStepped.{PuckStepped}
 use Rattle.puckreader.specs.State as puckreaders
 use Rattle.puckreader.specs.Promises as puckreader
 use Rattle.puckreader.specs.declared.PuckReader.{PuckReader}
-use Rattle.readback.specs.Steps as steps
 use Rattle.readback.specs.Promises as readback
+use Rattle.readback.specs.declared.Readback.{Readback}
+use Rattle.readback.specs.declared.Back.{Back}
+use Rattle.readback.specs.declared.Rewritten.{Rewritten}
 use Rattle.istrolf.specs.Ports as ports
 use Rattle.istrolf.specs.Readers as readers
 use Rattle.istrolf.specs.Listers as listers
@@ -47,7 +49,6 @@ use Rattle.istrolf.specs.Bridges as bridges
 use Rattle.istrolf.specs.Salvages as salvages
 use Rattle.istrolf.specs.Told as told
 use Rattle.istrolf.specs.Pucks as pucks
-use Rattle.istrolf.specs.Readbacks as readbacks
 use Rattle.istrolf.specs.declared.PortWord.{PortWord}
 use Rattle.istrolf.specs.declared.HeldReader.{HeldReader}
 use Rattle.istrolf.specs.declared.FreshReader.{FreshReader}
@@ -67,9 +68,6 @@ use Rattle.istrolf.specs.declared.HeardWord.{HeardWord}
 use Rattle.istrolf.specs.declared.HeardWords.{HeardWords}
 use Rattle.istrolf.specs.declared.ReadPuckWord.{ReadPuckWord}
 use Rattle.istrolf.specs.declared.ReadPuckWords.{ReadPuckWords}
-use Rattle.istrolf.specs.declared.HeldReadback.{HeldReadback}
-use Rattle.istrolf.specs.declared.RewrittenLines.{RewrittenLines}
-use Rattle.istrolf.specs.declared.ReadLines.{ReadLines}
 
 -- `istrolf_reader_fresh(letter)`
 abbrev pub FreshReaderPromise : ℕ → FreshReader → Type 0
@@ -203,32 +201,19 @@ PuckReaderStepPromise r w answer = answer ≡ pucks.packedRead (puckreader.stepO
 abbrev pub PuckReadPromise : PuckReader → List ℕ → List ℤ → ReadPuckWords → List ℤ → Type 0
 PuckReadPromise r words before answer after = pucks.whole answer after ≡ puckreader.readOf r words before
 
--- `istrolf_readback_fresh()`
-abbrev pub FreshReadbackPromise : HeldReadback → Type 0
-FreshReadbackPromise answer = answer ≡ readbacks.packed steps.fresh
+-- `istrolf_readback_fresh()`, `istrolf_readback_read(reader, input, out)`, `istrolf_readback_finish(reader, left)` and
+-- `istrolf_readback_rewrite(reader, input, out)`: the reader of listings and its answers as they are below
+abbrev pub FreshReadbackPromise : Readback → Type 0
+FreshReadbackPromise = readback.FreshPromise
 
--- `istrolf_readback_read(reader, input, out)`
-unfoldable pub readbackReadOf : HeldReadback → List ℕ → List ℤ → readbacks.Whole
-readbackReadOf h input out =
-    cond (readbacks.stands h) (readbacks.packedWhole (readback.readOf (readbacks.unpacked h) input out)) (readbacks.whole (readbacks.refusedBack h) out)
+abbrev pub ReadbackReadPromise : Readback → List ℕ → List ℤ → Back → List ℤ → Type 0
+ReadbackReadPromise = readback.ReadPromise
 
-abbrev pub ReadbackReadPromise : HeldReadback → List ℕ → List ℤ → ReadLines → List ℤ → Type 0
-ReadbackReadPromise h input before answer after = readbacks.whole answer after ≡ readbackReadOf h input before
+abbrev pub ReadbackFinishPromise : Readback → ℕ → Back → Type 0
+ReadbackFinishPromise = readback.FinishPromise
 
--- `istrolf_readback_finish(reader, left)`
-unfoldable pub readbackFinishOf : HeldReadback → ℕ → ReadLines
-readbackFinishOf h left = cond (readbacks.stands h) (readbacks.packedBack (readback.finishOf (readbacks.unpacked h) left)) (readbacks.refusedBack h)
-
-abbrev pub ReadbackFinishPromise : HeldReadback → ℕ → ReadLines → Type 0
-ReadbackFinishPromise h left answer = answer ≡ readbackFinishOf h left
-
--- `istrolf_readback_rewrite(reader, input, out)`
-unfoldable pub readbackRewriteOf : HeldReadback → List ℕ → List ℕ → readbacks.Rewriting
-readbackRewriteOf h input out =
-    cond (readbacks.stands h) (readbacks.packedRewriting (readback.rewriteOf (readbacks.unpacked h) input out)) (readbacks.rewriting (readbacks.refusedRewritten h) out)
-
-abbrev pub ReadbackRewritePromise : HeldReadback → List ℕ → List ℕ → RewrittenLines → List ℕ → Type 0
-ReadbackRewritePromise h input before answer after = readbacks.rewriting answer after ≡ readbackRewriteOf h input before
+abbrev pub ReadbackRewritePromise : Readback → List ℕ → List ℕ → Rewritten → List ℕ → Type 0
+ReadbackRewritePromise = readback.RewritePromise
 
 -- `istrolf_port_fresh(silence)`
 abbrev pub FreshPortPromise : ℕ → Port → Type 0

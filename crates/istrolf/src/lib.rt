@@ -211,33 +211,3 @@ pub struct ReadPuckWords {
     pub reports: usize,
     pub dropped: usize,
 }
-
-// A reader of listings as C holds it: whether its last line has come, and whether the listing is a salvage's, are 0 or 1.
-#[repr(C)]
-pub struct HeldReadback {
-    pub width: u8,
-    pub ended: u8,
-    pub salvage: u8,
-    pub last: u32,
-    pub lines: u32,
-}
-
-// What a call of it gives back.
-#[repr(C)]
-pub struct ReadLines {
-    pub refusal: u8,
-    pub line: u32,
-    pub taken: usize,
-    pub items: usize,
-    pub next: HeldReadback,
-}
-
-// What a piece that is rewritten at the other width gives back.
-#[repr(C)]
-pub struct RewrittenLines {
-    pub refusal: u8,
-    pub line: u32,
-    pub taken: usize,
-    pub written: usize,
-    pub next: HeldReadback,
-}

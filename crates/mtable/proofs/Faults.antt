@@ -19,7 +19,7 @@ use Rattle.text.proofs.Laws.{text-shows, text-long}
 use Rattle.wire.specs.Numbers.{success}
 use Rattle.listing.specs.Lines.{newline}
 use Rattle.listing.proofs.Grown.{grown-append}
-use Rattle.readback.specs.Steps.{good}
+use Rattle.readback.specs.Steps.{good, hasEnded}
 use Rattle.readback.specs.Pieces.{faultyLine, back}
 use Rattle.readback.specs.Promises.{finishOf, FinishPromise}
 use Rattle.readback.specs.declared.Back.{Back}
@@ -83,7 +83,7 @@ module _ (w : Went) where
 
     pub end-none : e .refusal ≡ 0 → good (w .next) ≡ true → faultOf w ≡ 0
     unfolding finishOf
-    end-none y g = end-is ∙ go (w .next .ended && eqb (w .held) 0) (rw g at p)
+    end-none y g = end-is ∙ go (hasEnded (w .next) && eqb (w .held) 0) (rw g at p)
       where
         go : (t : Bool) → e ≡ cond t (back success (w .next) 0 0 0) (back faultyLine (w .next) 0 0 (w .next .lines + 1)) → e .line ≡ 0
         go true k = ap (λ (b : Back). b .line) k
@@ -91,7 +91,7 @@ module _ (w : Went) where
 
     pub end-some : (e .refusal ≡ 0 → ⊥) → good (w .next) ≡ true → e .line ≡ 0 → ⊥
     unfolding finishOf
-    end-some n g = go (w .next .ended && eqb (w .held) 0) (rw g at p)
+    end-some n g = go (hasEnded (w .next) && eqb (w .held) 0) (rw g at p)
       where
         go : (t : Bool) → e ≡ cond t (back success (w .next) 0 0 0) (back faultyLine (w .next) 0 0 (w .next .lines + 1)) → e .line ≡ 0 → ⊥
         go true k z = n (ap (λ (b : Back). b .refusal) k)

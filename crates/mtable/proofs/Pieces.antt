@@ -18,7 +18,7 @@ use Rattle.listing.specs.declared.Item.{Item}
 use Rattle.listing.specs.declared.Given.{Given}
 use Rattle.listing.specs.declared.Given.the-variants.{Nothing, One}
 use Rattle.readback.specs.Items.{allNumbers, itemIn}
-use Rattle.readback.specs.Steps.{fresh, stepOf, good, said, above}
+use Rattle.readback.specs.Steps.{fresh, stepOf, good, said, above, hasEnded, ofSalvage}
 use Rattle.readback.specs.Pieces.{cutIn, bodyOf, isWhole, reads, readLines, linesOf, itemsAmong, faultyLine}
 use Rattle.readback.specs.Promises.{ReadPromise, FinishPromise}
 use Rattle.readback.specs.Held.{Ready}
@@ -39,31 +39,31 @@ use Rattle.mtable.specs.Blocks.{rest, tells}
 use Rattle.mtable.proofs.Lines.{rows-append}
 
 -- behind the first line it stays what it is
-still : (r : Readback) (line : List ℕ) → (r .lines ≡ 0 → ⊥) → stepOf r line .next .salvage ≡ r .salvage
-still r line n = go (r .ended) refl
+still : (r : Readback) (line : List ℕ) → (r .lines ≡ 0 → ⊥) → ofSalvage (stepOf r line .next) ≡ ofSalvage r
+still r line n = go (hasEnded r) refl
   where
-    item : (g : Given) → said r g .next .salvage ≡ r .salvage
+    item : (g : Given) → ofSalvage (said r g .next) ≡ ofSalvage r
     item Nothing = refl
     item (One i) = up (above (r .last) i) refl
       where
-        up : (t : Bool) → above (r .last) i ≡ t → said r (One i) .next .salvage ≡ r .salvage
+        up : (t : Bool) → above (r .last) i ≡ t → ofSalvage (said r (One i) .next) ≡ ofSalvage r
         up true k = rw k
         up false k = rw k
 
-    go : (t : Bool) → r .ended ≡ t → stepOf r line .next .salvage ≡ r .salvage
+    go : (t : Bool) → hasEnded r ≡ t → ofSalvage (stepOf r line .next) ≡ ofSalvage r
     go true e = rw (step-ended r line e)
     go false e = rw (step-item r line e n) (item (itemIn (r .width) line))
 
 good-line : (r : Readback) (l : List ℕ) → eqb (reads .refusal r l) success ≡ true → stepOf r (bodyOf l) .good ≡ true
 good-line r l h = right (isWhole l) (stepOf r (bodyOf l) .good) (not-refused r l h)
 
-says-still : (ls : List (List ℕ)) (r : Readback) → (r .lines ≡ 0 → ⊥) → readingFrom r ls .salvage ≡ r .salvage
+says-still : (ls : List (List ℕ)) (r : Readback) → (r .lines ≡ 0 → ⊥) → readingFrom r ls .salvage ≡ ofSalvage r
 unfolding readingFrom
 says-still [] r n = refl
 says-still (l ∷ ls) r n = go (eqb (reads .refusal r l) success) refl (says-still ls (reads .next r l))
   where
-    go : (t : Bool) → eqb (reads .refusal r l) success ≡ t → ((reads .next r l .lines ≡ 0 → ⊥) → readingFrom (reads .next r l) ls .salvage ≡ reads .next r l .salvage)
-        → readingFrom r (l ∷ ls) .salvage ≡ r .salvage
+    go : (t : Bool) → eqb (reads .refusal r l) success ≡ t → ((reads .next r l .lines ≡ 0 → ⊥) → readingFrom (reads .next r l) ls .salvage ≡ ofSalvage (reads .next r l))
+        → readingFrom r (l ∷ ls) .salvage ≡ ofSalvage r
     go true t ih = rw t (ih (λ z. omega (arith, z, onward.one-more r (bodyOf l) (good-line r l t))) ∙ still r (bodyOf l) n)
     go false t ih = rw t
 
@@ -91,7 +91,7 @@ module _ (r : Readback) (piece : List ℕ) (out after : List ℤ) (a : Back) (g 
   items = itemsAmong (f .answers)
 
   abbrev pub text : List ℕ
-  text = salvageRow (a .next .salvage && not (r .salvage)) ++ rowsOf items
+  text = salvageRow (ofSalvage (a .next) && not (ofSalvage r)) ++ rowsOf items
 
   pub few-items : 5 * a .items ≤ length out
   few-items = written-there readLines calls.reads-lawful r piece out g p .0
@@ -113,21 +113,21 @@ module _ (r : Readback) (piece : List ℕ) (out after : List ℤ) (a : Back) (g 
   goes q =
       let d = drop (a .taken) piece in
       let k = readingFrom (a .next) (cutIn (d ++ q)) in
-      ap (λ (k : Reading). salvageRow (k .salvage && not (r .salvage)) ++ rowsOf (k .items) ++ lastRow (k .fault)) (calls.piece-says r piece out after a g p q)
-      ∙ ap (λ (l : List ℕ). salvageRow (k .salvage && not (r .salvage)) ++ l ++ lastRow (k .fault)) (rows-append items (k .items))
+      ap (λ (k : Reading). salvageRow (k .salvage && not (ofSalvage r)) ++ rowsOf (k .items) ++ lastRow (k .fault)) (calls.piece-says r piece out after a g p q)
+      ∙ ap (λ (l : List ℕ). salvageRow (k .salvage && not (ofSalvage r)) ++ l ++ lastRow (k .fault)) (rows-append items (k .items))
       ∙ go k (eqb (a .next .lines) 0) refl (says-still (cutIn (d ++ q)) (a .next))
     where
-      go : (k : Reading) (t : Bool) → eqb (a .next .lines) 0 ≡ t → ((a .next .lines ≡ 0 → ⊥) → k .salvage ≡ a .next .salvage)
-          → salvageRow (k .salvage && not (r .salvage)) ++ (rowsOf items ++ rowsOf (k .items)) ++ lastRow (k .fault)
-          ≡ text ++ (salvageRow (k .salvage && not (a .next .salvage)) ++ rowsOf (k .items) ++ lastRow (k .fault))
+      go : (k : Reading) (t : Bool) → eqb (a .next .lines) 0 ≡ t → ((a .next .lines ≡ 0 → ⊥) → k .salvage ≡ ofSalvage (a .next))
+          → salvageRow (k .salvage && not (ofSalvage r)) ++ (rowsOf items ++ rowsOf (k .items)) ++ lastRow (k .fault)
+          ≡ text ++ (salvageRow (k .salvage && not (ofSalvage (a .next))) ++ rowsOf (k .items) ++ lastRow (k .fault))
       go k false t h =
           let same = h (eqb-false _ _ t) in
-          rw (same, twice (a .next .salvage)) (simp append-assoc)
+          rw (same, twice (ofSalvage (a .next))) (simp append-assoc)
       go k true t h =
           let z = eqb-true (a .next .lines) 0 t in
           let more = more-lines readLines calls.reads-lawful r piece out g p in
-          let r-none : r .salvage ≡ false = unread r g (omega (arith, z, more)) .1 in
-          let n-none : a .next .salvage ≡ false = unread (a .next) (calls.next-good r piece out after a g p) z .1 in
+          let r-none : ofSalvage r ≡ false = ap (λ (n : ℕ). eqb n 1) (unread r g (omega (arith, z, more)) .2) in
+          let n-none : ofSalvage (a .next) ≡ false = ap (λ (n : ℕ). eqb n 1) (unread (a .next) (calls.next-good r piece out after a g p) z .2) in
           let nothing : rowsOf items ≡ [] = ap rowsOf (empty (f .answers) (omega (arith, z, more))) in
           simp (r-none, n-none, nothing)
         where
@@ -148,7 +148,7 @@ module _ (r : Readback) (piece : List ℕ) (out after : List ℤ) (a : Back) (g 
 
     pub fault-row : (q : List ℕ) → rest r piece q ≡ text ++ lastRow (a .line)
     fault-row q =
-        ap (λ (k : Reading). salvageRow (k .salvage && not (r .salvage)) ++ rowsOf (k .items) ++ lastRow (k .fault)) (calls.fault-says r piece out after a g p seven q)
+        ap (λ (k : Reading). salvageRow (k .salvage && not (ofSalvage r)) ++ rowsOf (k .items) ++ lastRow (k .fault)) (calls.fault-says r piece out after a g p seven q)
 
     pub fault-told : (q : List ℕ) → tells r piece q ≡ faultWords (a .line)
     fault-told q = ap (λ (k : Reading). faultWords (k .fault)) (calls.fault-says r piece out after a g p seven q)
@@ -168,13 +168,13 @@ begins-told q = refl
 
 -- the end: the last row, and nothing else
 module _ (r : Readback) (held : List ℕ) (k : Ready r held) (e : Back) (p : FinishPromise r (length held) e) where
-  ends-with : readingFrom r (cutIn held) ≡ reading (r .salvage) [] (e .line)
+  ends-with : readingFrom r (cutIn held) ≡ reading (ofSalvage r) [] (e .line)
   ends-with = calls.finish-says r held e (k .sound) (k .part) p
 
   pub last-row : rest r held [] ≡ lastRow (e .line)
   last-row =
-      ap (λ (l : List ℕ). let k = readingFrom r (cutIn l) in salvageRow (k .salvage && not (r .salvage)) ++ rowsOf (k .items) ++ lastRow (k .fault)) (append-nil held)
-      ∙ ap (λ (k : Reading). salvageRow (k .salvage && not (r .salvage)) ++ rowsOf (k .items) ++ lastRow (k .fault)) ends-with ∙ rw (twice (r .salvage))
+      ap (λ (l : List ℕ). let k = readingFrom r (cutIn l) in salvageRow (k .salvage && not (ofSalvage r)) ++ rowsOf (k .items) ++ lastRow (k .fault)) (append-nil held)
+      ∙ ap (λ (k : Reading). salvageRow (k .salvage && not (ofSalvage r)) ++ rowsOf (k .items) ++ lastRow (k .fault)) ends-with ∙ rw (twice (ofSalvage r))
 
   pub last-told : tells r held [] ≡ faultWords (e .line)
   last-told = ap (λ (l : List ℕ). faultWords (readingFrom r (cutIn l) .fault)) (append-nil held) ∙ ap (λ (k : Reading). faultWords (k .fault)) ends-with

@@ -16,7 +16,7 @@ use Rattle.shell.specs.Standing.{Stands, Closes, Failed}
 use Rattle.shell.specs.declared.Got.{Got}
 use Rattle.shell.proofs.Laws as standing
 use Rattle.shell.proofs.Held.{holds, both}
-use Rattle.readback.specs.Steps.{good, fresh}
+use Rattle.readback.specs.Steps.{good, fresh, ofSalvage}
 use Rattle.readback.specs.Pieces.{cutIn, longest, readLines}
 use Rattle.readback.specs.Promises.{ReadPromise, finishOf}
 use Rattle.readback.specs.Held.{Ready, toGo}
@@ -156,5 +156,5 @@ module _ (t t′ : ℕ) (r : Readback) (held : ℕ) (input after : List ℕ) (go
       let whole : (q : List ℕ) → front ++ (came ++ q) ≡ all ++ q =
       λ q. sym (append-assoc front came q) ∙ ap (λ (l : List ℕ). l ++ q) (sym (both (mtable .input) held t t′ got input after there b)) in
       standing.reworded mtable t′ (λ q. rest r front (came ++ q)) (rest r all) (λ q. tells r front (came ++ q)) (tells r all) (read (standing.brings (mtable .input) t t′ got (drop held after) brought some))
-      (λ q. ap (λ (l : List ℕ). let k = readingFrom r (cutIn l) in salvageRow (k .salvage && not (r .salvage)) ++ rowsOf (k .items) ++ lastRow (k .fault)) (whole q))
+      (λ q. ap (λ (l : List ℕ). let k = readingFrom r (cutIn l) in salvageRow (k .salvage && not (ofSalvage r)) ++ rowsOf (k .items) ++ lastRow (k .fault)) (whole q))
       (λ q. ap (λ (l : List ℕ). faultWords (readingFrom r (cutIn l) .fault)) (whole q))

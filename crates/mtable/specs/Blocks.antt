@@ -5,7 +5,7 @@ use mathlib.Core.Bool.{true, false, not, cond, _&&_}
 use mathlib.Core.List.{List, _++_}
 use lib.Dec.{eqb}
 use Rattle.shell.specs.Standing.{Stands, Closes, Failed}
-use Rattle.readback.specs.Steps.{good}
+use Rattle.readback.specs.Steps.{good, ofSalvage}
 use Rattle.readback.specs.Pieces.{cutIn}
 use Rattle.readback.specs.Promises.{finishOf}
 use Rattle.readback.specs.Held.{Ready}
@@ -17,7 +17,7 @@ use Rattle.mtable.specs.declared.Went.{Went}
 
 -- what is still to be written of a listing, with bytes that are held, behind the head line; and what is to be told
 abbrev pub rest : Readback → List ℕ → List ℕ → List ℕ
-rest r held q = let k = readingFrom r (cutIn (held ++ q)) in salvageRow (k .salvage && not (r .salvage)) ++ rowsOf (k .items) ++ lastRow (k .fault)
+rest r held q = let k = readingFrom r (cutIn (held ++ q)) in salvageRow (k .salvage && not (ofSalvage r)) ++ rowsOf (k .items) ++ lastRow (k .fault)
 
 abbrev pub tells : Readback → List ℕ → List ℕ → List ℕ
 tells r held q = faultWords (readingFrom r (cutIn (held ++ q)) .fault)

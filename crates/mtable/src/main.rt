@@ -215,12 +215,12 @@ fn listed(
     ensures { λ r. ⌜ Left (now (turn .exit)) r (take (r .held) (now (input .exit))) ⌝ }
     ensures { λ r. ⌜ ((held : ℕ) → held < all → held ≤ longest → r .on ≡ true → toGo (r .next) (r .held) < toGo reader held) ⌝ }
 {
-    let before = reader.salvage;
+    let before = reader.salvage == 1;
     let back = front(reader, input, all, items);
     let next = back.next;
     let taken = back.taken;
     let left = all - taken;
-    let at = opened(next.salvage & !before, out);
+    let at = opened((next.salvage == 1) & !before, out);
     let n = rows(items, back.items, out, at);
     let is_shown = shell::show(turn, b"mtable: standard output", &out[..n]);
     shell::keep(input, taken, left);

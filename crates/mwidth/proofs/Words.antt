@@ -16,7 +16,7 @@ use Rattle.text.specs.declared.Text.{Text}
 use Rattle.text.proofs.Digits.{decimal-few}
 use Rattle.text.proofs.Filled.{both-filled, filled-all}
 use Rattle.wire.specs.Numbers.{success}
-use Rattle.readback.specs.Steps.{good}
+use Rattle.readback.specs.Steps.{good, hasEnded}
 use Rattle.readback.specs.Pieces.{cutIn, cutOff, isWhole, longest, faultyLine, back}
 use Rattle.readback.specs.Rewriting.{rewrites, rewriteLines}
 use Rattle.readback.specs.Promises.{finishOf, FinishPromise, RewritePromise}
@@ -56,9 +56,9 @@ module _ (r : Readback) (piece out after : List ℕ) (a : Rewritten) (g : good r
       ∙ ap (λ (n : ℕ). tellOf (a .next .lines + 1) (whyOf n)) (k .number) ∙ ap (λ (n : ℕ). tellOf n (whyOf (a .refusal))) (sym (told-line rewriteLines rewrites-lawful r piece out g p some))
 
 -- the end: the front of a line, or nothing
-ends-with : (r : Readback) (held : ℕ) → good r ≡ true → atEnd r held ≡ cond (r .ended && eqb held 0) [] (tellOf (r .lines + 1) isMissing)
+ends-with : (r : Readback) (held : ℕ) → good r ≡ true → atEnd r held ≡ cond (hasEnded r && eqb held 0) [] (tellOf (r .lines + 1) isMissing)
 unfolding finishOf
-ends-with r held g = rw g (go (r .ended && eqb held 0))
+ends-with r held g = rw g (go (hasEnded r && eqb held 0))
   where
     go : (t : Bool) → (let end = cond t (back success r 0 0 0) (back faultyLine r 0 0 (r .lines + 1)) in cond (eqb (end .refusal) 0) [] (tellOf (end .line) isMissing)) ≡ cond t [] (tellOf (r .lines + 1) isMissing)
     go true = refl
@@ -66,7 +66,7 @@ ends-with r held g = rw g (go (r .ended && eqb held 0))
 
 pub told-end : (r : Readback) (held : List ℕ) → Ready r held → toldFrom r (cutIn held) ≡ atEnd r (length held)
 unfolding toldFrom cutIn
-told-end r [] k = sym (ends-with r 0 (k .sound) ∙ ap (λ (t : Bool). cond t [] (tellOf (r .lines + 1) isMissing)) (and-yes (r .ended)))
+told-end r [] k = sym (ends-with r 0 (k .sound) ∙ ap (λ (t : Bool). cond t [] (tellOf (r .lines + 1) isMissing)) (and-yes (hasEnded r)))
   where
     and-yes : (t : Bool) → t && true ≡ t
     and-yes true = refl
@@ -79,7 +79,7 @@ told-end r (c ∷ l) k =
     let off : cutOff bytes ≡ true = rw (cut, le-leb (length bytes) longest (k .few)) in
     ap (toldFrom r) (cut-none bytes some (k .part)) ∙ told-here r bytes [] (λ z. omega (arith, z, faulty))
     ∙ ap (λ (t : Bool). tellOf (r .lines + 1) (cond t isMissing (whyOf (rewrites .refusal r bytes)))) off
-    ∙ sym (ends-with r (suc (length l)) (k .sound) ∙ ap (λ (t : Bool). cond t [] (tellOf (r .lines + 1) isMissing)) (ap (λ (t : Bool). r .ended && t) (ne-eqb (suc (length l)) 0 (λ e. omega arith)) ∙ and-no (r .ended)))
+    ∙ sym (ends-with r (suc (length l)) (k .sound) ∙ ap (λ (t : Bool). cond t [] (tellOf (r .lines + 1) isMissing)) (ap (λ (t : Bool). hasEnded r && t) (ne-eqb (suc (length l)) 0 (λ e. omega arith)) ∙ and-no (hasEnded r)))
   where
     and-no : (t : Bool) → t && false ≡ false
     and-no true = refl

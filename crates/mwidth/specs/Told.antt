@@ -5,7 +5,7 @@ use mathlib.Core.List.{List, [], _∷_, _++_}
 use lib.Dec.{eqb}
 use lib.IntN.{pos}
 use Rattle.text.specs.Decimals.{plain, decimalOf}
-use Rattle.readback.specs.Steps.{fresh}
+use Rattle.readback.specs.Steps.{fresh, hasEnded}
 use Rattle.readback.specs.Pieces.{cutIn, cutOff}
 use Rattle.readback.specs.Rewriting.{tooWide, rewrites}
 use Rattle.readback.specs.declared.Readback.{Readback}
@@ -36,7 +36,7 @@ whyOf number = cond (eqb number tooWide) isTooWide isFaulty
 
 -- the first line that is not rewritten, which is the one behind those that have passed: it is missing, or cut off by the end, or refused
 unfoldable pub toldFrom : Readback → List (List ℕ) → List ℕ
-toldFrom r [] = cond (r .ended) [] (tellOf (r .lines + 1) isMissing)
+toldFrom r [] = cond (hasEnded r) [] (tellOf (r .lines + 1) isMissing)
 toldFrom r (l ∷ ls) =
     cond (eqb (rewrites .refusal r l) 0) (toldFrom (rewrites .next r l) ls)
     (tellOf (r .lines + 1) (cond (cutOff l) isMissing (whyOf (rewrites .refusal r l))))

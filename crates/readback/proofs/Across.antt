@@ -20,20 +20,20 @@ use Rattle.listing.specs.declared.Item.the-variants as item
 use Rattle.listing.specs.declared.Given.{Given}
 use Rattle.listing.specs.declared.Given.the-variants.{Nothing, One}
 use Rattle.readback.specs.Items.{Numbered, Proper, itemIn, widthIn, salvageIn}
-use Rattle.readback.specs.Steps.{widthKnown, readback, fresh, openedAt, passedBy, above, faulty, said, stepOf, good}
+use Rattle.readback.specs.Steps.{widthKnown, fresh, openedAt, passedBy, above, faulty, said, stepOf, good, hasEnded, ofSalvage}
 use Rattle.readback.specs.Pieces.{cutIn, isWhole, bodyOf, faultyLine, reads}
 use Rattle.readback.specs.Rewriting.{otherWidth, tooWide, fitsAt, givenFits, rewrites}
 use Rattle.readback.specs.Whole.{readingFrom}
 use Rattle.readback.specs.declared.Readback.{Readback}
 use Rattle.readback.specs.declared.Step.{Step}
-use Rattle.readback.proofs.Goodness.{unread, known-is, step-ended, step-first, step-item, step-leaves}
+use Rattle.readback.proofs.Goodness.{mark-is, unread, known-is, step-ended, step-first, step-item, step-leaves}
 use Rattle.readback.proofs.Grammar.{Reads, item-read}
 use Rattle.readback.proofs.AsItWas.{cut-first, line-whole, letter-plain, first-plain, item-step, first-step}
 use Rattle.readback.proofs.Rewrites.{other-known}
 
 -- the reader of the rewritten listing
 abbrev pub across : Readback → Readback
-across r = readback (r .salvage) (cond (eqb (r .lines) 0) 0 (otherWidth (r .width))) (r .last) (r .lines) (r .ended)
+across r = record { width = cond (eqb (r .lines) 0) 0 (otherWidth (r .width)); ended = r .ended; salvage = r .salvage; last = r .last; lines = r .lines }
 
 -- a proper item whose number fits the other width is proper there
 numbered : (w n : ℕ) → widthKnown w ≡ true → leb n (mostAt w) ≡ true → Numbered w n
@@ -51,9 +51,9 @@ proper-there w v item.Over k f h = tt
 
 -- what a line does at the other width
 pub record Same (r : Readback) (s : Step) : Type 0 where
-  pub whole : isWhole (lineAt (s .next .salvage) (otherWidth (s .next .width)) (s .given)) ≡ true
-  pub step : stepOf (across r) (bodyOf (lineAt (s .next .salvage) (otherWidth (s .next .width)) (s .given))) ≡ record { good = true; next = across (s .next); given = s .given }
-  pub cut : (rest : List ℕ) → cutIn (lineAt (s .next .salvage) (otherWidth (s .next .width)) (s .given) ++ rest) ≡ lineAt (s .next .salvage) (otherWidth (s .next .width)) (s .given) ∷ cutIn rest
+  pub whole : isWhole (lineAt (ofSalvage (s .next)) (otherWidth (s .next .width)) (s .given)) ≡ true
+  pub step : stepOf (across r) (bodyOf (lineAt (ofSalvage (s .next)) (otherWidth (s .next .width)) (s .given))) ≡ record { good = true; next = across (s .next); given = s .given }
+  pub cut : (rest : List ℕ) → cutIn (lineAt (ofSalvage (s .next)) (otherWidth (s .next .width)) (s .given) ++ rest) ≡ lineAt (ofSalvage (s .next)) (otherWidth (s .next .width)) (s .given) ∷ cutIn rest
 
 abbrev Goes : Readback → Step → Type 0
 Goes r s = s .good ≡ true → givenFits (otherWidth (s .next .width)) (s .given) ≡ true → Same r s
@@ -63,19 +63,19 @@ module _ (r : Readback) (g : good r ≡ true) where
   no-item y f = absurd (true≢false (sym y))
 
   -- the first line
-  first-goes : r .lines ≡ 0 → r .ended ≡ false → (s : Bool) (w : ℕ) → widthKnown w ≡ true → Goes r (record { good = true; next = openedAt s w; given = Nothing })
+  first-goes : r .lines ≡ 0 → hasEnded r ≡ false → (s : Bool) (w : ℕ) → widthKnown w ≡ true → Goes r (record { good = true; next = openedAt s w; given = Nothing })
   first-goes z on s w k y f =
       let v = otherWidth w in
       let none = unread r g z in
-      let is-fresh : across r ≡ fresh = rw (eq-eqb (r .lines) 0 z) (rw (z, on, none .0, none .1) refl) in
+      let is-fresh : across r ≡ fresh = rw (eq-eqb (r .lines) 0 z) (rw (z, none .0, none .1, none .2) refl) in
       record {
-        whole = line-whole v (openingOf s v) (first-plain s);
-        step = ap (λ (q : Readback). stepOf q (bodyOf (lineOf v (openingOf s v)))) is-fresh ∙ first-step s v (other-known w);
-        cut = cut-first v (openingOf s v) (first-plain s);
+        whole = rw (mark-is s) (line-whole v (openingOf s v) (first-plain s));
+        step = rw (mark-is s) (ap (λ (q : Readback). stepOf q (bodyOf (lineOf v (openingOf s v)))) is-fresh ∙ first-step s v (other-known w));
+        cut = λ rest. rw (mark-is s) (cut-first v (openingOf s v) (first-plain s) rest);
       }
 
   -- an item's
-  item-goes : (n : r .lines ≡ 0 → ⊥) → r .ended ≡ false → (i : Item) → Proper (r .width) i → above (r .last) i ≡ true → Goes r (record { good = true; next = passedBy r i; given = One i })
+  item-goes : (n : r .lines ≡ 0 → ⊥) → hasEnded r ≡ false → (i : Item) → Proper (r .width) i → above (r .last) i ≡ true → Goes r (record { good = true; next = passedBy r i; given = One i })
   item-goes n on i h up y f =
       let v = otherWidth (r .width) in
       let wide : across r .width ≡ v = rw (ne-eqb (r .lines) 0 n) in
@@ -92,13 +92,13 @@ module _ (r : Readback) (g : good r ≡ true) where
 
   -- whatever it is
   pub line-goes : (line : List ℕ) → Goes r (stepOf r line)
-  line-goes line = go (r .ended) refl (eqb (r .lines) 0) refl
+  line-goes line = go (hasEnded r) refl (eqb (r .lines) 0) refl
     where
-      said-goes : (n : r .lines ≡ 0 → ⊥) → r .ended ≡ false → (i : Given) → Reads (r .width) line i → Goes r (said r i)
+      said-goes : (n : r .lines ≡ 0 → ⊥) → hasEnded r ≡ false → (i : Given) → Reads (r .width) line i → Goes r (said r i)
       said-goes n on Nothing h = no-item
       said-goes n on (One i) h = cases (Goes r) (above (r .last) i) (λ up. item-goes n on i (h .1) up) (λ _. no-item)
 
-      go : (t : Bool) → r .ended ≡ t → (u : Bool) → eqb (r .lines) 0 ≡ u → Goes r (stepOf r line)
+      go : (t : Bool) → hasEnded r ≡ t → (u : Bool) → eqb (r .lines) 0 ≡ u → Goes r (stepOf r line)
       go true e u z = subst (Goes r) (sym (step-ended r line e)) no-item
       go false e true z =
           subst (Goes r) (sym (step-first r line e (eqb-true _ _ z)))

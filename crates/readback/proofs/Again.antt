@@ -19,13 +19,13 @@ use Rattle.listing.specs.declared.Item.the-variants as item
 use Rattle.listing.specs.declared.Given.{Given}
 use Rattle.listing.specs.declared.Given.the-variants.{Nothing, One}
 use Rattle.readback.specs.Items.{Proper, itemIn, widthIn, salvageIn}
-use Rattle.readback.specs.Steps.{widthKnown, fresh, openedAt, passedBy, lastBehind, above, closes, faulty, opens, said, stepOf}
+use Rattle.readback.specs.Steps.{widthKnown, fresh, openedAt, passedBy, lastBehind, above, closes, faulty, opens, said, stepOf, hasEnded, ofSalvage}
 use Rattle.readback.specs.Pieces.{cutIn, bytesIn, isWhole, bodyOf, faultyLine, reads}
 use Rattle.readback.specs.Whole.{Reading, reading, readingFrom, readingOf, printed, Listed}
 use Rattle.readback.specs.declared.Readback.{Readback}
 use Rattle.readback.specs.declared.Step.{Step}
 use Rattle.readback.proofs.Cuts.{bytes-cut}
-use Rattle.readback.proofs.Goodness.{known-some, step-ended, step-first, step-item}
+use Rattle.readback.proofs.Goodness.{known-some, step-ended, step-first, step-item, mark-is}
 use Rattle.readback.proofs.Grammar.{Reads, item-read, width-read}
 
 -- the lines of bytes have no newline but the last byte
@@ -64,7 +64,7 @@ not-refused r l h = go (isWhole l && stepOf r (bodyOf l) .good) h
     go false h = absurd (true≢false (sym h))
 
 -- behind the end nothing more is accepted
-none-behind : (r : Readback) (ls : List (List ℕ)) → r .ended ≡ true → readingFrom r ls .fault ≡ 0 → (ls ≡ []) × (readingFrom r ls .items ≡ []) × (readingFrom r ls .salvage ≡ r .salvage)
+none-behind : (r : Readback) (ls : List (List ℕ)) → hasEnded r ≡ true → readingFrom r ls .fault ≡ 0 → (ls ≡ []) × (readingFrom r ls .items ≡ []) × (readingFrom r ls .salvage ≡ ofSalvage r)
 unfolding readingFrom
 none-behind r [] e h = (refl, refl, refl)
 none-behind r (l ∷ ls) e h = go (eqb (reads .refusal r l) success) refl h
@@ -72,9 +72,9 @@ none-behind r (l ∷ ls) e h = go (eqb (reads .refusal r l) success) refl h
     later : Reading
     later = readingFrom (reads .next r l) ls
 
-    go : (t : Bool) → eqb (reads .refusal r l) success ≡ t → cond t (reading (later .salvage) (itemsIn (reads .answer r l) ++ later .items) (later .fault)) (reading (r .salvage) [] (r .lines + 1)) .fault ≡ 0
-        → (l ∷ ls ≡ []) × (cond t (reading (later .salvage) (itemsIn (reads .answer r l) ++ later .items) (later .fault)) (reading (r .salvage) [] (r .lines + 1)) .items ≡ [])
-        × (cond t (reading (later .salvage) (itemsIn (reads .answer r l) ++ later .items) (later .fault)) (reading (r .salvage) [] (r .lines + 1)) .salvage ≡ r .salvage)
+    go : (t : Bool) → eqb (reads .refusal r l) success ≡ t → cond t (reading (later .salvage) (itemsIn (reads .answer r l) ++ later .items) (later .fault)) (reading (ofSalvage r) [] (r .lines + 1)) .fault ≡ 0
+        → (l ∷ ls ≡ []) × (cond t (reading (later .salvage) (itemsIn (reads .answer r l) ++ later .items) (later .fault)) (reading (ofSalvage r) [] (r .lines + 1)) .items ≡ [])
+        × (cond t (reading (later .salvage) (itemsIn (reads .answer r l) ++ later .items) (later .fault)) (reading (ofSalvage r) [] (r .lines + 1)) .salvage ≡ ofSalvage r)
     go true t h =
         let g = right (isWhole l) (stepOf r (bodyOf l) .good) (not-refused r l t) in
         absurd (true≢false (sym g ∙ ap (λ (s : Step). s .good) (step-ended r (bodyOf l) e)))
@@ -119,7 +119,7 @@ said-went r body (One i) h e = go (above (r .last) i) refl e
     go true a e = (i, refl, h .0, h .1, a)
     go false a e = absurd (true≢false (sym e))
 
-pub step-went : (r : Readback) (body : List ℕ) → r .ended ≡ false → (r .lines ≡ 0 → ⊥) → Went r body (stepOf r body)
+pub step-went : (r : Readback) (body : List ℕ) → hasEnded r ≡ false → (r .lines ≡ 0 → ⊥) → Went r body (stepOf r body)
 step-went r body on b = subst (Went r body) (sym (step-item r body on b)) (said-went r body (itemIn (r .width) body) (item-read (r .width) body))
 
 line-of : (w : ℕ) (i : Item) (body : List ℕ) → headOf w (formOf i) ≡ body → lineOf w (formOf i) ≡ body ++ newline ∷ []
@@ -128,23 +128,23 @@ line-of w i body e = ap (λ (k : List ℕ). k ++ newline ∷ []) e
 
 -- what is accepted behind a reader that has not ended
 abbrev Rest : List (List ℕ) → Type 0
-Rest ls = (r : Readback) → r .ended ≡ false → (r .lines ≡ 0 → ⊥) → Tidy ls → readingFrom r ls .fault ≡ 0 → Accepted (r .salvage) (r .width) (r .last) (readingFrom r ls) (bytesIn ls)
+Rest ls = (r : Readback) → hasEnded r ≡ false → (r .lines ≡ 0 → ⊥) → Tidy ls → readingFrom r ls .fault ≡ 0 → Accepted (ofSalvage r) (r .width) (r .last) (readingFrom r ls) (bytesIn ls)
 
 item-front : (r : Readback) (i : Item) (l : List ℕ) (ls : List (List ℕ)) → lineOf (r .width) (formOf i) ≡ l → Proper (r .width) i → above (r .last) i ≡ true → Tidy ls
     → readingFrom (passedBy r i) ls .fault ≡ 0 → Rest ls → (c : Bool) → closes i ≡ c
-    → let later = readingFrom (passedBy r i) ls in Accepted (r .salvage) (r .width) (r .last) (reading (later .salvage) (i ∷ later .items) (later .fault)) (l ++ bytesIn ls)
+    → let later = readingFrom (passedBy r i) ls in Accepted (ofSalvage r) (r .width) (r .last) (reading (later .salvage) (i ∷ later .items) (later .fault)) (l ++ bytesIn ls)
 item-front r i l ls line p u t f ih true e =
-    let n = none-behind (passedBy r i) ls e f in
+    let n = none-behind (passedBy r i) ls (mark-is (closes i) ∙ e) f in
     (ends-it (r .width) i (readingFrom (passedBy r i) ls .items) (r .last) p u e (n .1), rw (line, n .1, n .0), n .2)
 item-front r i l ls line p u t f ih false e =
-    let a = ih (passedBy r i) e (λ z. omega arith) t f in
+    let a = ih (passedBy r i) (mark-is (closes i) ∙ e) (λ z. omega arith) t f in
     (goes-before (r .width) i (readingFrom (passedBy r i) ls .items) (r .last) p u e (a .0), rw (line, a .1), a .2)
 
-module _ (l : List ℕ) (ls : List (List ℕ)) (r : Readback) (on : r .ended ≡ false) (b : r .lines ≡ 0 → ⊥) (t : Tidy (l ∷ ls)) (ih : Rest ls) where
+module _ (l : List ℕ) (ls : List (List ℕ)) (r : Readback) (on : hasEnded r ≡ false) (b : r .lines ≡ 0 → ⊥) (t : Tidy (l ∷ ls)) (ih : Rest ls) where
   abbrev all : Bool → Reading
-  all u = let later = readingFrom (reads .next r l) ls in cond u (reading (later .salvage) (itemsIn (reads .answer r l) ++ later .items) (later .fault)) (reading (r .salvage) [] (r .lines + 1))
+  all u = let later = readingFrom (reads .next r l) ls in cond u (reading (later .salvage) (itemsIn (reads .answer r l) ++ later .items) (later .fault)) (reading (ofSalvage r) [] (r .lines + 1))
 
-  line-front : (u : Bool) → eqb (reads .refusal r l) success ≡ u → all u .fault ≡ 0 → Accepted (r .salvage) (r .width) (r .last) (all u) (l ++ bytesIn ls)
+  line-front : (u : Bool) → eqb (reads .refusal r l) success ≡ u → all u .fault ≡ 0 → Accepted (ofSalvage r) (r .width) (r .last) (all u) (l ++ bytesIn ls)
   line-front false e h = absurd (omega (arith, h))
   line-front true e h =
       let both = not-refused r l e in
@@ -180,7 +180,7 @@ first-line s w body e = ap (λ (k : List ℕ). k ++ newline ∷ []) e
 
 module _ (bytes l : List ℕ) (ls : List (List ℕ)) (is : l ++ bytesIn ls ≡ bytes) (t : Tidy (l ∷ ls)) where
   abbrev both : Bool → Reading
-  both u = let later = readingFrom (reads .next fresh l) ls in cond u (reading (later .salvage) (itemsIn (reads .answer fresh l) ++ later .items) (later .fault)) (reading (fresh .salvage) [] (fresh .lines + 1))
+  both u = let later = readingFrom (reads .next fresh l) ls in cond u (reading (later .salvage) (itemsIn (reads .answer fresh l) ++ later .items) (later .fault)) (reading (ofSalvage fresh) [] (fresh .lines + 1))
 
   first-front : (u : Bool) → eqb (reads .refusal fresh l) success ≡ u → both u .fault ≡ 0 → Printed bytes (both u)
   unfolding printed
@@ -196,7 +196,7 @@ module _ (bytes l : List ℕ) (ls : List (List ℕ)) (is : l ++ bytesIn ls ≡ b
       let a = accepted-from ls (openedAt s w) refl (λ z. omega arith) (t .1) fault in
       let line : l ≡ lineOf w (openingOf s w) =
       sym (whole-is l (left (isWhole l) (stepOf fresh (bodyOf l) .good) two) (t .0)) ∙ first-line s w (bodyOf l) (width-read (bodyOf l) (λ z. omega (arith, z, known-some w (went .0)))) in
-      rw step (record { width = w; known = went .0; listed = a .0; again = rw (a .1, a .2, ← line) is })
+      rw step (record { width = w; known = went .0; listed = a .0; again = rw (a .1, a .2 ∙ mark-is s, ← line) is })
 
 pub accepted : (bytes : List ℕ) → readingOf bytes .fault ≡ 0 → Printed bytes (readingOf bytes)
 unfolding readingOf readingFrom

@@ -22,12 +22,12 @@ use Rattle.listing.proofs.Ordered.{Ordered, ordered}
 use Rattle.listing.proofs.Widths.{same-at-four-and-six}
 use Rattle.readback.specs.Fields.{high}
 use Rattle.readback.specs.Items.{Sixteen, Numbered, Proper, itemIn, widthIn}
-use Rattle.readback.specs.Steps.{widthKnown, fresh, openedAt, passedBy, above, faulty, opens, said, stepOf, good}
+use Rattle.readback.specs.Steps.{widthKnown, fresh, openedAt, passedBy, above, faulty, opens, said, stepOf, good, hasEnded, ofSalvage}
 use Rattle.readback.specs.Pieces.{cutIn, isWhole, bodyOf}
 use Rattle.readback.specs.Whole.{Reading, reading, readingFrom, readingOf, printed, Listed}
 use Rattle.readback.specs.declared.Readback.{Readback}
 use Rattle.readback.proofs.Cuts.{cut-line}
-use Rattle.readback.proofs.Goodness.{known-few, step-first, step-item}
+use Rattle.readback.proofs.Goodness.{known-few, step-first, step-item, mark-is}
 use Rattle.readback.proofs.Grammar.{past, field-above, read-item, read-width, read-kind}
 
 -- a line has no newline but its last byte
@@ -81,7 +81,7 @@ letter-plain (item.E n) = refl
 letter-plain item.Over = refl
 
 -- a line of an item, in its place
-module _ (p : ℕ) (r : Readback) (at : r .width ≡ suc p) (on : r .ended ≡ false) (begun : r .lines ≡ 0 → ⊥) (i : Item) (proper : Proper (suc p) i) (up : above (r .last) i ≡ true) where
+module _ (p : ℕ) (r : Readback) (at : r .width ≡ suc p) (on : hasEnded r ≡ false) (begun : r .lines ≡ 0 → ⊥) (i : Item) (proper : Proper (suc p) i) (up : above (r .last) i ≡ true) where
   pub item-step : stepOf r (bodyOf (lineOf (suc p) (formOf i))) ≡ record { good = true; next = passedBy r i; given = One i }
   item-step =
       ap (stepOf r) (line-body (suc p) (formOf i) (letter-plain i)) ∙ step-item r (headOf (suc p) (formOf i)) on begun
@@ -93,8 +93,8 @@ module _ (p : ℕ) (r : Readback) (at : r .width ≡ suc p) (on : r .ended ≡ f
   item-goes ls = rw (line-whole (suc p) (formOf i) (letter-plain i), item-step)
 
 -- items one behind the other
-items-back : (p : ℕ) (is : List Item) (r : Readback) → r .width ≡ suc p → r .ended ≡ false → (r .lines ≡ 0 → ⊥) → Listed (suc p) (r .last) is
-    → readingFrom r (cutIn (allBytes (suc p) is)) ≡ reading (r .salvage) is 0
+items-back : (p : ℕ) (is : List Item) (r : Readback) → r .width ≡ suc p → hasEnded r ≡ false → (r .lines ≡ 0 → ⊥) → Listed (suc p) (r .last) is
+    → readingFrom r (cutIn (allBytes (suc p) is)) ≡ reading (ofSalvage r) is 0
 unfolding readingFrom cutIn
 items-back p [] r at on b h = absurd h
 items-back p (item.R n k x y ∷ is) r at on b h =
@@ -130,7 +130,7 @@ pub printed-read : (s : Bool) (p : ℕ) (is : List Item) → widthKnown (suc p) 
 unfolding readingOf printed
 printed-read s p is k h =
     ap (readingFrom fresh) (cut-first (suc p) (openingOf s (suc p)) (first-plain s) (allBytes (suc p) is)) ∙ first-goes s (suc p) k (cutIn (allBytes (suc p) is))
-    ∙ items-back p is (openedAt s (suc p)) refl refl (λ z. omega arith) h
+    ∙ items-back p is (openedAt s (suc p)) refl refl (λ z. omega arith) h ∙ ap (λ (t : Bool). reading t is 0) (mark-is s)
 
 -- the items of the lister are such
 four-digits : (x : ℤ) → natAbs x < 10 ^ 4 → Sixteen x

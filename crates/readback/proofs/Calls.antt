@@ -25,7 +25,7 @@ use Rattle.listing.specs.declared.Item.{Item}
 use Rattle.listing.specs.declared.Given.{Given}
 use Rattle.listing.specs.declared.Given.the-variants.{Nothing, One}
 use Rattle.readback.specs.Items.{allNumbers}
-use Rattle.readback.specs.Steps.{fresh, stepOf, good}
+use Rattle.readback.specs.Steps.{fresh, stepOf, good, hasEnded, ofSalvage}
 use Rattle.readback.specs.Pieces.{cutIn, bytesIn, isWhole, bodyOf, faultyLine, reads, linesOf, itemsAmong, back, whole, readLines}
 use Rattle.readback.specs.Promises.{refused, finishOf, ReadPromise, FinishPromise}
 use Rattle.readback.specs.Calls.{readCalls}
@@ -44,7 +44,7 @@ numbers-append : (a b : List Item) → allNumbers (a ++ b) ≡ allNumbers a ++ a
 numbers-append [] b = refl
 numbers-append (i ∷ a) b = rw (numbers-append a b)
 
-pub numbers-written : (gs : List Given) → written reads gs ≡ allNumbers (itemsAmong gs)
+numbers-written : (gs : List Given) → written reads gs ≡ allNumbers (itemsAmong gs)
 numbers-written [] = refl
 numbers-written (g ∷ gs) = rw (numbers-written gs) (sym (numbers-append (itemsIn g) (itemsAmong gs)))
 
@@ -57,6 +57,15 @@ reads-lawful =
       plus = λ l k. ap length (items-append l k) ∙ length-append (itemsAmong l) (itemsAmong k);
       filled = five-each;
     }
+
+-- what lines say, in front of what the lines behind them do
+abbrev Says : Readback → List (List ℕ) → List Given → Readback → List (List ℕ) → Type 0
+Says r ls answers next more = readingFrom r ls ≡ before (itemsAmong answers) (readingFrom next more)
+
+says-line : (r : Readback) (l : List ℕ) (ls : List (List ℕ)) (answers : List Given) (next : Readback) (more : List (List ℕ)) → reads .refusal r l ≡ 0
+    → Says (reads .next r l) ls answers next more → Says r (l ∷ ls) (reads .answer r l ∷ answers) next more
+unfolding readingFrom
+says-line r l ls answers next more z ih = rw (eq-eqb (reads .refusal r l) success z, ih, append-assoc)
 
 -- a call of a good reader
 module _ (r : Readback) (piece : List ℕ) (out after : List ℤ) (a : Back) (g : good r ≡ true) (p : ReadPromise r piece out a after) where
@@ -71,14 +80,6 @@ module _ (r : Readback) (piece : List ℕ) (out after : List ℤ) (a : Back) (g 
   next-good = over-lines.next-good readLines reads-lawful r piece out g p
 
   -- what the bytes taken say, and what the piece says, with more behind them
-  abbrev Says : Readback → List (List ℕ) → List Given → Readback → List (List ℕ) → Type 0
-  Says r ls answers next more = readingFrom r ls ≡ before (itemsAmong answers) (readingFrom next more)
-
-  says-line : (r : Readback) (l : List ℕ) (ls : List (List ℕ)) (answers : List Given) (next : Readback) (more : List (List ℕ)) → reads .refusal r l ≡ 0 → Says (reads .next r l) ls answers next more
-      → Says r (l ∷ ls) (reads .answer r l ∷ answers) next more
-  unfolding readingFrom
-  says-line r l ls answers next more z ih = rw (eq-eqb (reads .refusal r l) success z, ih, append-assoc)
-
   call-says : (q : List ℕ) → Says r (cutIn (take (a .taken) piece ++ q)) (f .answers) (a .next) (cutIn q)
   call-says = over-call readLines reads-lawful r piece out g p Says (λ r ls. refl) says-line
 
@@ -86,7 +87,7 @@ module _ (r : Readback) (piece : List ℕ) (out after : List ℤ) (a : Back) (g 
   piece-says = over-piece readLines reads-lawful r piece out g p Says (λ r ls. refl) says-line
 
 -- what calls gave, and what comes behind the bytes that they took
-pub record Said (r : Readback) (bytes : List ℕ) (numbers : List ℤ) (next : Readback) (rest : List ℕ) : Type 0 where
+record Said (r : Readback) (bytes : List ℕ) (numbers : List ℤ) (next : Readback) (rest : List ℕ) : Type 0 where
   pub items : List Item
   pub wrote : numbers ≡ allNumbers items
   pub says : readingFrom r (cutIn bytes) ≡ before items (readingFrom next (cutIn rest))
@@ -110,9 +111,9 @@ calls-say =
     record { items = itemsAmong (run reads r (linesOf piece) (length out) .answers); wrote = call-numbers r piece out after a g p; says = call-says r piece out after a g p q })
 
 -- the end of the listing, of which so many bytes are left
-finish-line : (r : Readback) (n : ℕ) (a : Back) → good r ≡ true → FinishPromise r n a → a .line ≡ cond (r .ended && eqb n 0) 0 (r .lines + 1)
+finish-line : (r : Readback) (n : ℕ) (a : Back) → good r ≡ true → FinishPromise r n a → a .line ≡ cond (hasEnded r && eqb n 0) 0 (r .lines + 1)
 unfolding finishOf
-finish-line r n a g p = ap (λ (b : Back). b .line) (p ∙ ap (λ (t : Bool). cond t (cond (r .ended && eqb n 0) (back success r 0 0 0) (back faultyLine r 0 0 (r .lines + 1))) (refused r)) g) ∙ go (r .ended && eqb n 0)
+finish-line r n a g p = ap (λ (b : Back). b .line) (p ∙ ap (λ (t : Bool). cond t (cond (hasEnded r && eqb n 0) (back success r 0 0 0) (back faultyLine r 0 0 (r .lines + 1))) (refused r)) g) ∙ go (hasEnded r && eqb n 0)
   where
     go : (t : Bool) → cond t (back success r 0 0 0) (back faultyLine r 0 0 (r .lines + 1)) .line ≡ cond t 0 (r .lines + 1)
     go true = refl
@@ -127,25 +128,25 @@ and-no true = refl
 and-no false = refl
 
 -- a line that is refused
-refused-here : (r : Readback) (l : List ℕ) (ls : List (List ℕ)) → reads .refusal r l ≡ faultyLine → readingFrom r (l ∷ ls) ≡ reading (r .salvage) [] (r .lines + 1)
+refused-here : (r : Readback) (l : List ℕ) (ls : List (List ℕ)) → reads .refusal r l ≡ faultyLine → readingFrom r (l ∷ ls) ≡ reading (ofSalvage r) [] (r .lines + 1)
 unfolding readingFrom
 refused-here r l ls e = rw e
 
-no-newline : (r : Readback) (l : List ℕ) → 0 < length l → lengthTo newline l ≡ length l → readingFrom r (cutIn l) ≡ reading (r .salvage) [] (r .lines + 1)
+no-newline : (r : Readback) (l : List ℕ) → 0 < length l → lengthTo newline l ≡ length l → readingFrom r (cutIn l) ≡ reading (ofSalvage r) [] (r .lines + 1)
 no-newline r l some none = ap (readingFrom r) (cut-none l some none) ∙ refused-here r l [] (rw (not-whole l some none))
 
 pub finish-says : (r : Readback) (left : List ℕ) (a : Back) → good r ≡ true → lengthTo newline left ≡ length left → FinishPromise r (length left) a
-    → readingFrom r (cutIn left) ≡ reading (r .salvage) [] (a .line)
+    → readingFrom r (cutIn left) ≡ reading (ofSalvage r) [] (a .line)
 unfolding readingFrom cutIn
-finish-says r [] a g n p = ap (reading (r .salvage) []) (sym (finish-line r 0 a g p ∙ ap (λ (t : Bool). cond t 0 (r .lines + 1)) (and-yes (r .ended))))
+finish-says r [] a g n p = ap (reading (ofSalvage r) []) (sym (finish-line r 0 a g p ∙ ap (λ (t : Bool). cond t 0 (r .lines + 1)) (and-yes (hasEnded r))))
 finish-says r (c ∷ l) a g n p =
     no-newline r (c ∷ l) (omega arith) n
-    ∙ ap (reading (r .salvage) []) (sym (finish-line r (suc (length l)) a g p ∙ ap (λ (t : Bool). cond (r .ended && t) 0 (r .lines + 1)) (ne-eqb (suc (length l)) 0 (λ e. omega arith)) ∙ ap (λ (t : Bool). cond t 0 (r .lines + 1)) (and-no (r .ended))))
+    ∙ ap (reading (ofSalvage r) []) (sym (finish-line r (suc (length l)) a g p ∙ ap (λ (t : Bool). cond (hasEnded r && t) 0 (r .lines + 1)) (ne-eqb (suc (length l)) 0 (λ e. omega arith)) ∙ ap (λ (t : Bool). cond t 0 (r .lines + 1)) (and-no (hasEnded r))))
 
 -- IN CALLS: what a fresh reader wrote is the numbers of the items that the listing says, its end tells the listing's fault, if it has one, and it says which
 -- listing it read
 pub in-calls : (ks : List (Call Back ℤ)) (left : List ℕ) (a : Back) → Permitted readCalls fresh ks → lengthTo newline left ≡ length left → FinishPromise (after readCalls fresh ks) (length left) a
-    → let said = readingOf (takenBy readCalls ks ++ left) in (writtenBy readCalls ks ≡ allNumbers (said .items)) × (a .line ≡ said .fault) × (after readCalls fresh ks .salvage ≡ said .salvage)
+    → let said = readingOf (takenBy readCalls ks ++ left) in (writtenBy readCalls ks ≡ allNumbers (said .items)) × (a .line ≡ said .fault) × (ofSalvage (after readCalls fresh ks) ≡ said .salvage)
 unfolding readingOf
 in-calls ks left a h n p =
     let s = calls-say ks left fresh goodness.fresh-is-good h in
@@ -157,7 +158,7 @@ module _ (r : Readback) (piece : List ℕ) (out after : List ℤ) (a : Back) (g 
   pub told-at : a .line ≡ a .next .lines + 1
   told-at = told-line readLines reads-lawful r piece out g p (λ z. omega (arith, z, no))
 
-  pub fault-says : (q : List ℕ) → readingFrom r (cutIn (piece ++ q)) ≡ reading (a .next .salvage) (itemsAmong (run reads r (linesOf piece) (length out) .answers)) (a .line)
+  pub fault-says : (q : List ℕ) → readingFrom r (cutIn (piece ++ q)) ≡ reading (ofSalvage (a .next)) (itemsAmong (run reads r (linesOf piece) (length out) .answers)) (a .line)
   fault-says q =
       let items = itemsAmong (run reads r (linesOf piece) (length out) .answers) in
       let k = refused-line readLines reads-lawful r piece out g p (λ z. omega (arith, z, no)) q in
@@ -165,7 +166,7 @@ module _ (r : Readback) (piece : List ℕ) (out after : List ℤ) (a : Back) (g 
       ∙ ap (before items) (refused-here (a .next) (k .line) (k .later) (k .number ∙ no)) ∙ rw (append-nil items, told-at)
 
 pub fault-told : (ks : List (Call Back ℤ)) (piece rest : List ℕ) (out left : List ℤ) (a : Back) → Permitted readCalls fresh ks → ReadPromise (after readCalls fresh ks) piece out a left → a .refusal ≡ faultyLine
-    → let said = readingOf (takenBy readCalls ks ++ (piece ++ rest)) in (writtenBy readCalls ks ++ take (5 * a .items) left ≡ allNumbers (said .items)) × (a .line ≡ said .fault) × (a .next .salvage ≡ said .salvage)
+    → let said = readingOf (takenBy readCalls ks ++ (piece ++ rest)) in (writtenBy readCalls ks ++ take (5 * a .items) left ≡ allNumbers (said .items)) × (a .line ≡ said .fault) × (ofSalvage (a .next) ≡ said .salvage)
 unfolding readingOf
 fault-told ks piece rest out left a h p seven =
     let g = after-good ks fresh goodness.fresh-is-good h in

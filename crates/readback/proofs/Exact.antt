@@ -17,7 +17,7 @@ use Rattle.listing.specs.Printing.{formOf, lineOf, openingOf, allBytes}
 use Rattle.listing.specs.declared.Item.{Item}
 use Rattle.listing.specs.declared.Item.the-variants as item
 use Rattle.readback.specs.Items.{Numbered, Proper}
-use Rattle.readback.specs.Steps.{widthKnown, fresh, openedAt, passedBy, above, good}
+use Rattle.readback.specs.Steps.{widthKnown, fresh, openedAt, passedBy, above, good, hasEnded}
 use Rattle.readback.specs.Pieces.{cutIn, faultyLine, reads}
 use Rattle.readback.specs.Rewriting.{otherWidth, fitsAt, rewrites, rewriteLines}
 use Rattle.readback.specs.Promises.{RewritePromise}
@@ -28,7 +28,7 @@ use Rattle.readback.specs.declared.Readback.{Readback}
 use Rattle.readback.specs.declared.Rewritten.{Rewritten}
 use Rattle.readback.proofs.Again.{accepted}
 use Rattle.readback.proofs.AsItWas.{cut-first, line-whole, letter-plain, item-step, first-plain, first-step}
-use Rattle.readback.proofs.Goodness.{known-is, fresh-is-good}
+use Rattle.readback.proofs.Goodness.{known-is, fresh-is-good, mark-is}
 use Rattle.readback.proofs.Other.{goes-on, refused-line, calls-good, in-any-calls}
 use Rattle.readback.proofs.OverLines.{over-call, over-piece}
 use Rattle.readback.proofs.Rewrites.{other-known, rewrites-lawful, taken-read, faulty-read}
@@ -59,7 +59,7 @@ module _ (r next : Readback) (l text : List ℕ) (cut : (rest : List ℕ) → cu
       )
 
 -- the line of an item
-module _ (p : ℕ) (r : Readback) (at : r .width ≡ suc p) (on : r .ended ≡ false) (begun : r .lines ≡ 0 → ⊥) (i : Item) (proper : Proper (suc p) i) (up : above (r .last) i ≡ true) where
+module _ (p : ℕ) (r : Readback) (at : r .width ≡ suc p) (on : hasEnded r ≡ false) (begun : r .lines ≡ 0 → ⊥) (i : Item) (proper : Proper (suc p) i) (up : above (r .last) i ≡ true) where
   abbrev line : List ℕ
   line = lineOf (suc p) (formOf i)
 
@@ -86,7 +86,7 @@ module _ (p : ℕ) (r : Readback) (at : r .width ≡ suc p) (on : r .ended ≡ f
 
 -- items
 module _ (p : ℕ) where
-  items-written : (is : List Item) (r : Readback) → r .width ≡ suc p → r .ended ≡ false → (r .lines ≡ 0 → ⊥) → Listed (suc p) (r .last) is → Fits (otherWidth (suc p)) is
+  items-written : (is : List Item) (r : Readback) → r .width ≡ suc p → hasEnded r ≡ false → (r .lines ≡ 0 → ⊥) → Listed (suc p) (r .last) is → Fits (otherWidth (suc p)) is
       → Written r (allBytes (suc p) is) (allBytes (otherWidth (suc p)) is)
   items-written [] r at on b h f = absurd h
   items-written (item.R n k x y ∷ is) r at on b h f =
@@ -100,7 +100,7 @@ module _ (p : ℕ) where
   items-written (item.Over ∷ is) r at on b h f = rw h (item-front p r at on b item.Over tt refl (f .0) [] [] (no-bytes (passedBy r item.Over)))
 
   -- the numbers of lines that are all taken fit
-  module _ (r : Readback) (at : r .width ≡ suc p) (on : r .ended ≡ false) (b : r .lines ≡ 0 → ⊥) (i : Item) (h : Proper (suc p) i) (up : above (r .last) i ≡ true) (rest : List ℕ)
+  module _ (r : Readback) (at : r .width ≡ suc p) (on : hasEnded r ≡ false) (b : r .lines ≡ 0 → ⊥) (i : Item) (h : Proper (suc p) i) (up : above (r .last) i ≡ true) (rest : List ℕ)
       (all : AllTaken r (cutIn (lineOf (suc p) (formOf i) ++ rest))) where
     taken-lines : AllTaken r (lineOf (suc p) (formOf i) ∷ cutIn rest)
     taken-lines = subst (AllTaken r) (item-cut p r at on b i h up rest) all
@@ -111,7 +111,7 @@ module _ (p : ℕ) where
     others-taken : AllTaken (passedBy r i) (cutIn rest)
     others-taken = subst (λ (q : Readback). AllTaken q (cutIn rest)) (item-next p r at on b i h up) (taken-lines .1)
 
-  items-fit : (is : List Item) (r : Readback) → r .width ≡ suc p → r .ended ≡ false → (r .lines ≡ 0 → ⊥) → Listed (suc p) (r .last) is → AllTaken r (cutIn (allBytes (suc p) is))
+  items-fit : (is : List Item) (r : Readback) → r .width ≡ suc p → hasEnded r ≡ false → (r .lines ≡ 0 → ⊥) → Listed (suc p) (r .last) is → AllTaken r (cutIn (allBytes (suc p) is))
       → Fits (otherWidth (suc p)) is
   items-fit [] r at on b h all = tt
   items-fit (item.R n k x y ∷ is) r at on b h all =
@@ -137,7 +137,7 @@ module _ (s : Bool) where
   printed-written (suc p) is k h f =
       let w = suc p in
       in-front fresh (openedAt s w) (lineOf w (openingOf s w)) (lineOf (otherWidth w) (openingOf s (otherWidth w))) (first-cut w)
-      (rw (line-whole w (openingOf s w) (first-plain s), first-step s w k)) (rw (first-step s w k)) (rw (first-step s w k)) (allBytes w is) (allBytes (otherWidth w) is)
+      (rw (line-whole w (openingOf s w) (first-plain s), first-step s w k)) (rw (first-step s w k)) (rw (first-step s w k, mark-is s)) (allBytes w is) (allBytes (otherWidth w) is)
       (items-written p is (openedAt s w) refl refl (λ z. omega arith) h f)
 
   printed-fits : (w : ℕ) (is : List Item) → widthKnown w ≡ true → Listed w 0 is → AllTaken fresh (cutIn (printed s w is)) → Fits (otherWidth w) is

@@ -20,7 +20,7 @@ use Rattle.listing.specs.Lines.{newline, front}
 use Rattle.listing.specs.declared.Given.{Given}
 use Rattle.listing.specs.declared.Given.the-variants.{Nothing, One}
 use Rattle.readback.specs.Items.{itemIn, widthIn, salvageIn}
-use Rattle.readback.specs.Steps.{stepOf, good, opens, said, widthKnown, above}
+use Rattle.readback.specs.Steps.{stepOf, good, opens, said, widthKnown, above, hasEnded}
 use Rattle.readback.specs.Pieces.{cutIn, bytesIn, isWhole, bodyOf, faultyLine, reads, longest, cutOff, handed, linesOf}
 use Rattle.readback.specs.Held.{toGo}
 use Rattle.readback.specs.declared.Readback.{Readback}
@@ -33,7 +33,7 @@ use Rattle.readback.proofs.Wholes.{Wholes, cut-whole, lines-wholes, lin
 
 -- a good line is one more
 pub one-more : (r : Readback) (line : List ℕ) → stepOf r line .good ≡ true → stepOf r line .next .lines ≡ r .lines + 1
-one-more r line = go (r .ended) refl (eqb (r .lines) 0) refl
+one-more r line = go (hasEnded r) refl (eqb (r .lines) 0) refl
   where
     first : r .lines ≡ 0 → (t : Bool) → widthKnown (widthIn line) ≡ t → opens r (salvageIn line) (widthIn line) .good ≡ true → opens r (salvageIn line) (widthIn line) .next .lines ≡ r .lines + 1
     first z true k = rw k (λ y. omega (arith, z))
@@ -47,7 +47,7 @@ one-more r line = go (r .ended) refl (eqb (r .lines) 0) refl
         up true k = rw k (λ y. refl)
         up false k = rw k (λ y. absurd (true≢false (sym y)))
 
-    go : (t : Bool) → r .ended ≡ t → (u : Bool) → eqb (r .lines) 0 ≡ u → stepOf r line .good ≡ true → stepOf r line .next .lines ≡ r .lines + 1
+    go : (t : Bool) → hasEnded r ≡ t → (u : Bool) → eqb (r .lines) 0 ≡ u → stepOf r line .good ≡ true → stepOf r line .next .lines ≡ r .lines + 1
     go true e u z = rw (step-ended r line e) (λ y. absurd (true≢false (sym y)))
     go false e true z = rw (step-first r line e (eqb-true _ _ z)) (first (eqb-true _ _ z) (widthKnown (widthIn line)) refl)
     go false e false z = rw (step-item r line e (eqb-false _ _ z)) (item (itemIn (r .width) line))

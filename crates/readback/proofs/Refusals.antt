@@ -10,7 +10,7 @@ use lib.IntN.{ℤ}
 use lib.ListN.{length, take}
 use Rattle.numbers.proofs.Choices.{cases}
 use Rattle.wire.specs.Numbers.{success, RefusesRightly, accepted, refusal}
-use Rattle.readback.specs.Steps.{good}
+use Rattle.readback.specs.Steps.{good, hasEnded}
 use Rattle.readback.specs.Pieces.{faultyLine, linesOf, back, whole, faultless, readLines}
 use Rattle.readback.specs.Promises.{refused, finishOf, FreshPromise, ReadPromise, FinishPromise}
 use Rattle.readback.specs.declared.Readback.{Readback}
@@ -37,7 +37,7 @@ pub good-finish : (r : Readback) (left : ℕ) (a : Back) → good r ≡ true →
 unfolding finishOf
 good-finish r left a g p =
     let P : Back → Type 0 = λ b. (b .refusal ≡ success) ⊎ (b .refusal ≡ faultyLine) in
-    rw (rw g at p) (cases P (r .ended && eqb left 0) (λ _. inl refl) (λ _. inr refl))
+    rw (rw g at p) (cases P (hasEnded r && eqb left 0) (λ _. inl refl) (λ _. inr refl))
 
 pub fresh-is-good : (r : Readback) → FreshPromise r → good r ≡ true
 fresh-is-good r p = ap good p ∙ goodness.fresh-is-good
@@ -45,7 +45,7 @@ fresh-is-good r p = ap good p ∙ goodness.fresh-is-good
 pub finish-stays-good : (r : Readback) (left : ℕ) (a : Back) → good r ≡ true → FinishPromise r left a → good (a .next) ≡ true
 unfolding finishOf
 finish-stays-good r left a g p =
-    rw (rw g at p) (cases (λ (b : Back). good (b .next) ≡ true) (r .ended && eqb left 0) (λ _. g) (λ _. g))
+    rw (rw g at p) (cases (λ (b : Back). good (b .next) ≡ true) (hasEnded r && eqb left 0) (λ _. g) (λ _. g))
 
 -- an end that is missing leaves the reader as it was, with counts of 0
 pub finish-refusals : (r : Readback) (left : ℕ) (a : Back) → FinishPromise r left a → RefusesRightly (λ (b : Back). b .refusal) (refused r ∷ back faultyLine r 0 0 (r .lines + 1) ∷ []) a
@@ -53,7 +53,7 @@ unfolding finishOf
 finish-refusals r left a p =
     let P : Back → Type 0 = RefusesRightly (λ (b : Back). b .refusal) (refused r ∷ back faultyLine r 0 0 (r .lines + 1) ∷ []) in
     subst P (sym p)
-    (cases P (good r) (λ _. cases P (r .ended && eqb left 0) (λ _. accepted refl) (λ _. refusal (List·Memᴰ·tail (List·Memᴰ·head refl)))) (λ _. refusal (List·Memᴰ·head refl)))
+    (cases P (good r) (λ _. cases P (hasEnded r && eqb left 0) (λ _. accepted refl) (λ _. refusal (List·Memᴰ·tail (List·Memᴰ·head refl)))) (λ _. refusal (List·Memᴰ·head refl)))
 
 -- AS IT STANDS: with a fault, a call gives what a call of the bytes taken gives, but for the number and the line
 pub as-before : (r : Readback) (piece : List ℕ) (before after rest : List ℤ) (a b : Back) → good r ≡ true → ReadPromise r piece before a after → ReadPromise r (take (a .taken) piece) before b rest

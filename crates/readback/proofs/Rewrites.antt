@@ -32,7 +32,7 @@ use Rattle.listing.specs.declared.Given.the-variants.{Nothing, One}
 use Rattle.listing.proofs.Feeds.{size, put-room, put-wrote, put-short}
 use Rattle.readback.specs.Fields.{low, high}
 use Rattle.readback.specs.Items.{Sixteen}
-use Rattle.readback.specs.Steps.{oldWidth, widthKnown, stepOf, good}
+use Rattle.readback.specs.Steps.{oldWidth, widthKnown, stepOf, good, ofSalvage}
 use Rattle.readback.specs.Pieces.{isWhole, bodyOf, faultyLine, reads, linesOf, faultAt, piecesOf}
 use Rattle.readback.specs.Other.{TooWide}
 use Rattle.readback.specs.Rewriting.{otherWidth, tooWide, givenFits, widthBehind, rewrites, rewriteLines, rewriting, rewritten}
@@ -112,7 +112,7 @@ module _ (r : Readback) (l : List ℕ) where
 
   pub few-places : good r ≡ true → places rewrites r l ≤ 40
   few-places g =
-      few-line (reads .next r l .salvage) (widthBehind r l) (known-few (widthBehind r l) (other-known (reads .next r l .width))) (reads .answer r l) (step-leaves r (bodyOf l) g .1)
+      few-line (ofSalvage (reads .next r l)) (widthBehind r l) (known-few (widthBehind r l) (other-known (reads .next r l .width))) (reads .answer r l) (step-leaves r (bodyOf l) g .1)
 
 -- rewriting, as a call over lines
 pub rewrites-lawful : Lawful rewriteLines
@@ -130,7 +130,7 @@ module _ (r : Readback) (piece out : List ℕ) (g : good r ≡ true) (s : Step) 
   to = otherWidth (s .next .width)
 
   abbrev text : List ℕ
-  text = lineAt (s .next .salvage) to (s .given)
+  text = lineAt (ofSalvage (s .next)) to (s .given)
 
   read-accepted : reads .refusal r (firstLine piece) ≡ 0
   read-accepted = refusal-is r piece s there is ∙ rw e
@@ -141,13 +141,13 @@ module _ (r : Readback) (piece out : List ℕ) (g : good r ≡ true) (s : Step) 
       ap (λ (n : ℕ). R n (stepOf r (bodyOf (firstLine piece)))) read-accepted ∙ ap (R 0) (step-is r piece s there is)
 
   answer-is : rewrites .answer r (firstLine piece) ≡ text
-  answer-is = ap (λ (q : Step). lineAt (q .next .salvage) (otherWidth (q .next .width)) (q .given)) (step-is r piece s there is)
+  answer-is = ap (λ (q : Step). lineAt (ofSalvage (q .next)) (otherWidth (q .next .width)) (q .given)) (step-is r piece s there is)
 
   pub wide-stop : givenFits to (s .given) ≡ false → Begin rewrites r piece out tooWide r 0 0 (r .lines + 1) out
   wide-stop n = refused-stop rewrites rewriting-follows r piece out g s there is tooWide (omega arith) (refused-by ∙ rw n)
 
   pub text-few : length text ≤ 40
-  text-few = few-line (s .next .salvage) to (known-few to (other-known (s .next .width))) (s .given) (subst (λ (q : Step). SmallGiven (q .given)) (sym is) (step-leaves r (take (lengthTo newline piece) piece) g .1))
+  text-few = few-line (ofSalvage (s .next)) to (known-few to (other-known (s .next .width))) (s .given) (subst (λ (q : Step). SmallGiven (q .given)) (sym is) (step-leaves r (take (lengthTo newline piece) piece) g .1))
 
   -- it fits, and its text was put or had no room
   module _ (fits : givenFits to (s .given) ≡ true) (t : Text) (made : t ≡ textOf text) where

@@ -18,7 +18,7 @@ use Rattle.listing.specs.declared.Item.{Item}
 use Rattle.listing.specs.declared.Item.the-variants as item
 use Rattle.listing.specs.declared.Given.the-variants.{Nothing}
 use Rattle.readback.specs.Items.{Proper, widthIn, salvageIn}
-use Rattle.readback.specs.Steps.{widthKnown, openedAt, faulty, opens, stepOf, good}
+use Rattle.readback.specs.Steps.{widthKnown, openedAt, faulty, opens, stepOf, good, hasEnded}
 use Rattle.readback.specs.Pieces.{longest}
 use Rattle.readback.specs.declared.Readback.{Readback}
 use Rattle.readback.specs.declared.Step.{Step}
@@ -58,9 +58,9 @@ opens-known r s w h = go (widthKnown w) h
 
 -- a longer one is faulty
 pub long-faulty : (r : Readback) (body : List ℕ) → good r ≡ true → longest < length body → stepOf r body .good ≡ false
-long-faulty r body g h = refused (stepOf r body .good) (λ t. go t (r .ended) refl (eqb (r .lines) 0) refl)
+long-faulty r body g h = refused (stepOf r body .good) (λ t. go t (hasEnded r) refl (eqb (r .lines) 0) refl)
   where
-    go : stepOf r body .good ≡ true → (e : Bool) → r .ended ≡ e → (z : Bool) → eqb (r .lines) 0 ≡ z → ⊥
+    go : stepOf r body .good ≡ true → (e : Bool) → hasEnded r ≡ e → (z : Bool) → eqb (r .lines) 0 ≡ z → ⊥
     go t true e z ez = true≢false (sym t ∙ ap (λ (s : Step). s .good) (step-ended r body e))
     go t false e true ez =
         let w = widthIn body in

@@ -17,7 +17,7 @@ use Rattle.listing.specs.declared.Item.{Item}
 use Rattle.listing.specs.declared.Listed.{Listed}
 use Rattle.listing.proofs.Calls as listing
 use Rattle.readback.specs.Items.{allNumbers}
-use Rattle.readback.specs.Steps.{fresh}
+use Rattle.readback.specs.Steps.{fresh, ofSalvage}
 use Rattle.readback.specs.Promises.{ReadPromise, FinishPromise}
 use Rattle.readback.specs.Calls.{readCalls}
 use Rattle.readback.specs.Whole.{Reading, reading, readingOf}
@@ -31,7 +31,7 @@ use Rattle.readback.proofs.Refusals.{good-read}
 module _ (bytes : List ℕ) (salvage : Bool) (items : List Item) (says : readingOf bytes ≡ reading salvage items 0) where
   -- where the reader's calls took all of them, they wrote the numbers of the items, its end tells no fault, and it says which listing it read
   pub all-back : (ks : List (Call Back ℤ)) (a : Back) → Permitted readCalls fresh ks → takenBy readCalls ks ≡ bytes → FinishPromise (after readCalls fresh ks) 0 a
-      → (writtenBy readCalls ks ≡ allNumbers items) × (a .line ≡ 0) × (after readCalls fresh ks .salvage ≡ salvage)
+      → (writtenBy readCalls ks ≡ allNumbers items) × (a .line ≡ 0) × (ofSalvage (after readCalls fresh ks) ≡ salvage)
   all-back ks a h all f =
       let said = ap readingOf (append-nil (takenBy readCalls ks) ∙ all) ∙ says in
       let c = in-calls ks [] a h refl f in
@@ -58,7 +58,7 @@ module _ (ls : List (Call Listed ℕ)) (before last : List ℕ) (e : Listed) (p 
 
   -- all of what was written comes back, and no call is refused
   pub comes-back : (ks : List (Call Back ℤ)) (a : Back) → Permitted readCalls fresh ks → takenBy readCalls ks ≡ listing-bytes → FinishPromise (after readCalls fresh ks) 0 a
-      → (writtenBy readCalls ks ≡ allNumbers (itemsAt width input)) × (a .line ≡ 0) × (after readCalls fresh ks .salvage ≡ false)
+      → (writtenBy readCalls ks ≡ allNumbers (itemsAt width input)) × (a .line ≡ 0) × (ofSalvage (after readCalls fresh ks) ≡ false)
   comes-back = all-back listing-bytes false (itemsAt width input) says
 
   pub none-refused : (ks : List (Call Back ℤ)) (piece rest : List ℕ) (out left : List ℤ) (a : Back) → Permitted readCalls fresh ks → ReadPromise (after readCalls fresh ks) piece out a left

@@ -6,7 +6,7 @@ use mathlib.Core.List.{List}
 use lib.Dec.{eqb}
 use lib.IntN.{ℤ}
 use Rattle.wire.specs.Numbers.{success, badState}
-use Rattle.readback.specs.Steps.{fresh, good}
+use Rattle.readback.specs.Steps.{fresh, good, hasEnded}
 use Rattle.readback.specs.Pieces.{faultyLine, back, Whole, whole, readLines, callOf}
 use Rattle.readback.specs.Rewriting.{rewriting, rewriteLines}
 use Rattle.readback.specs.declared.Readback.{Readback}
@@ -31,7 +31,7 @@ ReadPromise r input before answer after = whole answer after ≡ readOf r input 
 -- `Readback::finish(self, left)`: "an end before either" is told at the line that is missing, and so is a last line without its newline
 unfoldable pub finishOf : Readback → ℕ → Back
 finishOf r left =
-    cond (good r) (cond (r .ended && eqb left 0) (back success r 0 0 0) (back faultyLine r 0 0 (r .lines + 1))) (refused r)
+    cond (good r) (cond (hasEnded r && eqb left 0) (back success r 0 0 0) (back faultyLine r 0 0 (r .lines + 1))) (refused r)
 
 abbrev pub FinishPromise : Readback → ℕ → Back → Type 0
 FinishPromise r left answer = answer ≡ finishOf r left

@@ -12,7 +12,7 @@ use Rattle.listing.specs.declared.Item.{Item}
 use Rattle.listing.specs.declared.Item.the-variants as item
 use Rattle.listing.specs.declared.Given.{Given}
 use Rattle.listing.specs.declared.Given.the-variants.{Nothing, One}
-use Rattle.readback.specs.Steps.{oldWidth}
+use Rattle.readback.specs.Steps.{oldWidth, ofSalvage}
 use Rattle.readback.specs.Pieces.{faultyLine, reads, Whole, OverLines}
 use Rattle.readback.specs.declared.Readback.{Readback}
 use Rattle.readback.specs.declared.Rewritten.{Rewritten}
@@ -48,7 +48,7 @@ rewrites =
       refusal =
           λ r l. cond (eqb (reads .refusal r l) success) (cond (givenFits (widthBehind r l) (reads .answer r l)) success tooWide) faultyLine;
       next = λ r l. reads .next r l;
-      answer = λ r l. lineAt (reads .next r l .salvage) (widthBehind r l) (reads .answer r l);
+      answer = λ r l. lineAt (ofSalvage (reads .next r l)) (widthBehind r l) (reads .answer r l);
       writes = λ text. text;
     }
 

@@ -1,6 +1,6 @@
 -- A line in its place: what it does to a reader of listings, and which readers are good.
 use Prim.Native.Nat.{ℕ, _+_}
-use mathlib.Core.Bool.{Bool, true, false, not, cond, _&&_, _||_}
+use mathlib.Core.Bool.{Bool, true, false, cond, _&&_, _||_}
 use mathlib.Core.List.{List}
 use lib.Dec.{ltb, leb, eqb}
 use Rattle.listing.specs.Scanning.{mostAt, width}
@@ -19,8 +19,19 @@ oldWidth = 4
 abbrev pub widthKnown : ℕ → Bool
 widthKnown w = eqb w oldWidth || eqb w width
 
+-- a mark as it is held: 1, or 0
+abbrev pub mark : Bool → ℕ
+mark b = cond b 1 0
+
+-- whether its last line has come, and whether it is a salvage's
+abbrev pub hasEnded : Readback → Bool
+hasEnded r = eqb (r .ended) 1
+
+abbrev pub ofSalvage : Readback → Bool
+ofSalvage r = eqb (r .salvage) 1
+
 abbrev pub readback : Bool → ℕ → ℕ → ℕ → Bool → Readback
-readback salvage w last lines ended = record { salvage = salvage; width = w; last = last; lines = lines; ended = ended }
+readback salvage w last lines ended = record { width = w; ended = mark ended; salvage = mark salvage; last = last; lines = lines }
 
 -- before the first line, and behind it
 abbrev pub fresh : Readback
@@ -56,7 +67,7 @@ abbrev pub faulty : Readback → Step
 faulty r = record { good = false; next = r; given = Nothing }
 
 abbrev pub passedBy : Readback → Item → Readback
-passedBy r i = readback (r .salvage) (r .width) (lastBehind (r .last) i) (r .lines + 1) (closes i)
+passedBy r i = record { width = r .width; ended = mark (closes i); salvage = r .salvage; last = lastBehind (r .last) i; lines = r .lines + 1 }
 
 -- the first line; and a line behind it
 abbrev pub opens : Readback → Bool → ℕ → Step
@@ -71,14 +82,17 @@ said r (One i) = passes r i
 
 -- a line without its newline
 unfoldable pub stepOf : Readback → List ℕ → Step
-stepOf r line = cond (r .ended) (faulty r) (cond (eqb (r .lines) 0) (opens r (salvageIn line) (widthIn line)) (said r (itemIn (r .width) line)))
+stepOf r line = cond (hasEnded r) (faulty r) (cond (eqb (r .lines) 0) (opens r (salvageIn line) (widthIn line)) (said r (itemIn (r .width) line)))
 
--- a good reader: before the first line nothing is known; behind it a known width, a line number that the width has, and
--- as many lines as the numbers allow: one, and another for the last, besides those that have numbers
+-- a good reader: before the first line nothing is known; behind it a known width, a line number that the width has, as
+-- many lines as the numbers allow (one, and another for the last, besides those that have numbers), and marks that are 0
+-- or 1
 abbrev pub besides : Bool → ℕ
 besides ended = cond ended 2 1
 
 unfoldable pub good : Readback → Bool
 good r =
-    cond (eqb (r .lines) 0) (eqb (r .width) 0 && eqb (r .last) 0 && not (r .ended) && not (r .salvage))
-    (widthKnown (r .width) && (leb (r .last) (mostAt (r .width)) && (leb (besides (r .ended)) (r .lines) && leb (r .lines) (r .last + besides (r .ended)))))
+    cond (eqb (r .lines) 0) (eqb (r .width) 0 && eqb (r .last) 0 && eqb (r .ended) 0 && eqb (r .salvage) 0)
+    (widthKnown (r .width)
+    && (leb (r .last) (mostAt (r .width))
+    && ((leb (besides (hasEnded r)) (r .lines) && leb (r .lines) (r .last + besides (hasEnded r))) && (leb (r .ended) 1 && leb (r .salvage) 1))))

@@ -10,7 +10,7 @@ use Rattle.listing.specs.Printing.{lineOf, openingOf, allBytes}
 use Rattle.listing.specs.declared.Item.{Item}
 use Rattle.listing.specs.declared.Item.the-variants as item
 use Rattle.readback.specs.Items.{Proper}
-use Rattle.readback.specs.Steps.{fresh}
+use Rattle.readback.specs.Steps.{fresh, hasEnded, ofSalvage}
 use Rattle.readback.specs.Pieces.{cutIn, reads}
 use Rattle.readback.specs.declared.Readback.{Readback}
 
@@ -25,11 +25,11 @@ reading salvage items fault = record { salvage = salvage; items = items; fault =
 
 -- "an end before either" is told at the line that is missing; "Items before a faulty line are handed out"
 unfoldable pub readingFrom : Readback → List (List ℕ) → Reading
-readingFrom r [] = reading (r .salvage) [] (cond (r .ended) 0 (r .lines + 1))
+readingFrom r [] = reading (ofSalvage r) [] (cond (hasEnded r) 0 (r .lines + 1))
 readingFrom r (l ∷ ls) =
     let later = readingFrom (reads .next r l) ls in
     cond (eqb (reads .refusal r l) success) (reading (later .salvage) (itemsIn (reads .answer r l) ++ later .items) (later .fault))
-    (reading (r .salvage) [] (r .lines + 1))
+    (reading (ofSalvage r) [] (r .lines + 1))
 
 unfoldable pub readingOf : List ℕ → Reading
 readingOf bytes = readingFrom fresh (cutIn bytes)

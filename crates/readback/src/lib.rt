@@ -39,14 +39,15 @@ pub(crate) struct Five {
     pub c: i32,
 }
 
-// How far a listing has been read: whether it is a salvage's, the width of its line numbers, 0 before its first line; the last line number; the lines passed; and
-// whether its last line has come.
+// How far a listing has been read: the width of its line numbers, 0 before its first line; whether its last line has
+// come, and whether it is a salvage's, each 0 or 1; the last line number; and the lines passed.
+#[repr(C)]
 pub struct Readback {
-    pub salvage: bool,
     pub width: u8,
+    pub ended: u8,
+    pub salvage: u8,
     pub last: u32,
     pub lines: u32,
-    pub ended: bool,
 }
 
 // What a line does: whether it may stand there, the next reader, and its item, if it has one.
@@ -58,20 +59,22 @@ pub(crate) struct Step {
 
 // What rewriting gives back: 0, 6 or 7 as above, or 15 for a line number that does not fit the other width; the next reader; the bytes taken and written; and
 // the place of the line that was not rewritten among the lines, counted from 1, or 0.
+#[repr(C)]
 pub struct Rewritten {
     pub refusal: u8,
-    pub next: Readback,
+    pub line: u32,
     pub taken: usize,
     pub written: usize,
-    pub line: u32,
+    pub next: Readback,
 }
 
 // What a call gives back: 0, 6 for a reader that breaks its rules, or 7 for a faulty line; the next reader; the bytes taken and the items written; and the
 // place of the faulty line among the lines, counted from 1, or 0.
+#[repr(C)]
 pub struct Back {
     pub refusal: u8,
-    pub next: Readback,
+    pub line: u32,
     pub taken: usize,
     pub items: usize,
-    pub line: u32,
+    pub next: Readback,
 }

@@ -41,10 +41,10 @@ fn back(refusal: u8, next: Readback, taken: usize, items: usize, line: u32) -> B
 {
     Back {
         refusal: refusal,
-        next: next,
+        line: line,
         taken: taken,
         items: items,
-        line: line,
+        next: next,
     }
 }
 
@@ -54,11 +54,11 @@ impl Readback {
         ensures { λ r. ⌜ FreshPromise r ⌝ }
     {
         Readback {
-            salvage: false,
             width: 0,
+            ended: 0,
+            salvage: 0,
             last: 0,
             lines: 0,
-            ended: false,
         }
     }
 
@@ -79,7 +79,7 @@ impl Readback {
         if !self.good() {
             return back(6, self, 0, 0, 0);
         }
-        if self.ended & (left == 0) {
+        if (self.ended == 1) & (left == 0) {
             return back(0, self, 0, 0, 0);
         }
         back(7, self, 0, 0, self.lines + 1)

@@ -60,10 +60,10 @@ fn rewritten(refusal: u8, next: Readback, taken: usize, count: usize, line: u32)
 {
     Rewritten {
         refusal: refusal,
-        next: next,
+        line: line,
         taken: taken,
         written: count,
-        line: line,
+        next: next,
     }
 }
 
@@ -101,7 +101,7 @@ impl Readback {
         if !given_fits(width, given) {
             return rewritten(15, self, 0, 0, self.lines + 1);
         }
-        let text = given.line(next.salvage, width);
+        let text = given.line(next.salvage == 1, width);
         if !text.put(out, 0) {
             return rewritten(0, self, 0, 0, 0);
         }

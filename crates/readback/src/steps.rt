@@ -68,7 +68,7 @@ impl Readback {
         ensures { λ r. ⌜ r ≡ good self ⌝ }
     {
         if self.lines == 0 {
-            return (self.width == 0) & (self.last == 0) & !self.ended & !self.salvage;
+            return (self.width == 0) & (self.last == 0) & (self.ended == 0) & (self.salvage == 0);
         }
         if !width_known(self.width as u16) {
             return false;
@@ -76,8 +76,9 @@ impl Readback {
         if self.last > most(self.width) {
             return false;
         }
-        let more = besides(self.ended);
-        (more <= self.lines) & (self.lines <= self.last + more)
+        let more = besides(self.ended == 1);
+        ((more <= self.lines) & (self.lines <= self.last + more))
+            & ((self.ended <= 1) & (self.salvage <= 1))
     }
 
     // A faulty line.
@@ -101,11 +102,11 @@ impl Readback {
         Step {
             good: true,
             next: Readback {
-                salvage: salvage,
                 width: width as u8,
+                ended: 0,
+                salvage: salvage as u8,
                 last: 0,
                 lines: 1,
-                ended: false,
             },
             given: Given::Nothing,
         }
@@ -122,11 +123,11 @@ impl Readback {
         Step {
             good: true,
             next: Readback {
-                salvage: self.salvage,
                 width: self.width,
+                ended: closes(item) as u8,
+                salvage: self.salvage,
                 last: last_behind(self.last, item),
                 lines: self.lines + 1,
-                ended: closes(item),
             },
             given: Given::One(item),
         }
@@ -137,7 +138,7 @@ impl Readback {
         requires { ⌜ good self ≡ true ⌝ }
         ensures { λ r. ⌜ r ≡ stepOf self (now (line .entry)) ⌝ }
     {
-        if self.ended {
+        if self.ended == 1 {
             return self.faulty();
         }
         if self.lines == 0 {

@@ -24,7 +24,7 @@ use Rattle.listing.specs.declared.Given.the-variants as given
 use Rattle.listing.proofs.Small.{small-report}
 use Rattle.listing.proofs.Ordered.{Ordered}
 use Rattle.readback.specs.Items.{allNumbers}
-use Rattle.readback.specs.Steps.{fresh}
+use Rattle.readback.specs.Steps.{fresh, ofSalvage}
 use Rattle.readback.specs.Promises.{ReadPromise, FinishPromise}
 use Rattle.readback.specs.Calls.{readCalls}
 use Rattle.readback.specs.Whole.{reading, readingOf, printed}
@@ -130,7 +130,7 @@ module _ (input before : List ℕ) (s : Salvaged) (out : List ℕ) (p : ListProm
 
   -- comes back as the numbers of its items, without a fault, as a salvage's; and no call is refused
   pub comes-back : (ks : List (Call Back ℤ)) (a : Back) → Permitted readCalls fresh ks → takenBy readCalls ks ≡ text → FinishPromise (after readCalls fresh ks) 0 a
-      → (writtenBy readCalls ks ≡ allNumbers (itemsOf (logOf input))) × (a .line ≡ 0) × (after readCalls fresh ks .salvage ≡ true)
+      → (writtenBy readCalls ks ≡ allNumbers (itemsOf (logOf input))) × (a .line ≡ 0) × (ofSalvage (after readCalls fresh ks) ≡ true)
   comes-back = all-back text true (itemsOf (logOf input)) says
 
   pub none-refused : (ks : List (Call Back ℤ)) (piece rest : List ℕ) (room left : List ℤ) (a : Back) → Permitted readCalls fresh ks → ReadPromise (after readCalls fresh ks) piece room a left

@@ -6,6 +6,7 @@ use mathlib.Core.Bool.{true, not, _&&_}
 use lib.ListN.{length, take}
 use lib.Seq.{length-take-le}
 use Rattle.shell.specs.Outside.{Handed}
+use Rattle.readback.specs.Steps.{ofSalvage}
 use Rattle.mtable.specs.Table.{rowsOf}
 use Rattle.mtable.specs.Program.{mtable}
 use Rattle.mtable.proofs.Pieces as pieces
@@ -15,14 +16,14 @@ use Rattle.mtable.proofs.listed.Tie as tie
 
 sub-left : tie.Need-sub-left
 sub-left c =
-    let s = c .before .before .before .before .before .before .before in
+    let s = c .before .before .before .before .before .before .before .before in
     let f = c .before .before .front in
     let t = s .args .turn .now in
     taken-fits t t (s .args .reader) (s .args .all) (s .args .input .now) (s .args .items .now) (f .last .1 .1 .1 .0) (s .args .input .now) (f .result) true (s .pre .0 .0) (s .pre .0 .1) (s .pre .0 .3) (s .pre .1) (f .ensures)
 
 rows-requires : tie.Need-rows-requires
 rows-requires c κs =
-    let s = c .before .before .before .before .before .before .before .before .before .before .before .before .before .before in
+    let s = c .before .before .before .before .before .before .before .before .before .before .before .before .before .before .before in
     let f = c .before .before .before .before .before .before .before .before .before .front in
     let o = c .before .before .before .before .opened in
     let piece = take (s .args .all) (s .args .input .now) in
@@ -36,7 +37,7 @@ rows-requires c κs =
 
 slice-reshare-prefix-show : tie.Need-slice-reshare-prefix-show
 slice-reshare-prefix-show c =
-    let s = c .before .before .before .before .before .before .before .before .before .before .before .before .before .before .before .before .before .before .before in
+    let s = c .before .before .before .before .before .before .before .before .before .before .before .before .before .before .before .before .before .before .before .before in
     let f = c .before .before .before .before .before .before .before .before .before .before .before .before .before .before .front in
     let piece = take (s .args .all) (s .args .input .now) in
     let g = s .pre .0 .3 in
@@ -48,7 +49,7 @@ slice-aggregate-show-2 c = sym (length-take-le _ _ (slice-reshare-prefix-show (c
 
 returns : tie.Need-returns
 returns c =
-    let s = c .before .before .before .before .before .before .before .before .before .before .before .before .before .before .before .before .before .before .before .before .before .before .before .before .before .before in
+    let s = c .before .before .before .before .before .before .before .before .before .before .before .before .before .before .before .before .before .before .before .before .before .before .before .before .before .before .before in
     let f = c .before .before .before .before .before .before .before .before .before .before .before .before .before .before .before .before .before .before .before .before .before .front in
     let o = c .before .before .before .before .before .before .before .before .before .before .before .before .before .before .before .before .opened in
     let rows = c .before .before .before .before .before .before .before .before .before .before .before .rows in
@@ -66,7 +67,7 @@ returns c =
     let g = s .pre .0 .3 in
     let is = pieces.items r piece items after a g (f .ensures) in
     let wrote = rows .ensures is (pieces.among r piece items after a g (f .ensures)) in
-    let text = rows-there (a .next .salvage && not (r .salvage)) (rowsOf is) (s .args .out .now) (o .last .1 .0) (rows .last .1 .1 .0) (o .result) (rows .result) (o .ensures .0) wrote in
+    let text = rows-there (ofSalvage (a .next) && not (ofSalvage r)) (rowsOf is) (s .args .out .now) (o .last .1 .0) (rows .last .1 .1 .0) (o .result) (rows .result) (o .ensures .0) wrote in
     let h = subst (Handed (mtable .output) t t′ (show .result)) text (show .ensures) in
     let same : length (keep .last .0) ≡ length input = search needs in (
       omega (arith, same, s .pre .0 .0),

@@ -6,7 +6,7 @@ use mathlib.Core.Bool.{true}
 use native.Mathlib.Omega.{arith}
 use borrow.Author.Tests.{eq-eqb, ne-eqb, le-leb, lt-leb, not-true, not-false}
 use Rattle.listing.specs.Scanning.{mostAt}
-use Rattle.readback.specs.Steps.{widthKnown, good}
+use Rattle.readback.specs.Steps.{widthKnown, good, hasEnded}
 use Rattle.readback.proofs.Goodness.{most-known, besides-most}
 use Rattle.readback.proofs.Readback.good.Statement.{statement}
 use Rattle.readback.proofs.Readback.good.Tie as tie
@@ -41,21 +41,21 @@ besides-requires c κs = search needs
 
 add-result : tie.Need-add-result
 add-result c =
-    let m = c .before .before .before .before .before in
-    let e = m .before in
-    let self = e .before .before .before .before .before .args .self in
-    let known : widthKnown (self .width) ≡ true = sym (e .before .width-known .ensures) ∙ not-false _ (e .if2 .left) in
-    let few : c .before .before .besides .result ≤ 2 = rw (c .before .before .besides .ensures) (besides-most (self .ended)) in
-    record { fits = omega (arith, c .before .before .before .if3 .left, m .most .ensures, most-known (self .width) known, few) }
-
-returns-4 : tie.Need-returns-4
-unfolding good
-returns-4 c =
     let m = c .before .before .before .before .before .before in
     let e = m .before in
     let self = e .before .before .before .before .before .args .self in
     let known : widthKnown (self .width) ≡ true = sym (e .before .width-known .ensures) ∙ not-false _ (e .if2 .left) in
-    rw (ne-eqb _ _ (e .before .before .before .if1 .left), known, le-leb (self .last) (mostAt (self .width)) (rw (m .most .ensures) at (c .before .before .before .before .if3 .left)), c .before .before .before .besides .ensures)
+    let few : c .before .before .besides .result ≤ 2 = rw (c .before .before .besides .ensures) (besides-most (hasEnded self)) in
+    record { fits = omega (arith, c .before .before .before .before .if3 .left, m .most .ensures, most-known (self .width) known, few) }
+
+returns-4 : tie.Need-returns-4
+unfolding good
+returns-4 c =
+    let m = c .before .before .before .before .before .before .before .before .before in
+    let e = m .before in
+    let self = e .before .before .before .before .before .args .self in
+    let known : widthKnown (self .width) ≡ true = sym (e .before .width-known .ensures) ∙ not-false _ (e .if2 .left) in
+    rw (ne-eqb _ _ (e .before .before .before .if1 .left), known, le-leb (self .last) (mostAt (self .width)) (rw (m .most .ensures) at (c .before .before .before .before .before .before .before .if3 .left)), c .before .before .before .before .before .besides .ensures)
 
 pub good-spec : {M : Type 1} → statement M
 good-spec =

@@ -3,7 +3,7 @@ use borrow.Author.Needs.{needs}
 use mathlib.Core.Path.{sym, _∙_}
 use native.Mathlib.Omega.{arith}
 use borrow.Author.Tests.{not-true, not-false}
-use Rattle.readback.proofs.Goodness.{known-few}
+use Rattle.readback.proofs.Goodness.{known-few, as-number}
 use Rattle.readback.proofs.Readback.opens.Statement.{statement}
 use Rattle.readback.proofs.Readback.opens.Tie as tie
 
@@ -20,7 +20,7 @@ cast-t6 : tie.Need-cast-t6
 cast-t6 c = record { fits = omega (arith, known-few (c .before .before .args .width) (sym (c .before .width-known .ensures) ∙ not-false _ (c .if1 .left))) }
 
 returns-2 : tie.Need-returns-2
-returns-2 c = rw (sym (c .before .width-known .ensures) ∙ not-false _ (c .if1 .left))
+returns-2 c = rw (sym (c .before .width-known .ensures) ∙ not-false _ (c .if1 .left), as-number (c .before .before .args .salvage))
 
 pub opens-spec : {M : Type 1} → statement M
-opens-spec = tie.close (tie.spec width-known-requires faulty-requires returns cast-t6 returns-2)
+opens-spec = tie.close (tie.spec width-known-requires faulty-requires returns cast-t6 (λ c. search needs) returns-2)

@@ -3,7 +3,7 @@ use borrow.Author.Needs.{needs}
 use mathlib.Core.Path.{sym, _∙_}
 use native.Mathlib.Omega.{arith}
 use borrow.Author.Tests.{not-true, not-false}
-use Rattle.readback.proofs.Goodness.{few-lines}
+use Rattle.readback.proofs.Goodness.{few-lines, as-number}
 use Rattle.readback.proofs.Readback.passes.Statement.{statement}
 use Rattle.readback.proofs.Readback.passes.Tie as tie
 
@@ -16,17 +16,14 @@ faulty-requires c κs = search needs
 returns : tie.Need-returns
 returns c = rw (sym (c .before .before .above .ensures) ∙ not-true _ (c .before .if1 .taken)) (c .faulty .ensures)
 
-last-behind-requires : tie.Need-last-behind-requires
-last-behind-requires c κs = search needs
-
-add-t6 : tie.Need-add-t6
-add-t6 c = record { fits = omega (arith, few-lines (c .before .before .before .before .args .self) (c .before .before .before .before .pre)) }
-
-closes-requires : tie.Need-closes-requires
-closes-requires c κs = search needs
-
 returns-2 : tie.Need-returns-2
-returns-2 c = rw (sym (c .before .before .before .before .above .ensures) ∙ not-false _ (c .before .before .before .if1 .left), c .before .before .last-behind .ensures, c .closes .ensures)
+returns-2 c =
+    rw (
+      sym (c .before .before .before .before .above .ensures) ∙ not-false _ (c .before .before .before .if1 .left),
+      c .before .last-behind .ensures,
+      as-number (c .before .before .closes .result),
+      c .before .before .closes .ensures,
+    )
 
 pub passes-spec : {M : Type 1} → statement M
 passes-spec =
@@ -35,7 +32,8 @@ passes-spec =
     above-requires
     faulty-requires
     returns
-    last-behind-requires
-    add-t6
-    closes-requires
+    (λ c κs. search needs)
+    (λ c. search needs)
+    (λ c κs. search needs)
+    (λ c. record { fits = omega (arith, few-lines (c .before .before .before .before .before .args .self) (c .before .before .before .before .before .pre)) })
     returns-2)

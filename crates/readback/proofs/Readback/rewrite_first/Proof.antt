@@ -11,7 +11,7 @@ use Rattle.text.proofs.Lengths.{to-within}
 use Rattle.listing.specs.Lines.{newline}
 use Rattle.listing.specs.Printing.{lineAt}
 use Rattle.text.specs.Growth.{textOf}
-use Rattle.readback.specs.Steps.{stepOf}
+use Rattle.readback.specs.Steps.{stepOf, ofSalvage}
 use Rattle.readback.specs.Rewriting.{otherWidth, givenFits, rewrites}
 use Rattle.readback.proofs.Goodness.{few-lines}
 use Rattle.readback.proofs.Loop.{cut-stop, long-stop, faulty-stop}
@@ -30,8 +30,8 @@ step-is c = rw (← c .before .before .before .length-to .ensures) (c .step .ens
 fits-is : (c : tie.After-given-fits) → let s = c .before .before .before .before .before .step .result in c .given-fits .result ≡ givenFits (otherWidth (s .next .width)) (s .given)
 fits-is c = c .given-fits .ensures ∙ ap (λ w. givenFits w (c .before .before .before .before .before .step .result .given)) (c .before .other-width .ensures)
 
-text-is : (c : tie.After-line) → let s = c .before .before .before .before .before .before .before .step .result in c .line .result ≡ textOf (lineAt (s .next .salvage) (otherWidth (s .next .width)) (s .given))
-text-is c = c .line .ensures ∙ ap (λ w. textOf (lineAt (c .before .before .before .before .before .before .before .step .result .next .salvage) w (c .before .before .before .before .before .before .before .step .result .given))) (c .before .before .before .other-width .ensures)
+text-is : (c : tie.After-line) → let s = c .before .before .before .before .before .before .before .before .step .result in c .line .result ≡ textOf (lineAt (ofSalvage (s .next)) (otherWidth (s .next .width)) (s .given))
+text-is c = c .line .ensures ∙ ap (λ w. textOf (lineAt (ofSalvage (c .before .before .before .before .before .before .before .before .step .result .next)) w (c .before .before .before .before .before .before .before .before .step .result .given))) (c .before .before .before .before .other-width .ensures)
 
 returns : tie.Need-returns
 returns c = let s = c .before .before .before .before .before .before in
@@ -67,20 +67,20 @@ returns-4 c = let s = c .before .before .before .before .before .before .before 
     rw (c .rewritten4 .ensures) (wide-stop (s .args .self) (s .args .input .now) (s .args .out .now) (s .pre .0) (f .step .result) (there f) (step-is f) (not-false _ (c .before .before .before .before .before .before .if3 .left)) (sym (fits-is (c .before .before .before)) ∙ not-true _ (c .before .before .if4 .taken)))
 
 returns-5 : tie.Need-returns-5
-returns-5 c = let s = c .before .before .before .before .before .before .before .before .before .before .before .before .before .before .before .before .before .before .before in
-    let f = c .before .before .before .before .before .before .before .before .before .before .before .before .before in
+returns-5 c = let s = c .before .before .before .before .before .before .before .before .before .before .before .before .before .before .before .before .before .before .before .before in
+    let f = c .before .before .before .before .before .before .before .before .before .before .before .before .before .before in
     rw (c .rewritten5 .ensures, c .before .before .before .before .put .ensures .1)
-    (short-stop (s .args .self) (s .args .input .now) (s .args .out .now) (s .pre .0) (f .step .result) (there f) (step-is f) (not-false _ (c .before .before .before .before .before .before .before .before .before .before .before .if3 .left)) (sym (fits-is (c .before .before .before .before .before .before .before .before)) ∙ not-false _ (c .before .before .before .before .before .before .before .if4 .left)) _ (text-is (c .before .before .before .before .before .before)) (sym (c .before .before .before .before .put .ensures .0) ∙ not-true _ (c .before .if5 .taken)))
+    (short-stop (s .args .self) (s .args .input .now) (s .args .out .now) (s .pre .0) (f .step .result) (there f) (step-is f) (not-false _ (c .before .before .before .before .before .before .before .before .before .before .before .before .if3 .left)) (sym (fits-is (c .before .before .before .before .before .before .before .before .before)) ∙ not-false _ (c .before .before .before .before .before .before .before .before .if4 .left)) _ (text-is (c .before .before .before .before .before .before)) (sym (c .before .before .before .before .put .ensures .0) ∙ not-true _ (c .before .if5 .taken)))
 
 add-rewritten-4 : tie.Need-add-rewritten-4
-add-rewritten-4 c = record { fits = omega (arith, there (c .before .before .before .before .before .before .before .before .before .before .before .before)) }
+add-rewritten-4 c = let f = c .before .before .before .before .before .before .before .before .before .before .before .before .before in record { fits = omega (arith, there f, f .before .before .before .before .before .before .good .1 .0 .1) }
 
 returns-6 : tie.Need-returns-6
-returns-6 c = let s = c .before .before .before .before .before .before .before .before .before .before .before .before .before .before .before .before .before .before .before in
-    let f = c .before .before .before .before .before .before .before .before .before .before .before .before .before in
-    let read = c .before .before .before .before .before .before .before .before .before .before .before .before .before .before .before .before .length-to .ensures in
+returns-6 c = let s = c .before .before .before .before .before .before .before .before .before .before .before .before .before .before .before .before .before .before .before .before in
+    let f = c .before .before .before .before .before .before .before .before .before .before .before .before .before .before in
+    let read = c .before .before .before .before .before .before .before .before .before .before .before .before .before .before .before .before .before .length-to .ensures in
     rw (c .rewritten6 .ensures, read, c .before .before .before .before .put .ensures .1)
-    (text-taken (s .args .self) (s .args .input .now) (s .args .out .now) (s .pre .0) (f .step .result) (there f) (step-is f) (not-false _ (c .before .before .before .before .before .before .before .before .before .before .before .if3 .left)) (sym (fits-is (c .before .before .before .before .before .before .before .before)) ∙ not-false _ (c .before .before .before .before .before .before .before .if4 .left)) _ (text-is (c .before .before .before .before .before .before)) (sym (c .before .before .before .before .put .ensures .0) ∙ not-false _ (c .before .if5 .left)))
+    (text-taken (s .args .self) (s .args .input .now) (s .args .out .now) (s .pre .0) (f .step .result) (there f) (step-is f) (not-false _ (c .before .before .before .before .before .before .before .before .before .before .before .before .if3 .left)) (sym (fits-is (c .before .before .before .before .before .before .before .before .before)) ∙ not-false _ (c .before .before .before .before .before .before .before .before .if4 .left)) _ (text-is (c .before .before .before .before .before .before)) (sym (c .before .before .before .before .put .ensures .0) ∙ not-false _ (c .before .if5 .left)))
 
 pub rewrite-first-spec : {M : Type 1} → statement M
 rewrite-first-spec =
