@@ -6,31 +6,28 @@ ghost use Rattle.ballbox.specs.Box.{modeD, withFormat, withMode, withTra
 ghost use Rattle.ballbox.specs.Presses.{none};
 ghost use Rattle.ballbox.specs.Latching.{cleared};
 ghost use Rattle.ballbox.specs.Commands.{isTimed, isStream, commandOf, codeByte, obeyed};
+use crate::ACK;
+use crate::BYTE_05;
 use crate::BallBox;
 use crate::Command;
-use crate::FORMAT_A;
-use crate::FORMAT_B;
-use crate::FORMAT_S;
-use crate::FORMAT_T;
-use crate::FORMAT_U;
-use crate::FORMAT_V;
-use crate::FORMAT_W;
 use crate::Going;
+use crate::LETTER_F;
+use crate::LETTER_P;
+use crate::LETTER_T;
 use crate::MODE_D;
 use crate::MODE_O;
+use crate::MODE_R;
+use crate::SPACE;
 use crate::presses::none;
+use wire::FORMAT_A;
+use wire::FORMAT_B;
+use wire::FORMAT_S;
+use wire::FORMAT_T;
+use wire::FORMAT_U;
+use wire::FORMAT_V;
+use wire::FORMAT_W;
 
-// The host's bytes that are no letter of a format or of a stream mode, beside D.
-const LETTER_P: u8 = b'P';
-
-const SPACE: u8 = b' ';
-
-const LETTER_F: u8 = b'f';
-
-const LETTER_T: u8 = b't';
-
-const BYTE_05: u8 = 5;
-
+// The host's byte that makes the box dormant.
 const LETTER_D: u8 = b'd';
 
 // The modes in which the report interval counts.
@@ -40,15 +37,11 @@ const MODE_K: u8 = b'K';
 
 const MODE_L: u8 = b'L';
 
-const MODE_R: u8 = b'R';
-
 const MODE_M: u8 = b'M';
 
 const MODE_Q: u8 = b'Q';
 
 const MODE_N: u8 = b'N';
-
-pub(crate) const ACK: u8 = 6;
 
 pub(crate) fn is_timed(mode: u8) -> bool
     ensures { λ r. ⌜ r ≡ isTimed mode ⌝ }

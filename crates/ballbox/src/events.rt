@@ -5,21 +5,21 @@ ghost use Prim.Native.Nat.{_≤_, _<_};
 ghost use Rattle.ballbox.specs.Events.{gives, quietly, moved, onMotion, onButtons, onPeriod, bytesLeft, wanted, latching, withByteReady, moreBehind, after, memoryAfter, nextByte, sending, dropped, onHost, woken};
 ghost use Rattle.ballbox.specs.Presses.{toShow};
 ghost use Rattle.ballbox.specs.Promises.{stepped};
-use crate::BREAK;
+use crate::ACK;
 use crate::BallBox;
-use crate::FORMAT_U;
 use crate::Going;
 use crate::MODE_O;
 use crate::Memory;
-use crate::SILENCE;
-use crate::SUCCESS;
 use crate::Stepped;
 use crate::Track;
-use crate::commands::ACK;
 use crate::commands::heard;
 use crate::commands::is_stream;
 use crate::commands::is_timed;
 use crate::nothing;
+use wire::BREAK;
+use wire::FORMAT_U;
+use wire::SILENCE;
+use wire::SUCCESS;
 
 impl Going {
     fn more_behind(self) -> bool

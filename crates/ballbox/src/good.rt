@@ -5,7 +5,6 @@ ghost use Rattle.ballbox.specs.Numbers.{numberFrom};
 ghost use Rattle.ballbox.specs.Good.{goodSettings, onPad, goodTrack, sentBelow, lengthKnown, secondHeld, restZero, goodGoing, dormantRightly, statesSmall, unusedZero, goodMemory, remembersRightly, showsRightly, marks};
 ghost use Rattle.ballbox.specs.Promises.{GoodPromise};
 use crate::BallBox;
-use crate::FORMAT_U;
 use crate::Going;
 use crate::MODE_D;
 use crate::MOST_BUTTONS;
@@ -15,6 +14,7 @@ use crate::Settings;
 use crate::Track;
 use crate::commands::is_stream;
 use crate::presses::PLACES;
+use wire::FORMAT_U;
 
 // A byte as a wide number.
 fn wide(byte: u8) -> u64

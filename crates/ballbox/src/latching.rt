@@ -9,14 +9,14 @@ ghost use Rattle.ballbox.specs.Latching.{limits, limited, limitExcess, m
 use crate::BallBox;
 use crate::Bounded;
 use crate::BoundedPair;
-use crate::FORMAT_A;
-use crate::FORMAT_B;
-use crate::FORMAT_U;
 use crate::Going;
 use crate::Pair;
 use crate::Track;
 use crate::motion::held;
 use crate::thrown::both;
+use wire::FORMAT_A;
+use wire::FORMAT_B;
+use wire::FORMAT_U;
 use wire::Range;
 use wire::Report;
 

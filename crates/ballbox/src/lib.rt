@@ -3,6 +3,8 @@ ghost use mathlib.Core.Path.{_≡_};
 ghost use Rattle.ballbox.specs.Box.{nothing, refused};
 ghost use Rattle.ballbox.specs.Promises.{stepped, FreshPromise, StepPromise};
 ghost use Rattle.ballbox.specs.declared.Event.the-variants.{Motion, Buttons, Host, Latch, Send, Period};
+use wire::BAD_STATE;
+use wire::FORMAT_U;
 
 mod commands;
 mod events;
@@ -12,35 +14,27 @@ mod motion;
 mod presses;
 mod thrown;
 
-// The letters of the formats and of the modes.
-pub(crate) const FORMAT_A: u8 = b'A';
+// The host's bytes that other crates know too: two modes, the commands that ask, and what acknowledges.
+pub const MODE_D: u8 = b'D';
 
-pub(crate) const FORMAT_B: u8 = b'B';
+pub const MODE_R: u8 = b'R';
 
-pub(crate) const FORMAT_S: u8 = b'S';
+pub const LETTER_P: u8 = b'P';
 
-pub(crate) const FORMAT_T: u8 = b'T';
+pub const SPACE: u8 = b' ';
 
-pub(crate) const FORMAT_U: u8 = b'U';
+pub const LETTER_F: u8 = b'f';
 
-pub(crate) const FORMAT_V: u8 = b'V';
+pub const LETTER_T: u8 = b't';
 
-pub(crate) const FORMAT_W: u8 = b'W';
+pub const BYTE_05: u8 = 5;
 
+pub const ACK: u8 = 6;
+
+// The mode in which every movement is reported at once.
 pub(crate) const MODE_O: u8 = b'O';
 
-pub(crate) const MODE_D: u8 = b'D';
-
-// Words on the line that are no bytes.
-pub(crate) const BREAK: u16 = 256;
-
-pub(crate) const SILENCE: u16 = 257;
-
 // Numbers given back.
-pub(crate) const SUCCESS: u8 = 0;
-
-const BAD_STATE: u8 = 6;
-
 const BAD_BUTTONS: u8 = 3;
 
 // "buttons 0-7"

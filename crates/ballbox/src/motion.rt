@@ -6,10 +6,10 @@ ghost use Rattle.ballbox.specs.Thrown.{bounded};
 ghost use Rattle.ballbox.specs.Motion.{placedAt, counted, countedOver, placed, apart, hasMoved};
 use crate::Bounded;
 use crate::BoundedPair;
-use crate::FORMAT_A;
 use crate::Pair;
 use crate::Track;
 use crate::thrown::both;
+use wire::FORMAT_A;
 
 // How far x lies from an end.
 fn beyond(x: i32, end: i16) -> i64

@@ -2,20 +2,11 @@
 ghost use Rattle.bridge.specs.Promises.{FreshPromise, GoodPromise, ConvertPromise};
 use crate::line::converted;
 use reader::Reader;
+use wire::BAD_STATE;
 
 mod line;
 mod remembered;
 mod splitting;
-
-// The numbers given back.
-pub(crate) const SUCCESS: u8 = 0;
-
-pub(crate) const BAD_STATE: u8 = 6;
-
-// The letters of the absolute format and of Microsoft's.
-pub(crate) const FORMAT_A: u8 = b'A';
-
-pub(crate) const FORMAT_V: u8 = b'V';
 
 // The position of the last report of A, where there was one.
 pub struct Base {

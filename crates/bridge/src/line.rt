@@ -9,11 +9,11 @@ ghost use Rattle.bridge.specs.Line.{whole, converts};
 ghost use Rattle.bridge.specs.Parts.{Reported, Begins};
 use crate::Bridge;
 use crate::Converted;
-use crate::SUCCESS;
 use crate::splitting::put;
 use reader::Answer;
 use reader::Reader;
 use wire::Report;
+use wire::SUCCESS;
 
 // A line of which words, reports that came in, V reports and dropped bytes are counted so far.
 pub(crate) fn converted(

@@ -3,9 +3,9 @@ ghost use mathlib.Core.Path.{_≡_};
 ghost use lib.IntN.{pos, _+ℤ_, _-ℤ_};
 ghost use Rattle.bridge.specs.Remembered.{none, mostSet, goodBase, summed, sinceBase, movement, oneMore, countedBy, noted};
 use crate::Base;
-use crate::FORMAT_A;
 use crate::Move;
 use crate::Past;
+use wire::FORMAT_A;
 use wire::Report;
 
 // The sum of two, and the difference.

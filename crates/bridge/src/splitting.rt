@@ -7,8 +7,8 @@ ghost use lib.IntN.{natAbs};
 ghost use Rattle.wire.specs.Table.{bytesOf};
 ghost use Rattle.wire.specs.declared.Format.the-variants.{Microsoft};
 ghost use Rattle.bridge.specs.Splitting.{Near, NearMove, carries, leaves, needs, countOf, leftAndRight, rest, reportV, split, bytesAll};
-use crate::FORMAT_V;
 use crate::Move;
+use wire::FORMAT_V;
 use wire::Report;
 
 // As much of a movement as a V report can carry.

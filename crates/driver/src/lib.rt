@@ -9,9 +9,6 @@ mod feeding;
 mod lines;
 mod recorded;
 
-// The width of numbers that have no leading zeros.
-pub(crate) const PLAIN: usize = 1;
-
 // The most lines, and the most slots of a line: as many as a recording has lines.
 pub(crate) const MOST_LINES: u32 = 999_999;
 

@@ -3,9 +3,9 @@ ghost use mathlib.Core.Path.{_≡_};
 ghost use Rattle.driver.specs.Lines.{aloneIn, formatIn, buttonsIn, hostIn, slotsIn, motionOf, motionIn, withFields, saidBy};
 use crate::MOST_LINES;
 use crate::Order;
-use crate::PLAIN;
 use ballbox::Event;
 use text::Number;
+use text::PLAIN;
 
 // The ends of a movement.
 const LEAST: i64 = -32_768;

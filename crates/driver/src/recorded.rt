@@ -3,18 +3,20 @@ ghost use Rattle.text.specs.Growth.{capacity};
 ghost use Rattle.driver.specs.Recorded.{recordsIn, wordBytes, recordBytes, allLines};
 ghost use Rattle.driver.specs.Feeding.{Holds};
 use crate::Given;
-use crate::PLAIN;
 use crate::Record;
+use text::PLAIN;
 use text::Text;
+use wire::BREAK;
+use wire::SILENCE;
 
 // A word: a break, a silence, or a byte.
 fn word(w: u16) -> Text
     ensures { λ r. ⌜ Holds 39 r (wordBytes w) ⌝ }
 {
-    if w == 256 {
+    if w == BREAK {
         return Text::none().with(b'X');
     }
-    if w == 257 {
+    if w == SILENCE {
         return Text::none().with(b'Q');
     }
     Text::none().with(b'B').with(b'\t').decimal(PLAIN, w as i64)

@@ -4,6 +4,9 @@ ghost use Rattle.hearing.specs.Called.{letterIn, smallIn, tenthsIn};
 ghost use Rattle.hearing.specs.Clock.{turnedOf};
 use text::Number;
 
+// More turns than a run has: each takes a tenth of a second or brings a byte.
+pub const TURNS: u64 = 1_000_000_000_000_000;
+
 // The letter of a format, if a word is one; else 0.
 pub fn letter_in(word: &[u8]) -> u8
     ensures { λ r. ⌜ r ≡ letterIn (now (word .entry)) ⌝ }

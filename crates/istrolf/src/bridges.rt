@@ -2,7 +2,6 @@
 ghost use mathlib.Core.Path.{_≡_};
 ghost use Rattle.istrolf.specs.Bridges.{packed, unpacked, stands, packedConverted, refusedConverted};
 ghost use Rattle.istrolf.specs.Promises.{FreshBridgePromise, ConvertPromise};
-use crate::BAD_STATE;
 use crate::ConvertedWords;
 use crate::FreshBridge;
 use crate::HeldBridge;
@@ -11,6 +10,7 @@ use bridge::Base;
 use bridge::Bridge;
 use bridge::Converted;
 use bridge::Past;
+use wire::BAD_STATE;
 
 fn packed(bridge: Bridge) -> HeldBridge
     ensures { λ r. ⌜ r ≡ packed bridge ⌝ }

@@ -18,9 +18,6 @@ mod told;
 mod watches;
 mod yards;
 
-// What is given back for what stands for no state.
-pub(crate) const BAD_STATE: u8 = 6;
-
 // A reader as C holds it: the mark that it awaits a silence is 0 or 1.
 #[repr(C)]
 pub struct HeldReader {

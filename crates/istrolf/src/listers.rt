@@ -2,13 +2,13 @@
 ghost use mathlib.Core.Path.{_≡_};
 ghost use Rattle.istrolf.specs.Listers.{packed, unpacked, stands, packedListed, refusedListed};
 ghost use Rattle.istrolf.specs.Promises.{FreshListerPromise, FeedPromise, FinishPromise};
-use crate::BAD_STATE;
 use crate::HeldLister;
 use crate::ListedBytes;
 use crate::readers;
 use listing::Listed;
 use listing::Lister;
 use listing::Scanner;
+use wire::BAD_STATE;
 
 fn packed(lister: Lister) -> HeldLister
     ensures { λ r. ⌜ r ≡ packed lister ⌝ }

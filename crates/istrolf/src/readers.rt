@@ -2,7 +2,6 @@
 ghost use mathlib.Core.Path.{_≡_};
 ghost use Rattle.istrolf.specs.Readers.{packed, unpacked, stands, noReport, packedRead, refusedRead, packedReading, refusedReading};
 ghost use Rattle.istrolf.specs.Promises.{FreshReaderPromise, ReaderStepPromise, ReadPromise};
-use crate::BAD_STATE;
 use crate::FreshReader;
 use crate::HeldReader;
 use crate::ReadWord;
@@ -11,6 +10,7 @@ use reader::Answer;
 use reader::Read;
 use reader::Reader;
 use reader::Reading;
+use wire::BAD_STATE;
 use wire::Report;
 
 pub(crate) fn packed(reader: Reader) -> HeldReader

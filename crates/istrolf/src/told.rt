@@ -3,7 +3,6 @@ ghost use mathlib.Core.Path.{_≡_};
 ghost use Rattle.replies.specs.declared.Asked.the-variants.{Command, Waking};
 ghost use Rattle.istrolf.specs.Told.{kindNumber, kindOf, packed, unpacked, stands, replied, packedReply, ownOf, packedHeard, refusedHeard, packedLine, refusedLine, packedTelling, refusedTelling};
 ghost use Rattle.istrolf.specs.Promises.{FreshToldPromise, TellPromise, ToldStepPromise, ToldReadPromise};
-use crate::BAD_STATE;
 use crate::FreshTold;
 use crate::HeardWord;
 use crate::HeardWords;
@@ -23,6 +22,7 @@ use replies::Kind;
 use replies::Reply;
 use replies::Telling;
 use replies::ToldReader;
+use wire::BAD_STATE;
 
 fn kind_number(kind: Kind) -> u8
     ensures { λ r. ⌜ r ≡ kindNumber kind ⌝ }

@@ -1,4 +1,4 @@
--- Lines of words, some at a time: where they lie in a piece, and what their words give.
+-- Lines of words, some at a time: the quick way. Where they lie in a piece, and what their words give.
 use Prim.Native.Nat.{ℕ, _+_, _<_, _≤_}
 use mathlib.Core.Path.{_≡_}
 use mathlib.Core.Bool.{Bool, true, false, not, cond, _&&_}

@@ -1,4 +1,5 @@
--- The lister: the scanner and the reader behind it, fed byte by byte, with the text of each byte; and a piece of the input, which stops for room.
+-- The lister, byte by byte: the rule. The scanner and the reader behind it, the text of each byte; and a piece of the
+-- input, which stops for room. Batches is the quick way.
 use Prim.Native.Nat.{ℕ}
 use mathlib.Core.Path.{_≡_}
 use mathlib.Core.Bool.{Bool, false, not, cond, _&&_}

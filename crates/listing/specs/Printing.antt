@@ -1,4 +1,5 @@
--- Items, to bytes at a width of line numbers: a line is a letter and its fields, each behind a tab.
+-- Items to bytes, at a width of line numbers: the rule. A line is a letter and its fields, each behind a tab. Stamped is
+-- the quick way.
 use Prim.Native.Nat.{ℕ}
 use mathlib.Core.Bool.{Bool, true, false, cond}
 use mathlib.Core.List.{List, [], _∷_, _++_}

@@ -1,4 +1,4 @@
--- Lines in places that are there, and the number of a line, which is carried on to the next.
+-- Lines in places that are there: the quick way. The number of a line is carried on to the next.
 use Prim.Native.Nat.{ℕ, _+_}
 use mathlib.Core.Path.{_≡_}
 use mathlib.Core.List.{List, [], _∷_, _++_}

@@ -1,4 +1,5 @@
-// Lines of words, some at a time: their words are gathered, read at once, and what they give is printed.
+// Lines of words, some at a time: the quick way, proved to be the rule (feeding.rt). Their words are gathered and read
+// at once, and what they give is printed.
 ghost use mathlib.Core.Path.{_≡_};
 ghost use mathlib.Core.Bool.{_&&_};
 ghost use lib.Dec.{eqb};
@@ -23,15 +24,13 @@ use crate::lines;
 use crate::scanning::most_lines;
 use crate::stamped;
 use reader::Reader;
+use wire::SILENCE;
 
 // How many lines are taken at once.
 const MANY: usize = 32;
 
 // The places that the text of a line has room in.
 const ROOM: usize = 40;
-
-// The word of a silence.
-const SILENCE: u16 = 257;
 
 // How many words were gathered, and the place behind their lines.
 struct Batch {

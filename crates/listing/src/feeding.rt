@@ -1,4 +1,5 @@
-// The lister: the scanner and the reader behind it, fed in pieces, with the text to a lent slice.
+// The lister, byte by byte: the rule. The scanner and the reader behind it are fed in pieces; the text goes to a lent
+// slice. batches.rt is the quick way.
 ghost use mathlib.Core.Path.{_≡_};
 ghost use Prim.Native.Nat.{_<_};
 ghost use lib.ListN.{length};

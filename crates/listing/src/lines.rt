@@ -8,14 +8,16 @@ ghost use Rattle.listing.specs.Lines.{tab, byteOf, byteIn, markIn, forma
 use crate::Line;
 use crate::Told;
 use text::Number;
+use wire::BREAK;
+use wire::SILENCE;
 
 // A line of one byte.
 fn mark(a: u8) -> Line
     ensures { λ r. ⌜ r ≡ markIn a ⌝ }
 {
     match a {
-        b'X' => Line::Word(256),
-        b'Q' => Line::Word(257),
+        b'X' => Line::Word(BREAK),
+        b'Q' => Line::Word(SILENCE),
         _ => Line::Bad,
     }
 }
@@ -141,8 +143,8 @@ fn word_at(a: u8, b: u8, c: u8, d: u8, e: u8, f: u8) -> Told
         return told(0, 0);
     }
     match a {
-        b'Q' => told(2, 257),
-        b'X' => told(2, 256),
+        b'Q' => told(2, SILENCE),
+        b'X' => told(2, BREAK),
         _ => told(0, 0),
     }
 }

@@ -1,4 +1,5 @@
-// Items, to bytes in a slice or behind a text: a line is a letter and its fields, each behind a tab.
+// Items to bytes, in a slice or behind a text: the rule. A line is a letter and its fields, each behind a tab.
+// stamped.rt is the quick way.
 ghost use mathlib.Core.Path.{_≡_};
 ghost use mathlib.Core.List.{[], _∷_};
 ghost use lib.IntN.{pos};
@@ -14,10 +15,8 @@ use crate::Buttons;
 use crate::Given;
 use crate::Item;
 use crate::Middle;
+use text::PLAIN;
 use text::Text;
-
-// The width of other numbers: no leading zeros.
-const PLAIN: usize = 1;
 
 // A letter where a button is down.
 pub(crate) fn pressed(down: bool, letter: u8) -> u8

@@ -1,5 +1,5 @@
-// Lines of the listing in places that are there, so that none of their bytes asks for its own. The number of a line is carried on to the next, which mostly
-// changes its last digit alone.
+// Lines of the listing in places that are there: the quick way, proved to be the rule (printing.rt). None of the bytes
+// asks for its own place. The number of a line is carried on to the next, which mostly changes its last digit alone.
 ghost use mathlib.Core.Path.{_≡_};
 ghost use mathlib.Core.List.{[], _∷_, _++_};
 ghost use Prim.Native.Nat.{_+_, _-_, _<_, _≤_};

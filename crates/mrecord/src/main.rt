@@ -15,19 +15,15 @@ ghost use Rattle.mrecord.specs.Recording.{lineOf, behindLine, rest, told
 ghost use Rattle.mrecord.specs.Turns.{Hands, Goes};
 ghost use Rattle.mrecord.specs.Refusals.{refusalOf, Ended};
 use hearing::Clock;
+use hearing::TURNS;
 use port::Given;
 use port::Heard;
 use port::Port;
 use text::Text;
+use wire::BREAK;
+use wire::SILENCE;
 
 mod notes;
-
-const BREAK: u16 = 256;
-
-const SILENCE: u16 = 257;
-
-// More turns than a run has: each takes a tenth of a second or brings a byte.
-const TURNS: u64 = 1_000_000_000_000_000;
 
 // The port, how many lines are left, and the word of the last line.
 struct Tape {

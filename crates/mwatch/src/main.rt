@@ -18,6 +18,7 @@ ghost use Rattle.mwatch.specs.Watching.{counted, fieldOf, pressed, middl
 ghost use Rattle.mwatch.specs.Turns.{Put, Looks, Hands, Goes};
 ghost use Rattle.mwatch.specs.Refusals.{refusalOf, Ended};
 use hearing::Clock;
+use hearing::TURNS;
 use port::Given;
 use port::Heard;
 use port::Port;
@@ -26,9 +27,6 @@ use reader::Reader;
 use saves::Watch;
 use text::Text;
 use wire::Report;
-
-// More turns than a run has: each takes a tenth of a second or brings a byte.
-const TURNS: u64 = 1_000_000_000_000_000;
 
 // A reader and a watch behind it, and how many reports, presses and dropped bytes there were.
 struct Look {

@@ -10,11 +10,6 @@ use crate::marks::quiet_of;
 mod line;
 mod marks;
 
-// The words that are no bytes.
-pub(crate) const BREAK: u16 = 256;
-
-pub(crate) const SILENCE: u16 = 257;
-
 // How far a mark has come: 0 none, 1 FF, else FF 00. Whether bit 7 of every byte is cleared: 0 if not. How long nothing
 // must come for a silence, 0 for never; and how much of that is left, 0 once it was told.
 #[repr(C)]

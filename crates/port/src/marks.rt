@@ -2,11 +2,11 @@
 ghost use mathlib.Core.Path.{_≡_};
 ghost use Rattle.port.specs.declared.Given.the-variants.{Word};
 ghost use Rattle.port.specs.Marks.{cleared, heard, plain, behindMark, byteOf, quietOf, lostOf};
-use crate::BREAK;
 use crate::Given;
 use crate::Heard;
 use crate::Port;
-use crate::SILENCE;
+use wire::BREAK;
+use wire::SILENCE;
 
 // A byte of the line, without bit 7 where the port clears it.
 fn cleared(clears: u8, b: u8) -> u8

@@ -3,10 +3,10 @@ ghost use mathlib.Core.Path.{_≡_};
 ghost use Rattle.puck.specs.Good.{follows, rests, goodTest};
 ghost use Rattle.puck.specs.Promises.{GoodPromise};
 use crate::Puck;
-use crate::rules::FORMAT_S;
-use crate::rules::MODE_D;
-use crate::rules::MODE_R;
 use ballbox::BallBox;
+use ballbox::MODE_D;
+use ballbox::MODE_R;
+use wire::FORMAT_S;
 
 // In S, in mode R or D, awake, with nothing or a report going.
 fn follows(ball: BallBox) -> bool

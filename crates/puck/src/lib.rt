@@ -4,14 +4,10 @@ ghost use Rattle.puck.specs.Device.{refused};
 ghost use Rattle.puck.specs.Promises.{stepped, MadePromise, StepPromise};
 use ballbox::BallBox;
 use ballbox::Event;
+use wire::BAD_STATE;
 
 mod good;
 mod rules;
-
-// Numbers given back.
-pub(crate) const SUCCESS: u8 = 0;
-
-const BAD_STATE: u8 = 6;
 
 // The self-test that is going: how many of its four bytes are left to be sent, 0 where none is going, and the buttons as they were at its start.
 #[repr(C)]

@@ -9,34 +9,28 @@ ghost use Rattle.puck.specs.Rules.{gives, isBoxes, asBox, byBox, byT, le
 ghost use Rattle.puck.specs.Promises.{stepped};
 use crate::Puck;
 use crate::PuckStepped;
-use crate::SUCCESS;
 use crate::Testing;
 use ballbox::BallBox;
 use ballbox::Event;
 use ballbox::Excess;
 use ballbox::Going;
+use ballbox::LETTER_P;
+use ballbox::MODE_D;
+use ballbox::MODE_R;
 use ballbox::Memory;
 use ballbox::Pair;
 use ballbox::Settings;
 use ballbox::Sums;
 use ballbox::Track;
+use wire::BREAK;
+use wire::FORMAT_S;
+use wire::SUCCESS;
 
-// The letters of the format S and of the commands.
-pub(crate) const FORMAT_S: u8 = b'S';
-
-pub(crate) const MODE_R: u8 = b'R';
-
-pub(crate) const MODE_D: u8 = b'D';
-
-const LETTER_P: u8 = b'P';
-
-const LETTER_T: u8 = b'T';
+// The command that asks for the self-test.
+const SELF_TEST: u8 = b'T';
 
 // A byte that the box ignores.
 const NO_COMMAND: u8 = 0;
-
-// The word of a break.
-const BREAK: u16 = 256;
 
 // "device 2", and the error of a button that is down.
 const DEVICE: u8 = 2;
@@ -245,7 +239,7 @@ impl Puck {
             Event::Motion(_, _) => self.by_box(event),
             Event::Buttons(_) => self.by_box(event),
             Event::Host(byte) => {
-                if byte == LETTER_T {
+                if byte == SELF_TEST {
                     return self.by_t();
                 }
                 self.by_box(event)

@@ -6,9 +6,7 @@ ghost use Rattle.vsxxx.specs.Reports.{sizeFrom, fitsStart, fitsBehind};
 ghost use Rattle.vsxxx.specs.SelfTests.{isTest};
 ghost use Rattle.puckreader.specs.Promises.{GoodPromise};
 use crate::PuckReader;
-
-// The letter of S, whose reports the movements are.
-pub(crate) const FORMAT_S: u8 = b'S';
+use wire::FORMAT_S;
 
 // Whether a byte begins a self-test.
 pub(crate) fn is_test(byte: u8) -> bool

@@ -3,23 +3,12 @@ ghost use Rattle.puckreader.specs.Promises.{FreshPromise, StepPromise, R
 use crate::rules::holding;
 use crate::rules::refusing;
 use vsxxx::SelfTest;
+use wire::BAD_STATE;
 use wire::Report;
 
 mod good;
 mod line;
 mod rules;
-
-// The words that are no bytes.
-pub(crate) const BREAK: u16 = 256;
-
-pub(crate) const SILENCE: u16 = 257;
-
-// The numbers given back.
-pub(crate) const SUCCESS: u8 = 0;
-
-pub(crate) const BAD_WORD: u8 = 4;
-
-pub(crate) const BAD_STATE: u8 = 6;
 
 // The bytes kept and how many.
 #[repr(C)]

@@ -14,9 +14,9 @@ ghost use Rattle.puckreader.specs.Good.{good};
 use crate::PuckAnswer;
 use crate::PuckReader;
 use crate::PuckReading;
-use crate::SUCCESS;
 use vsxxx::SelfTest;
 use wire::Report;
+use wire::SUCCESS;
 
 // An error of so much or more is fatal.
 const FATAL: u8 = 0x20;

@@ -9,18 +9,18 @@ ghost use Rattle.vsxxx.specs.Reports.{puckFrame, fitsPuck};
 ghost use Rattle.puckreader.specs.State.{reader, keptIn, told};
 ghost use Rattle.puckreader.specs.Rules.{refusing, answered, wordOf};
 ghost use Rattle.puckreader.specs.Good.{good};
-use crate::BAD_WORD;
-use crate::BREAK;
 use crate::PuckAnswer;
 use crate::PuckRead;
 use crate::PuckReader;
-use crate::SILENCE;
-use crate::SUCCESS;
-use crate::good::FORMAT_S;
 use crate::good::fits_behind;
 use crate::good::fits_start;
 use crate::good::is_test;
 use vsxxx::SelfTest;
+use wire::BAD_WORD;
+use wire::BREAK;
+use wire::FORMAT_S;
+use wire::SILENCE;
+use wire::SUCCESS;
 
 // A reader with these bytes in its places, of which so many are kept.
 pub(crate) fn holding(count: u8, a: u8, b: u8, c: u8) -> PuckReader

@@ -7,6 +7,7 @@ use crate::Kind;
 use crate::Took;
 use crate::Value;
 use text::Number;
+use text::PLAIN;
 
 // The highest number of a line.
 const MOST: i64 = 999_999;
@@ -15,9 +16,6 @@ const MOST: i64 = 999_999;
 const HIGH: i64 = 32_767;
 
 const LOW: i64 = -32_768;
-
-// The width of numbers that have no leading zeros.
-const PLAIN: usize = 1;
 
 // No field of the kind.
 fn none() -> Value

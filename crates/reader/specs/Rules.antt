@@ -1,4 +1,4 @@
--- What one word does, rule by rule.
+-- What one word does, rule by rule: the rule. Whole is the quick way.
 use Prim.Native.Nat.{ℕ, _+_}
 use mathlib.Core.Bool.{Bool, false, cond, _&&_}
 use mathlib.Core.List.{List, [], _∷_}

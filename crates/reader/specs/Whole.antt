@@ -1,4 +1,4 @@
--- A whole report at the front of a line, told word by word as the rules tell it.
+-- A whole report at the front of a line: the quick way. It is told word by word, as the rules tell it.
 use Prim.Native.Nat.{ℕ, _%_}
 use mathlib.Core.Bool.{Bool, cond, _&&_}
 use mathlib.Core.List.{List, [], _∷_}

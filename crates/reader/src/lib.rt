@@ -3,7 +3,11 @@ ghost use Rattle.reader.specs.Promises.{FreshPromise, StepPromise, ReadP
 use crate::rules::refusing;
 use crate::state::no_bytes;
 use crate::telling::so_far;
+use wire::BAD_LETTER;
+use wire::BAD_STATE;
+use wire::FORMAT_U;
 use wire::Report;
+use wire::SUCCESS;
 
 mod good;
 mod line;
@@ -11,25 +15,6 @@ mod rules;
 mod state;
 mod telling;
 mod whole;
-
-// The words that are no bytes.
-pub(crate) const BREAK: u16 = 256;
-
-pub(crate) const SILENCE: u16 = 257;
-
-// The numbers given back.
-pub(crate) const SUCCESS: u8 = 0;
-
-pub(crate) const BAD_LETTER: u8 = 1;
-
-pub(crate) const BAD_WORD: u8 = 4;
-
-pub(crate) const BAD_STATE: u8 = 6;
-
-// The letters of the five byte format and of Microsoft's.
-pub(crate) const FORMAT_U: u8 = b'U';
-
-pub(crate) const FORMAT_V: u8 = b'V';
 
 // A format by its letter, the bytes kept and how many, and whether it awaits a silence.
 pub struct Reader {

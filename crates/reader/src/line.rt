@@ -13,12 +13,12 @@ use crate::Answer;
 use crate::Read;
 use crate::Reader;
 use crate::Reading;
-use crate::SILENCE;
-use crate::SUCCESS;
 use crate::state::no_bytes;
 use crate::whole::passed;
 use crate::whole::whole;
 use wire::Report;
+use wire::SILENCE;
+use wire::SUCCESS;
 
 // The five numbers of a report, to the front of a slice.
 pub(crate) fn put(out: &mut [i16], report: Report)

@@ -1,4 +1,4 @@
-// What one word does to a good reader.
+// What one word does to a good reader: the rule. whole.rt is the quick way.
 ghost use mathlib.Core.Path.{_≡_};
 ghost use mathlib.Core.Bool.{true, false};
 ghost use Prim.Native.Nat.{_<_};
@@ -8,15 +8,15 @@ ghost use Rattle.reader.specs.Good.{good};
 ghost use Rattle.reader.specs.Parts.{Sized};
 ghost use Rattle.reader.specs.Rules.{entered, answered, refusing, dropping, fitting, starting, keep, start, lose, byteOf, wordOf};
 use crate::Answer;
-use crate::BAD_STATE;
-use crate::BAD_WORD;
-use crate::BREAK;
-use crate::FORMAT_V;
 use crate::Read;
 use crate::Reader;
-use crate::SILENCE;
-use crate::SUCCESS;
 use crate::state::no_bytes;
+use wire::BAD_STATE;
+use wire::BAD_WORD;
+use wire::BREAK;
+use wire::FORMAT_V;
+use wire::SILENCE;
+use wire::SUCCESS;
 
 // Every byte enters the reader through this, by the letter of the format: in V without bit 7.
 pub(crate) fn entered(letter: u8, byte: u8) -> u8

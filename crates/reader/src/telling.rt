@@ -7,10 +7,10 @@ ghost use Rattle.reader.specs.Parts.{Sized};
 ghost use Rattle.reader.specs.Telling.{told, tellsLine, placesOf, frontOf};
 use crate::Answer;
 use crate::Answers;
-use crate::BAD_STATE;
 use crate::Reader;
-use crate::SUCCESS;
 use crate::line::put;
+use wire::BAD_STATE;
+use wire::SUCCESS;
 
 // What is given back for the words taken so far.
 pub(crate) fn so_far(refusal: u8, next: Reader, taken: usize, written: usize) -> Answers

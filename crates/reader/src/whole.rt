@@ -1,6 +1,6 @@
-// Whole reports at the front of a line, and the silences between them, for a reader that is ready.
-// It is the same as word by word: a word that is a byte, and fits the place that is next, is kept by the rules, and the last of a report gives it.
-// The tests and the report are those of the rules.
+// Whole reports at the front of a line, and the silences between them: the quick way, proved to be the rule (rules.rt).
+// The reader is ready. A word that is a byte, and fits the place that is next, is kept by the rules; the last of a report
+// gives it. The tests and the report are those of the rules.
 ghost use mathlib.Core.Path.{_≡_};
 ghost use mathlib.Core.Logic.{_⊎_};
 ghost use Prim.Native.Nat.{_/_, _≤_};
@@ -9,9 +9,9 @@ ghost use Rattle.wire.specs.Line.{sizeBy};
 ghost use Rattle.reader.specs.State.{ready};
 ghost use Rattle.reader.specs.Parts.{Stands};
 ghost use Rattle.reader.specs.Whole.{brings, fitsWord, wholeBy, bytesAt};
-use crate::SILENCE;
 use crate::line::put;
 use crate::rules::entered;
+use wire::SILENCE;
 
 // The words passed, and the places of their reports.
 pub(crate) struct Run {

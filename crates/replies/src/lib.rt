@@ -7,16 +7,14 @@ use crate::rules::kind_of;
 use crate::rules::refusing;
 use reader::Answer;
 use reader::Reader;
+use wire::BAD_STATE;
+use wire::SUCCESS;
 
 mod line;
 mod replying;
 mod rules;
 
 // The numbers given back.
-pub(crate) const SUCCESS: u8 = 0;
-
-pub(crate) const BAD_STATE: u8 = 6;
-
 pub(crate) const NO_REPLY: u8 = 12;
 
 // What was just sent: a command, by its byte, or a byte of any kind that woke a dormant box.

@@ -6,9 +6,7 @@ use crate::Awaited;
 use crate::Came;
 use crate::Kind;
 use crate::Reply;
-
-// "ACK (06H)".
-const ACK: u8 = 6;
+use ballbox::ACK;
 
 // No reply is awaited.
 pub(crate) fn nothing() -> Awaited

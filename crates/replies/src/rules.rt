@@ -5,19 +5,14 @@ use crate::Asked;
 use crate::Heard;
 use crate::Kind;
 use crate::Reply;
-use crate::SUCCESS;
 use crate::ToldReader;
 use crate::replying::nothing;
+use ballbox::BYTE_05;
+use ballbox::LETTER_F;
+use ballbox::LETTER_T;
+use ballbox::SPACE;
 use reader::Answer;
-
-// The commands that have a reply.
-const SPACE: u8 = b' ';
-
-const LETTER_F: u8 = b'f';
-
-const LETTER_T: u8 = b't';
-
-const BYTE_05: u8 = 5;
+use wire::SUCCESS;
 
 // The reply that a command has.
 fn reply_to(byte: u8) -> Kind

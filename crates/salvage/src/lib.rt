@@ -7,6 +7,7 @@ ghost use Rattle.frames.specs.Words.{isByte, lineWords};
 ghost use Rattle.wire.specs.Line.{sizeBy};
 ghost use Rattle.salvage.specs.Picking.{fitsWord, refusalOf, whole, picking};
 ghost use Rattle.salvage.specs.Promises.{StartsPromise, PickPromise};
+use wire::SILENCE;
 
 // The most words of a log.
 pub const MOST: usize = 4096;
@@ -84,7 +85,7 @@ fn line_words(words: &[u16]) -> bool
     let mut ok = true;
     let mut i: usize = 0;
     while i < words.len() {
-        ok = ok & (words[i] <= 257);
+        ok = ok & (words[i] <= SILENCE);
         i = i + 1;
     }
     ok

@@ -4,6 +4,9 @@ ghost use Rattle.text.specs.Promises.{LengthToPromise};
 mod decimals;
 mod growth;
 
+// The width of numbers that have no leading zeros.
+pub const PLAIN: usize = 1;
+
 // The bytes of a text are its first len.
 pub struct Text {
     pub bytes: [u8; 40],

@@ -11,6 +11,35 @@ mod reading;
 mod signed;
 mod table;
 
+// The words on the line that are no bytes: "256 a break or a byte that arrived damaged, 257 a silence of one character time".
+pub const BREAK: u16 = 256;
+
+pub const SILENCE: u16 = 257;
+
+// The letters of the formats.
+pub const FORMAT_S: u8 = b'S';
+
+pub const FORMAT_V: u8 = b'V';
+
+pub const FORMAT_A: u8 = b'A';
+
+pub const FORMAT_B: u8 = b'B';
+
+pub const FORMAT_U: u8 = b'U';
+
+pub const FORMAT_T: u8 = b'T';
+
+pub const FORMAT_W: u8 = b'W';
+
+// The numbers given back: success, and the refusals that several crates give.
+pub const SUCCESS: u8 = 0;
+
+pub const BAD_LETTER: u8 = 1;
+
+pub const BAD_WORD: u8 = 4;
+
+pub const BAD_STATE: u8 = 6;
+
 // A report: the buttons as 4L+2M+R, the movement, and the second pair, which is zero except in U. North is positive.
 #[repr(C)]
 pub struct Report {

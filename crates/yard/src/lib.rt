@@ -3,28 +3,15 @@
 ghost use Rattle.yard.specs.Promises.{FreshPromise, StepPromise, CheckPromise};
 use crate::rules::none_gone;
 use crate::rules::refusing;
+use wire::BAD_LETTER;
+use wire::BAD_STATE;
+use wire::FORMAT_U;
+use wire::SUCCESS;
 
 mod good;
 mod log;
 mod rules;
 mod stands;
-
-// The words that are no bytes.
-pub(crate) const BREAK: u16 = 256;
-
-pub(crate) const SILENCE: u16 = 257;
-
-// The numbers given back.
-pub(crate) const SUCCESS: u8 = 0;
-
-pub(crate) const BAD_LETTER: u8 = 1;
-
-pub(crate) const BAD_WORD: u8 = 4;
-
-pub(crate) const BAD_STATE: u8 = 6;
-
-// The letter of the five byte format.
-pub(crate) const FORMAT_U: u8 = b'U';
 
 // How far a log has been checked: the format by its letter; of the report that is going the first byte, the last byte
 // and how many have gone; and 1 where a word has come that no box could send, else 0.

@@ -3,10 +3,10 @@ ghost use mathlib.Core.Path.{_≡_};
 ghost use mathlib.Core.Bool.{true};
 ghost use Rattle.yard.specs.Good.{good};
 ghost use Rattle.yard.specs.Log.{refused, checkedOf};
-use crate::BAD_WORD;
 use crate::Checked;
-use crate::SUCCESS;
 use crate::Yard;
+use wire::BAD_WORD;
+use wire::SUCCESS;
 
 // A refusal tells nothing of the words.
 pub(crate) fn refused(number: u8) -> Checked

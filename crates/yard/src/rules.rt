@@ -4,13 +4,13 @@ ghost use Prim.Native.Nat.{_<_};
 ghost use Rattle.wire.specs.Line.{sizeBy};
 ghost use Rattle.yard.specs.State.{noneGone, over};
 ghost use Rattle.yard.specs.Rules.{can, cannot, refusing, firstWith, oneMore, byteCan, silenceOf, wordOf};
-use crate::BAD_WORD;
-use crate::BREAK;
 use crate::Judged;
-use crate::SILENCE;
-use crate::SUCCESS;
 use crate::Yard;
 use crate::stands::stands;
+use wire::BAD_WORD;
+use wire::BREAK;
+use wire::SILENCE;
+use wire::SUCCESS;
 
 // A check between reports.
 pub(crate) fn none_gone(letter: u8) -> Yard
