@@ -11,7 +11,8 @@ use Rattle.ballbox.specs.Presses.{none}
 use Rattle.ballbox.specs.Latching.{cleared}
 use Rattle.ballbox.specs.declared.BallBox.{BallBox}
 use Rattle.ballbox.specs.declared.Command.{Command}
-use Rattle.ballbox.specs.declared.Command.the-variants.{SetFormat, SetStream, SetPrompt, AskReport, AskAck, AskCode, AskLetters, AskButtons, Sleep, Ignored}
+use Rattle.ballbox.specs.declared.Command.the-variants.{SetFormat, SetStream, SetPrompt, AskReport, AskAck, AskCode, AskLetters}
+use Rattle.ballbox.specs.declared.Command.the-variants.{AskButtons, Sleep, Ignored}
 
 -- the host's bytes that are no letter of a format or of a stream mode: P, space, `f`, `t`, 05H, `d`; D is `modeD`
 abbrev pub letterP : ℕ

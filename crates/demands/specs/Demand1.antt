@@ -730,7 +730,8 @@ readback-finish-refusals = readback-refusals.finish-refusals
 pub salvage-list-one : (input before : List ℕ) → OneWith (salvaged.ListPromise input before)
 salvage-list-one input before a b after behind = salvaged-answers.one-list input before
 
--- `Driver::fresh`, `feed`, `finish`: one answer; 6 alone, with the driver and the slice as they were and counts of 0; and no driver that they give is ever refused
+-- `Driver::fresh`, `feed`, `finish`: one answer; 6 alone, with the driver and the slice as they were and counts of 0;
+-- and no driver that they give is ever refused
 pub fresh-driver-one : One driver.FreshPromise
 fresh-driver-one a b = driver-answers.one-fresh
 

@@ -41,7 +41,8 @@ slots-were = slots-of.slots-were
 
 -- "A host byte may now break off a report of which no byte has gone, so a lone 256 can stand on the line." In U: a movement is latched, and the host
 -- sends O. What was latched is lost; the next movements are reported, a silence between them.
-pub lone-break : SendsAndRemembers FiveByte (Motion (pos 5) (pos 0) ∷ Latch ∷ Host modeO ∷ Motion (pos 7) (pos 0) ∷ slots 6 (Motion (pos 3) (pos 0) ∷ slots 5 []))
+pub lone-break : SendsAndRemembers FiveByte (Motion (pos 5) (pos 0) ∷ Latch ∷ Host modeO ∷ Motion (pos 7) (pos 0) ∷
+    slots 6 (Motion (pos 3) (pos 0) ∷ slots 5 []))
     (256 ∷ 0x87 ∷ 0x07 ∷ 0x00 ∷ 0x00 ∷ 0x00 ∷ 257 ∷ 0x87 ∷ 0x03 ∷ 0x00 ∷ 0x00 ∷ 0x00 ∷ [])
     (broken 0 (latchedIn FiveByte (withX 0 5)) ∷ finished (latchedIn FiveByte (withX 0 7)) ∷ silent ∷ finished (latchedIn FiveByte (withX 0 3)) ∷ [])
     []
@@ -49,7 +50,8 @@ unfolding computing
 lone-break = record { line = refl; is = refl; after = refl }
 
 -- a ready reader of U awaits a silence behind the lone 256, and hands out what comes behind it
-pub awaits-silence : handedOut (answers (stepsOf (ready (letterOf FiveByte)) (256 ∷ 0x87 ∷ 0x07 ∷ 0x00 ∷ 0x00 ∷ 0x00 ∷ 257 ∷ 0x87 ∷ 0x03 ∷ 0x00 ∷ 0x00 ∷ 0x00 ∷ []))) ≡ withX 0 3 ∷ []
+pub awaits-silence : handedOut (answers (stepsOf (ready (letterOf FiveByte))
+    (256 ∷ 0x87 ∷ 0x07 ∷ 0x00 ∷ 0x00 ∷ 0x00 ∷ 257 ∷ 0x87 ∷ 0x03 ∷ 0x00 ∷ 0x00 ∷ 0x00 ∷ []))) ≡ withX 0 3 ∷ []
 unfolding computing
 awaits-silence = refl
 
@@ -65,7 +67,8 @@ broken-unsent = record { line = refl; is = refl; after = refl }
 abbrev late : Report
 late = record { buttons = 0; x1 = pos 5; y1 = pos 0; x2 = minus 123; y2 = pos 0 }
 
-pub late-pair : SendsAndRemembers FiveByte (Motion (pos 5) (pos 0) ∷ Latch ∷ Motion (minus 120) (pos 0) ∷ Latch ∷ Send ∷ Send ∷ Send ∷ Motion (minus 3) (pos 0) ∷ Latch ∷ Send ∷ Send ∷ [])
+pub late-pair : SendsAndRemembers FiveByte (Motion (pos 5) (pos 0) ∷ Latch ∷ Motion (minus 120) (pos 0) ∷ Latch ∷ Send ∷ Send ∷ Send ∷
+    Motion (minus 3) (pos 0) ∷ Latch ∷ Send ∷ Send ∷ [])
     (0x87 ∷ 0x05 ∷ 0x00 ∷ 0x85 ∷ 0x00 ∷ [])
     (finished (latchedIn FiveByte late) ∷ [])
     []

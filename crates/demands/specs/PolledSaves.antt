@@ -52,7 +52,8 @@ module _ {f : Format} {b : BallBox} {a : Stepped} {events : List Event} {answers
   pub true-where-damage-shows : {front : List ℕ} {left : List Item} → Front a front
       → ShownItems (markedOf f) left (asItems front ++ itemsGiven events answers)
       → TrueOf f left (finishedReports f (sent a events))
-  true-where-damage-shows in-front = polled.true-where-damage-shows f (a .next) events answers (set-box run) (run .asked) (run .permitted) (front-given (setting run) in-front)
+  true-where-damage-shows in-front = polled.true-where-damage-shows f (a .next) events answers (set-box run) (run .asked) (run .permitted)
+      (front-given (setting run) in-front)
 
   -- And a finished report r of which every byte stays is handed out, whatever is left of the items before it, `early`,
   -- and behind it, `late`; i is the place of the word that ends it, counted among the words.
@@ -73,7 +74,8 @@ module _ {f : Format} {b : BallBox} {a : Stepped} {events : List Event} {answers
         → (i : ℕ) → suc i ≡ length (wordsIn early) + suc (length (passageWords messageBytes quietly)) + sizeOf f
         → HandsOutAt f (early ++ (word silence ∷ lineItems quietly ++ (asItems (messageBytes (report r)) ++ late))) i (carried f (r .report))
     stays-behind-a-silence =
-        polled.stays-behind-a-silence f (a .next) events answers (set-box run) (run .asked) (run .permitted) (front-given (setting run) in-front) before r after is behind
+        polled.stays-behind-a-silence f (a .next) events answers (set-box run) (run .asked) (run .permitted)
+          (front-given (setting run) in-front) before r after is behind
 
   module _ (button : Button) (c : CarriedBy f (isDown button)) (n : NewToldReader) (fresh : FreshPromise (letterOf f) n) (done : List Done) where
     -- Never a save that nobody made: its reports go to a watch, which tells that a button went down no more often than
@@ -102,7 +104,8 @@ module _ {f : Format} {b : BallBox} {a : Stepped} {events : List Event} {answers
           → timesDown button told ≡ made (isDown button) (a .next) events
       as-many-saves h =
           let is = handed-out follows .by-steps n done fresh q in
-          hearing.heard-known button (a .next .settings .buttons) (finishedReports f (sent a events)) told (rw is at h) ∙ all-seen begins events button c stream keeps never shown
+          hearing.heard-known button (a .next .settings .buttons) (finishedReports f (sent a events)) told (rw is at h)
+            ∙ all-seen begins events button c stream keeps never shown
 
       -- one that was not told them misses one press at most, that of the first report
       pub one-missed-at-most : HeardAll unaware (handedOut (ownAnswersOf done)) told → made (isDown button) (a .next) events ≤ suc (timesDown button told)
@@ -110,4 +113,5 @@ module _ {f : Format} {b : BallBox} {a : Stepped} {events : List Event} {answers
           let is = handed-out follows .by-steps n done fresh q in
           let near = hearing.fresh-near (isDown button) (a .next .settings .buttons) (finishedReports f (sent a events)) .1 in
           omega
-          (arith, near, hearing.heard-fresh button (finishedReports f (sent a events)) told (rw is at h), all-seen begins events button c stream keeps never shown)
+          (arith, near, hearing.heard-fresh button (finishedReports f (sent a events)) told (rw is at h),
+            all-seen begins events button c stream keeps never shown)

@@ -58,6 +58,7 @@ pub worked-S : (a : Checked) → CheckPromise (letterOf Mm) (0x90 ∷ 0x05 ∷ 0
 unfolding computing
 worked-S a p = p
 
-pub worked-U : (a : Checked) → CheckPromise (letterOf FiveByte) (0x87 ∷ 0x85 ∷ 0x00 ∷ 0x85 ∷ 0x00 ∷ 257 ∷ 0x83 ∷ 0x00 ∷ 0x00 ∷ 0x00 ∷ 0x00 ∷ []) a → a ≡ judgement 11 11
+pub worked-U : (a : Checked) → CheckPromise (letterOf FiveByte) (0x87 ∷ 0x85 ∷ 0x00 ∷ 0x85 ∷ 0x00 ∷ 257 ∷ 0x83 ∷ 0x00 ∷ 0x00 ∷ 0x00 ∷ 0x00 ∷ []) a
+    → a ≡ judgement 11 11
 unfolding computing
 worked-U a p = p

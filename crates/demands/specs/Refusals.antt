@@ -6,7 +6,8 @@ use mathlib.Core.List.{List, [], _∷_, map, List·Memᴰ, List·Memᴰ·head, L
 use mathlib.Core.Logic.{_⊎_, inl, inr, ⊎-elim}
 use lib.Dec.{eqb}
 use lib.IntN.{ℤ}
-use Rattle.wire.specs.Numbers.{success, badState, badLetter, badButtons, badFirstX, badFirstY, badSecondX, badSecondY, shortBuffer, badWord, RefusesRightly, accepted, refusal}
+use Rattle.wire.specs.Numbers.{success, badState, badLetter, badButtons, badFirstX, badFirstY, badSecondX, badSecondY, shortBuffer, badWord}
+use Rattle.wire.specs.Numbers.{RefusesRightly, accepted, refusal}
 use Rattle.wire.specs.Encoder.{refusalOf}
 use Rattle.wire.specs.Promises.{EncodePromise}
 use Rattle.wire.specs.declared.Report.{Report}

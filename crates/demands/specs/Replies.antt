@@ -1,5 +1,5 @@
--- Answers read by name. "The host half still guesses at replies. Add a reader for them. It is told the command just sent [..] and reads exactly that reply, then hands
--- over to the report reader."
+-- Answers read by name. "The host half still guesses at replies. Add a reader for them. It is told the command just
+-- sent [..] and reads exactly that reply, then hands over to the report reader."
 use Prim.Native.Nat.{ℕ, _+_, _*_, _<_, _≤_}
 use mathlib.Core.Path.{_≡_, refl, _∙_, sym}
 use mathlib.Core.Bool.{true, false, cond}
@@ -162,8 +162,8 @@ pub read-stays-good : (s : ToldReader) (words : List ℕ) (out : List ℤ) (a : 
     → (good (a .next) ≡ true) × (a .next .reader .format ≡ s .reader .format)
 read-stays-good = goodness.read-stays-good
 
--- Demand 2: a reply of a good box, read by a reader that was told of the command, comes back as the format, mode or buttons that the box had at the command; and
--- the ACK of a box that was woken by any byte.
+-- Demand 2: a reply of a good box, read by a reader that was told of the command, comes back as the format, mode or
+-- buttons that the box had at the command; and the ACK of a box that was woken by any byte.
 pub reply-read : (b : BallBox) (byte : ℕ) (s : ToldReader) (done : List Done)
     → boxes.good b ≡ true
     → hasReply byte ≡ true
@@ -178,9 +178,10 @@ pub waking-read : (s : ToldReader) (done : List Done)
     → ReadsReply s ack reply.Ack done
 waking-read = there.woken
 
--- The same over the public step. The box is awake and whatever is going is broken off, or it is dormant; the events that follow have no byte of the host's and
--- just so many Sends as the reply has bytes. Any permitted answers send the reply: a reader in any good state, so behind the command's own 256 too, that is told
--- and handed their words reads it whole.
+-- The same over the public step. The box is awake and whatever is going is broken off, or it is dormant; the events
+-- that follow have no byte of the host's and just so many Sends as the reply has bytes. Any permitted answers send the
+-- reply: a reader in any good state, so behind the command's own 256 too, that is told and handed their words reads it
+-- whole.
 pub sent-reply-read : (b : BallBox) (byte : ℕ) (a : Stepped) (events : List Event) (answers : List Stepped) (s : ToldReader) (done : List Done)
     → boxes.good b ≡ true
     → dormant b ≡ false
@@ -218,14 +219,16 @@ pub word-counts : (s : ToldReader) (w : ℕ) (h : Heard)
     → StepPromise s w h
     → h .refusal ≡ success
     → byteIn w + (s .reader .count + s .awaited .came .count)
-    ≡ sizeBy (s .reader .format) * reportsIn (h .answer) + droppedIn (h .answer) + wholeBytes (h .reply) + brokenBytes (h .reply) + (h .next .reader .count + h .next .awaited .came .count)
+    ≡ sizeBy (s .reader .format) * reportsIn (h .answer) + droppedIn (h .answer) + wholeBytes (h .reply) + brokenBytes (h .reply) +
+      (h .next .reader .count + h .next .awaited .came .count)
 word-counts = counting.step-counts
 
 pub line-counts : (s : ToldReader) (words : List ℕ) (out : List ℤ) (a : HeardLine) (after : List ℤ)
     → good s ≡ true
     → ReadPromise s words out a after
     → bytesIn (take (a .taken) words) + (s .reader .count + s .awaited .came .count)
-    ≡ sizeBy (s .reader .format) * a .reports + a .dropped + wholeBytes (a .reply) + brokenBytes (a .reply) + (a .next .reader .count + a .next .awaited .came .count)
+    ≡ sizeBy (s .reader .format) * a .reports + a .dropped + wholeBytes (a .reply) + brokenBytes (a .reply) +
+      (a .next .reader .count + a .next .awaited .came .count)
 line-counts = counting.read-counts
 
 -- "if the words before it were all taken, the results join as one"
@@ -298,8 +301,8 @@ pub letters-exactly : (s : ToldReader) (t : Telling) (f m : ℕ) (h k : Heard)
     × (among sevenLetters f ≡ true → k .reply ≡ cond (among modeLetters m) (reply.Letters f m) (reply.Broken (came 1 f 0)))
 letters-exactly = accepted.letters-exactly
 
--- Demand 3: "Demand 3 now also covers runs with `f` and `t` when the reader is told of each and the stretch stays clear of everything from a telling to the reply's
--- last byte or break."
+-- Demand 3: "Demand 3 now also covers runs with `f` and `t` when the reader is told of each and the stretch stays clear
+-- of everything from a telling to the reply's last byte or break."
 pub record Run (f : Format) (b : BallBox) (a : Stepped) (events : List Event) (answers : List Stepped) : Type 0 where
   pub good : boxes.good b ≡ true
   pub awake : dormant b ≡ false

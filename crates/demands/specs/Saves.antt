@@ -17,7 +17,8 @@ use Rattle.frames.proofs.Passages.{passages-append}
 use Rattle.wire.specs.Line.{letterOf, sizeOf, markedOf}
 use Rattle.wire.specs.Holds.{carried}
 use Rattle.wire.specs.Messages.{Message, report, messageBytes, SoundIn, SoundEnd, finishedReports}
-use Rattle.wire.specs.Buttons.{Button, left, middle, right, isDown, presses, buttonsOf, pressesFrom, buttonsSent, buttonsBegun, buttonsGoing, buttonsIn, CarriedBy}
+use Rattle.wire.specs.Buttons.{Button, left, middle, right, isDown, presses, buttonsOf, pressesFrom, buttonsSent, buttonsBegun}
+use Rattle.wire.specs.Buttons.{buttonsGoing, buttonsIn, CarriedBy}
 use Rattle.wire.specs.declared.Report.{Report}
 use Rattle.wire.specs.declared.Format.{Format}
 use Rattle.wire.specs.declared.Format.the-variants.{Microsoft}
@@ -178,7 +179,8 @@ module _ {f : Format} {b : BallBox} {g : UnderWay Message} (box : Box f b g) (fr
       ends : Within before pre old → EndsAt f before given old new place
       ends w = omega (arith, size-between f .0)
 
-      seen : HandsOutAt f (given ++ (pre ++ (new ++ post))) place (carried f (shown .latched .report)) → SeenAt f (given ++ (pre ++ (new ++ post))) (buttonsIn f n)
+      seen : HandsOutAt f (given ++ (pre ++ (new ++ post))) place (carried f (shown .latched .report))
+        → SeenAt f (given ++ (pre ++ (new ++ post))) (buttonsIn f n)
       seen h =
           record {
             place = place;
@@ -206,7 +208,8 @@ module _ {f : Format} {b : BallBox} {g : UnderWay Message} (box : Box f b g) (fr
           rw (e, passages-append messageBytes, length-append) (omega arith) in
           let w2 : Within before pre old = omega (arith, longer, long) in
           let later-unbroken : Unbroken (shown .before ++ (finished (report (shown .latched)) ∷ shown .after)) = rw (shown .is) at (outlives .unbroken) in
-          seen (damaged.unmarked f _ _ given pre old new post replaced before (shown .latched) (shown .after) is place (ends w2) ahead (quietly ++ shown .before)
+          seen (damaged.unmarked f _ _ given pre old new post replaced before (shown .latched) (shown .after) is place (ends w2) ahead
+            (quietly ++ shown .before)
           (ap (λ (x : List (Passage Message)). x ++ shown .before) e ∙ append-assoc ahead (silent ∷ quietly) (shown .before))
           (unbroken-then quietly (shown .before) u (front-unbroken (shown .before) (finished (report (shown .latched)) ∷ shown .after) later-unbroken)) w)
 
@@ -370,7 +373,8 @@ module _ {f : Format} {b : BallBox} (begins : Begins f b) (events : List Event) 
         let same = buttons.presses-carried f down c was (buttonsBegun sent ++ buttonsGoing going) in
         let all = never-begun b nothing events (carrying .good) (carrying .carries) (carrying .showing) down was in
         let more =
-        buttons.fewer down was (sub-append (sub-all (buttonsBegun sent)) (sub-more (buttonsGoing going) (remembered (boxAfter b events .memory) ++ (boxAfter b events .settings .buttons ∷ [])))) in
+        buttons.fewer down was (sub-append (sub-all (buttonsBegun sent))
+          (sub-more (buttonsGoing going) (remembered (boxAfter b events .memory) ++ (boxAfter b events .settings .buttons ∷ [])))) in
         let now = rw (begins .none) at all in
         rw (scars.scarred-out f m sent going (is-sound .0) at-end d start .by-steps steps q)
         (tells button (b .settings .buttons) found (omega (arith, few, same, more, now, buttons.stays-so down was)))

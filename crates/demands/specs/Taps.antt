@@ -60,7 +60,8 @@ unfolding computing
 tap-in-S = record { line = refl; is = refl; after = refl }
 
 -- the recorder's reader hands out M down once, and then up
-pub tap-seen-in-S : HandsOutBy (ready (letterOf Mm)) (0x98 ∷ 0x05 ∷ 0x00 ∷ 0x9A ∷ 0x07 ∷ 0x00 ∷ 0x98 ∷ 0x00 ∷ 0x00 ∷ []) (withX 0 5 ∷ withX 2 7 ∷ withX 0 0 ∷ [])
+pub tap-seen-in-S : HandsOutBy (ready (letterOf Mm)) (0x98 ∷ 0x05 ∷ 0x00 ∷ 0x9A ∷ 0x07 ∷ 0x00 ∷ 0x98 ∷ 0x00 ∷ 0x00 ∷ []) (withX 0 5 ∷ withX 2 7 ∷
+    withX 0 0 ∷ [])
 unfolding computing
 tap-seen-in-S =
     let run : Streaming (boxIn Mm) nothing tapS (answersTo (boxIn Mm) tapS) =
@@ -109,7 +110,8 @@ pub base-loses-it : (baseWords (boxIn Mm) tapS ≡ 0x98 ∷ 0x05 ∷ 0x00 ∷ 0x
 unfolding computing
 base-loses-it = (refl, refl)
 
-pub base-loses-it-in-U : (baseWords (boxIn FiveByte) tapU ≡ 0x87 ∷ 0x05 ∷ 0x00 ∷ 0x00 ∷ 0x00 ∷ 0x87 ∷ 0x07 ∷ 0x00 ∷ 0x00 ∷ 0x00 ∷ 257 ∷ 257 ∷ 257 ∷ 257 ∷ 257 ∷ [])
+pub base-loses-it-in-U : (baseWords (boxIn FiveByte) tapU
+    ≡ 0x87 ∷ 0x05 ∷ 0x00 ∷ 0x00 ∷ 0x00 ∷ 0x87 ∷ 0x07 ∷ 0x00 ∷ 0x00 ∷ 0x00 ∷ 257 ∷ 257 ∷ 257 ∷ 257 ∷ 257 ∷ [])
     × (handedOut (answers (stepsOf (ready (letterOf FiveByte)) (baseWords (boxIn FiveByte) tapU))) ≡ withX 0 5 ∷ withX 0 7 ∷ [])
 unfolding computing
 base-loses-it-in-U = (refl, refl)

@@ -1,5 +1,6 @@
--- A box to try, through to the end: lines of events to a recording, and the recording to its listing. "Listed by the lister, a run that is asked only for reports has an `R`
--- line for each finished report as it was sent, in order (in U, T and W from the first silence on, with no broken-off report between), and no other."
+-- A box to try, through to the end: lines of events to a recording, and the recording to its listing. "Listed by the
+-- lister, a run that is asked only for reports has an `R` line for each finished report as it was sent, in order (in U,
+-- T and W from the first silence on, with no broken-off report between), and no other."
 use Prim.Native.Nat.{ℕ, _+_, _-_, _≤_, _<_}
 use mathlib.Core.Path.{_≡_, refl, _∙_, ap}
 use mathlib.Core.Bool.{true, false}
@@ -117,15 +118,17 @@ module _ {f : Format} {input : List ℕ} {lines rest : List (List ℕ)} {a : Ste
   by-steps : {reports : List Report} → HandsOut f (wordsGiven given) reports → handedOut (answers (stepsOf (freshReader f) (wordsGiven given))) ≡ reports
   by-steps hands = hands (freshOf (letterOf f)) refl .by-steps (stepsOf (freshReader f) (wordsGiven given)) (permitted (freshReader f) (wordsGiven given))
 
-  handed : {reports : List Report} → Seen f (wordsGiven given) (sent a (eventsOf lines)) reports → handedOut (answers (stepsOf (freshReader f) (wordsGiven given))) ≡ reports
+  handed : {reports : List Report} → Seen f (wordsGiven given) (sent a (eventsOf lines)) reports
+      → handedOut (answers (stepsOf (freshReader f) (wordsGiven given))) ≡ reports
   handed (marked m) = by-steps (rw (as-sent run-of) (fresh-followed-marked f (sent a (eventsOf lines)) (stillGoing a (eventsOf lines)) (sound .0) (sound .1) m))
   handed (from-silence front later m is p u) =
       by-steps (rw (as-sent run-of) (fresh-followed f (sent a (eventsOf lines)) (stillGoing a (eventsOf lines)) (sound .0) (sound .1) front later is m p u))
   handed (no-silence m h) =
-      nothing-before-silence (letterOf f) (freshOf (letterOf f)) (wordsGiven given) (stepsOf (freshReader f) (wordsGiven given)) (letter-marked f ∙ m) refl h (permitted (freshReader f) (wordsGiven given))
+      nothing-before-silence (letterOf f) (freshOf (letterOf f)) (wordsGiven given) (stepsOf (freshReader f) (wordsGiven given)) (letter-marked f
+        ∙ m) refl h (permitted (freshReader f) (wordsGiven given))
 
--- An input that is good to its end: the reports that were seen, and at the end `H` and the bytes kept. The recording has a line for the format and one for each word, no
--- more than 999,999.
+-- An input that is good to its end: the reports that were seen, and at the end `H` and the bytes kept. The recording
+-- has a line for the format and one for each word, no more than 999,999.
 pub listed-whole : {f : Format} {input : List ℕ} {lines : List (List ℕ)} {a : Stepped} {given : List Stepped} {reports : List Report}
     → Tried f input lines [] a given
     → Seen f (wordsGiven given) (sent a (eventsOf lines)) reports
@@ -133,7 +136,8 @@ pub listed-whole : {f : Format} {input : List ℕ} {lines : List (List ℕ)} {a 
     → Lists f (recordingOf input) reports (item.H (keptAfter f (wordsGiven given) .count))
 unfolding itemsFrom gaveOf
 listed-whole {f} {input} {a = a} {given = given} {reports = reports} tried seen few =
-    listed f input (wordsGiven given) reports found.End _ (whole-found (tried .tries) a given (tried .set) (tried .permitted) (letter-known f) (legal tried) few) (handed tried seen) refl refl refl
+    listed f input (wordsGiven given) reports found.End _
+      (whole-found (tried .tries) a given (tried .set) (tried .permitted) (letter-known f) (legal tried) few) (handed tried seen) refl refl refl
 
 -- With more lines it has the reports that a fresh reader hands out of the first 999,998 words, and ends in `over`.
 pub listed-too-long : {f : Format} {input : List ℕ} {lines : List (List ℕ)} {a : Stepped} {given : List Stepped}
@@ -142,7 +146,8 @@ pub listed-too-long : {f : Format} {input : List ℕ} {lines : List (List ℕ)} 
     → Lists f (recordingOf input) (handedOut (answers (stepsOf (freshReader f) (take (mostLines - 1) (wordsGiven given))))) item.Over
 unfolding itemsFrom gaveOf
 listed-too-long {f} {input} {a = a} {given = given} tried many =
-    listed f input (take (mostLines - 1) (wordsGiven given)) _ found.Over _ (long-found (tried .tries) a given (tried .set) (tried .permitted) (letter-known f) (legal tried) many) refl refl refl refl
+    listed f input (take (mostLines - 1) (wordsGiven given)) _ found.Over _
+      (long-found (tried .tries) a given (tried .set) (tried .permitted) (letter-known f) (legal tried) many) refl refl refl refl
 
 -- "A line that is bad, or an event that the box refuses, ends it with `E` and the line's number, which `mlist` in turn lists as a bad line": the reports of the
 -- events before it, and at the end `E` and the number of the recording's line behind the words, without `H`
@@ -150,7 +155,8 @@ module _ {f : Format} {input : List ℕ} {lines rest : List (List ℕ)} {l : Lis
     (tried : Tried f input lines (l ∷ rest) a given)
     (seen : Seen f (wordsGiven given) (sent a (eventsOf lines)) reports)
     (few : length (wordsGiven given) + 1 < mostLines) where
-  ends : Finds input (letterOf f) (wordsGiven given) (found.Bad (length (wordsGiven given) + 2)) → Lists f (recordingOf input) reports (item.E (length (wordsGiven given) + 2))
+  ends : Finds input (letterOf f) (wordsGiven given) (found.Bad (length (wordsGiven given) + 2))
+      → Lists f (recordingOf input) reports (item.E (length (wordsGiven given) + 2))
   unfolding itemsFrom gaveOf
   ends finds = listed f input (wordsGiven given) reports (found.Bad (length (wordsGiven given) + 2)) _ finds (handed tried seen) refl refl refl
 

@@ -77,7 +77,8 @@ fresh-V : (a : NewReader) → FreshPromise (letterOf Microsoft) a → a .reader 
 unfolding freshOf known namedBy
 fresh-V a e = ap (λ (x : NewReader). x .reader .format) e
 
-took-as : {u v : List ℕ} {found : List Report} {before after : List ℤ} {b : Reading} → TurnedOver u v → Took u found before b after → Took v found before b after
+took-as : {u v : List ℕ} {found : List Report} {before after : List ℤ} {b : Reading} → TurnedOver u v → Took u found before b after
+    → Took v found before b after
 took-as t k = record { refusal = k .refusal; taken = k .taken ∙ turned-length t; reports = k .reports; written = k .written }
 
 pub turned-at : {u v : List ℕ} {i : ℕ} {p : Report} → TurnedOver u v → HandsOutAt Microsoft u i p → HandsOutAt Microsoft v i p
@@ -85,7 +86,8 @@ turned-at t h =
     record {
       by-steps = λ a steps e s. h .by-steps a steps e (steps-before t (a .reader) (fresh-V a e) steps s);
       by-read = λ a steps before after b e s q room.
-          let k = h .by-read a steps before after b e (steps-before t (a .reader) (fresh-V a e) steps s) (read-before t (a .reader) (fresh-V a e) before after b q) room in
+          let k = h .by-read a steps before after b e (steps-before t (a .reader) (fresh-V a e) steps s)
+            (read-before t (a .reader) (fresh-V a e) before after b q) room in
           (took-as t (k .0), k .1);
     }
 

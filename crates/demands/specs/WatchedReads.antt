@@ -40,7 +40,8 @@ pub record ReadAndWatched (r : Reader) (words : List ℕ) (found : List Report) 
   pub room : 5 * length found ≤ length before
   pub over : OverPromise w (take (5 * reading .reports) after) answer
 
-wrote : {r : Reader} {words : List ℕ} {found : List Report} {w : Watch} {answer : Watched} → ReadAndWatched r words found w answer → OverPromise w (fives found) answer
+wrote : {r : Reader} {words : List ℕ} {found : List Report} {w : Watch} {answer : Watched} → ReadAndWatched r words found w answer
+    → OverPromise w (fives found) answer
 wrote {found = found} {w = w} {answer = answer} h =
     let t = h .hands-out .by-read (h .before) (h .after) (h .reading) (h .read) (h .room) in
     let front : take (5 * h .reading .reports) (h .after) ≡ fives found =
@@ -49,7 +50,8 @@ wrote {found = found} {w = w} {answer = answer} h =
 
 -- The watch counts the presses among the reports: behind buttons that it was told or has seen, and, where it is fresh,
 -- from the first report on.
-pub read-known : (button : Button) (n : ℕ) (r : Reader) (words : List ℕ) (found : List Report) (answer : Watched) → ReadAndWatched r words found (watching n) answer
+pub read-known : (button : Button) (n : ℕ) (r : Reader) (words : List ℕ) (found : List Report) (answer : Watched)
+    → ReadAndWatched r words found (watching n) answer
     → counted button answer ≡ pressesFrom (isDown button) n found
 read-known button n r words found answer h = over-known button n found answer (wrote h)
 

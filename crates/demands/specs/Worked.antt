@@ -70,8 +70,8 @@ pub in-S : SendsWords Mm eventsS
 unfolding computing
 in-S = record { asked = refl; line = refl; is = refl; ends = refl }
 
--- U, the user's disaster: a fast move to the left, a character's time with nothing to send, and a press of the left button; 85, which would be a header with the
--- middle button down, stands twice in the first report
+-- U, the user's disaster: a fast move to the left, a character's time with nothing to send, and a press of the left
+-- button; 85, which would be a header with the middle button down, stands twice in the first report
 abbrev eventsU : List Event
 eventsU = Motion (minus 123) (pos 0) ∷ slots 3 (Motion (minus 123) (pos 0) ∷ slots 3 (Buttons 4 ∷ slots 5 []))
 

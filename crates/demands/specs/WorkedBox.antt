@@ -1,4 +1,5 @@
--- A box to try, worked out: small inputs, with the recording and the listing computed, beside the theorem. In the comments a blank stands for a tab and / for a newline.
+-- A box to try, worked out: small inputs, with the recording and the listing computed, beside the theorem. In the
+-- comments a blank stands for a tab and / for a newline.
 use Prim.Native.Nat.{ℕ}
 use mathlib.Core.Path.{_≡_, refl}
 use mathlib.Core.List.{List, [], _∷_}
@@ -37,7 +38,9 @@ use Rattle.demands.specs.TriedBox.{Tried, marked, from-silence, Lists, l
 
 -- what they compute with: the rules of the box and of the reader, and those of lines of events, of recordings and of listings
 unfoldable computing : Unit {0}
-unfolding rules.computing linesIn markIn formatIn saidBy lineIn foundIn gaveOf itemsFrom lineOf listingOf digitsOf sizeIn placesOf decimalOf readable plusIn numberIn freshOf lines.saidBy lines.withFields lines.motionIn lines.formatIn lines.aloneIn wordBytes recordLine slots lineDone recordsFrom recordingOf
+unfolding rules.computing linesIn markIn formatIn saidBy lineIn foundIn gaveOf itemsFrom lineOf listingOf digitsOf
+  sizeIn placesOf decimalOf readable plusIn numberIn freshOf lines.saidBy lines.withFields lines.motionIn
+  lines.formatIn lines.aloneIn wordBytes recordLine slots lineDone recordsFrom recordingOf
 computing = tt
 
 -- S: a movement, a character's time with nothing to send, and a press: F S/M 5 -3/S 4/N 4/S 3/
@@ -67,7 +70,8 @@ unfolding computing
 listed-S = listed-whole triedS (marked refl) (omega arith)
 
 -- F S/B 144/B 5/B 3/Q/B 156/B 0/B 0/, and L 6/R 000004 --- 5 -3/R 000008 L-- 0 0/H 0/
-pub computed-S : (recordingOf inputS ≡ 70 ∷ 9 ∷ 83 ∷ 10 ∷ 66 ∷ 9 ∷ 49 ∷ 52 ∷ 52 ∷ 10 ∷ 66 ∷ 9 ∷ 53 ∷ 10 ∷ 66 ∷ 9 ∷ 51 ∷ 10 ∷ 81 ∷ 10 ∷ 66 ∷ 9 ∷ 49 ∷ 53 ∷ 54 ∷ 10 ∷ 66 ∷ 9 ∷ 48 ∷ 10 ∷ 66 ∷ 9 ∷ 48 ∷ 10 ∷ [])
+pub computed-S : (recordingOf inputS ≡ 70 ∷ 9 ∷ 83 ∷ 10 ∷ 66 ∷ 9 ∷ 49 ∷ 52 ∷ 52 ∷ 10 ∷ 66 ∷ 9 ∷ 53 ∷ 10 ∷ 66 ∷ 9 ∷ 51 ∷ 10 ∷ 81 ∷ 10 ∷ 66 ∷ 9 ∷ 49 ∷
+    53 ∷ 54 ∷ 10 ∷ 66 ∷ 9 ∷ 48 ∷ 10 ∷ 66 ∷ 9 ∷ 48 ∷ 10 ∷ [])
     × (listingOf (recordingOf inputS)
     ≡ 76 ∷ 9 ∷ 54 ∷ 10 ∷ 82 ∷ 9 ∷ 48 ∷ 48 ∷ 48 ∷ 48 ∷ 48 ∷ 52 ∷ 9 ∷ 45 ∷ 45 ∷ 45 ∷ 9 ∷ 53 ∷ 9 ∷ 45 ∷ 51 ∷ 10
     ∷ 82 ∷ 9 ∷ 48 ∷ 48 ∷ 48 ∷ 48 ∷ 48 ∷ 56 ∷ 9 ∷ 76 ∷ 45 ∷ 45 ∷ 9 ∷ 48 ∷ 9 ∷ 48 ∷ 10 ∷ 72 ∷ 9 ∷ 48 ∷ 10 ∷ [])
@@ -100,7 +104,8 @@ unfolding computing
 listed-U = listed-whole triedU (from-silence [] (finished (latchedIn FiveByte left) ∷ []) refl refl tt tt) (omega arith)
 
 -- F U/Q/B 135/B 133/B 0/B 0/B 0/, and L 6/R 000007 --- -123 0/H 0/
-pub computed-U : (recordingOf inputU ≡ 70 ∷ 9 ∷ 85 ∷ 10 ∷ 81 ∷ 10 ∷ 66 ∷ 9 ∷ 49 ∷ 51 ∷ 53 ∷ 10 ∷ 66 ∷ 9 ∷ 49 ∷ 51 ∷ 51 ∷ 10 ∷ 66 ∷ 9 ∷ 48 ∷ 10 ∷ 66 ∷ 9 ∷ 48 ∷ 10 ∷ 66 ∷ 9 ∷ 48 ∷ 10 ∷ [])
+pub computed-U : (recordingOf inputU ≡ 70 ∷ 9 ∷ 85 ∷ 10 ∷ 81 ∷ 10 ∷ 66 ∷ 9 ∷ 49 ∷ 51 ∷ 53 ∷ 10 ∷ 66 ∷ 9 ∷ 49 ∷ 51 ∷ 51 ∷ 10 ∷ 66 ∷ 9 ∷ 48 ∷ 10 ∷ 66 ∷
+    9 ∷ 48 ∷ 10 ∷ 66 ∷ 9 ∷ 48 ∷ 10 ∷ [])
     × (listingOf (recordingOf inputU)
     ≡ 76 ∷ 9 ∷ 54 ∷ 10 ∷ 82 ∷ 9 ∷ 48 ∷ 48 ∷ 48 ∷ 48 ∷ 48 ∷ 55 ∷ 9 ∷ 45 ∷ 45 ∷ 45 ∷ 9 ∷ 45 ∷ 49 ∷ 50 ∷ 51 ∷ 9 ∷ 48 ∷ 10 ∷ 72 ∷ 9 ∷ 48 ∷ 10 ∷ [])
 unfolding computing

@@ -52,9 +52,11 @@ words = 0x00 ∷ 0x02 ∷ 0xE8 ∷ 0x00 ∷ 0x01 ∷ 0x00 ∷ 257 ∷ 0x00 ∷ 0
 pub run : (events : List Event) → onlyAsks events ≡ true → Run ThreeByte freshBox (setTo ThreeByte) events (answersTo (setTo ThreeByte .next) events)
 unfolding computing
 run events asked =
-    record { good = refl; awake = refl; set = answer-permitted freshBox (Host (letterOf ThreeByte)); asked = asked; permitted = answers-permitted (setTo ThreeByte .next) events }
+    record { good = refl; awake = refl; set = answer-permitted freshBox (Host (letterOf ThreeByte)); asked = asked;
+      permitted = answers-permitted (setTo ThreeByte .next) events }
 
-pub moves-send : (wordsGiven (answersTo (setTo ThreeByte .next) moves) ≡ words) × (finishedReports ThreeByte (sent (setTo ThreeByte) moves) ≡ far ∷ near ∷ near ∷ [])
+pub moves-send : (wordsGiven (answersTo (setTo ThreeByte .next) moves) ≡ words)
+    × (finishedReports ThreeByte (sent (setTo ThreeByte) moves) ≡ far ∷ near ∷ near ∷ [])
     × (_≡_ {A = ℕ} (presses (isDown middle) false (buttonsTold moves)) 0)
 unfolding computing presses buttonsTold
 moves-send = (refl, refl, refl)
@@ -80,8 +82,10 @@ pub stays-in-T : HandsOutAt ThreeByte scarred 9 near
 unfolding computing
 stays-in-T =
     stays-behind-a-silence (run moves refl) from-then-on
-    (finished (latchedIn ThreeByte far) ∷ finished (latchedIn ThreeByte near) ∷ silent ∷ []) (record { format = ThreeByte; report = near; shows = false }) [] refl whole
-    (finished (latchedIn ThreeByte far) ∷ finished (latchedIn ThreeByte near) ∷ []) [] refl tt (scar (0x00 ∷ []) (stays (stays (stays (stays (stays whole)))))) 9 refl
+    (finished (latchedIn ThreeByte far) ∷ finished (latchedIn ThreeByte near) ∷ silent ∷
+      []) (record { format = ThreeByte; report = near; shows = false }) [] refl whole
+    (finished (latchedIn ThreeByte far) ∷ finished (latchedIn ThreeByte near) ∷
+      []) [] refl tt (scar (0x00 ∷ []) (stays (stays (stays (stays (stays whole)))))) 9 refl
 
 -- A byte must not be lost without a 256: the first one is, and M goes down
 abbrev Saves : List Report → Type 0
@@ -95,7 +99,8 @@ byte-needs-trace = (computed-by (ready (letterOf ThreeByte)) _ _ refl, refl)
 
 -- nor in a marked format: S sends 98 05 01 and 98 07 02; three bytes are lost, and a report is handed out that was
 -- never sent. (Its buttons are true: Saves.)
-pub marks-need-trace : (wordsGiven (answersTo (setTo Mm .next) (Motion (pos 5) (pos 1) ∷ slots 3 (Motion (pos 7) (pos 2) ∷ slots 3 []))) ≡ 0x98 ∷ 0x05 ∷ 0x01 ∷ 0x98 ∷ 0x07 ∷ 0x02 ∷ [])
+pub marks-need-trace : (wordsGiven (answersTo (setTo Mm .next) (Motion (pos 5) (pos 1) ∷ slots 3 (Motion (pos 7) (pos 2) ∷ slots 3 [])))
+    ≡ 0x98 ∷ 0x05 ∷ 0x01 ∷ 0x98 ∷ 0x07 ∷ 0x02 ∷ [])
     × AnsweredBy (ready (letterOf Mm)) (0x98 ∷ 0x05 ∷ 0x02 ∷ []) (Nothing ∷ Nothing ∷ answer.Report (report 0 (pos 5) (pos 2)) ∷ [])
 unfolding computing
 marks-need-trace = (refl, computed-by (ready (letterOf Mm)) _ _ refl)

@@ -71,7 +71,8 @@ pub handed-in-T : HandsOut ThreeByte (heardWith (0x00 ∷ 0x00 ∷ 0x00 ∷ []))
 unfolding computing replies.computing
 handed-in-T =
     handed-out (run-of in-T)
-    (since [] (finished (reply (0x00 ∷ 0x00 ∷ 0x00 ∷ [])) ∷ finished (latchedIn ThreeByte far) ∷ finished (latchedIn ThreeByte near) ∷ silent ∷ finished (latchedIn ThreeByte near) ∷ [])
+    (since [] (finished (reply (0x00 ∷ 0x00 ∷ 0x00 ∷ [])) ∷ finished (latchedIn ThreeByte far) ∷ finished (latchedIn ThreeByte near) ∷ silent ∷
+      finished (latchedIn ThreeByte near) ∷ [])
     refl (in-T .is) tt tt)
 
 -- The reply's first byte arrives as 256: the reader hands out what is behind the next silence, and that is true.
@@ -107,7 +108,8 @@ lost-in-T = (hears ThreeByte (heardWith (0x00 ∷ 0x00 ∷ [])) (refl, refl), re
 
 -- So does a silence that comes in behind its first byte: its last two and the first report's first are a report, and
 -- the next has M down.
-pub silence-in-T : Hears ThreeByte (heardWith (0x00 ∷ 257 ∷ 0x00 ∷ 0x00 ∷ [])) (told.Broken (came 1 0 0) ∷ []) (report 0 (pos 0) (pos 0) ∷ report 2 (minus 24) (pos 0) ∷ near ∷ [])
+pub silence-in-T : Hears ThreeByte (heardWith (0x00 ∷ 257 ∷ 0x00 ∷ 0x00 ∷ [])) (told.Broken (came 1 0 0) ∷ []) (report 0 (pos 0) (pos 0) ∷
+    report 2 (minus 24) (pos 0) ∷ near ∷ [])
     × (_≡_ {A = ℕ} (pressesFrom (isDown middle) 0 (report 0 (pos 0) (pos 0) ∷ report 2 (minus 24) (pos 0) ∷ near ∷ [])) 1)
 unfolding computing replies.computing presses
 silence-in-T = (hears ThreeByte (heardWith (0x00 ∷ 257 ∷ 0x00 ∷ 0x00 ∷ [])) (refl, refl), refl)
@@ -129,7 +131,8 @@ abbrev up : Report
 up = report 0 (pos 0) (pos 0)
 
 pub in-S : SendsItems Mm tapping tapped
-    (finished (reply (0x53 ∷ 0x4F ∷ [])) ∷ broken 1 (showingIn Mm down) ∷ finished (reply (0x06 ∷ [])) ∷ finished (showingIn Mm down) ∷ finished (showingIn Mm up) ∷ [])
+    (finished (reply (0x53 ∷ 0x4F ∷ [])) ∷ broken 1 (showingIn Mm down) ∷ finished (reply (0x06 ∷ [])) ∷ finished (showingIn Mm down) ∷
+      finished (showingIn Mm up) ∷ [])
 unfolding computing replies.computing
 in-S = record { asked = refl; line = refl; is = refl; ends = refl }
 

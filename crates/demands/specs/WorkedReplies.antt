@@ -1,5 +1,5 @@
--- Worked runs with replies: the widened demand 3 at small runs of the box, with the items, the passages and the replies computed. Lines on which a reply is broken, told
--- again or loses a byte stand in crates/tellings/proofs/Examples.antt.
+-- Worked runs with replies: the widened demand 3 at small runs of the box, with the items, the passages and the replies
+-- computed. Lines on which a reply is broken, told again or loses a byte stand in crates/tellings/proofs/Examples.antt.
 use mathlib.Core.Path.{_≡_, refl, _∙_, ap}
 use mathlib.Core.Bool.{true, false}
 use mathlib.Core.List.{List, [], _∷_, _++_}
@@ -74,7 +74,8 @@ pub in-U : SendsItems FiveByte eventsU
 unfolding computing replies.computing
 in-U = record { asked = refl; line = refl; is = refl; ends = refl }
 
--- The first word is lost, so that the reader joins the report halfway; behind the silence it is told of `t`. The press is the answer to word 11, and the reply is told.
+-- The first word is lost, so that the reader joins the report halfway; behind the silence it is told of `t`. The press
+-- is the answer to word 11, and the reply is told.
 abbrev behindU : List Item
 behindU = asItems (0x85 ∷ 0x00 ∷ 0x85 ∷ 0x00 ∷ 257 ∷ []) ++ (telling (Command lettert) ∷ asItems (0x55 ∷ 0x4F ∷ 0x83 ∷ 0x00 ∷ 0x00 ∷ 0x00 ∷ 0x00 ∷ []))
 
@@ -109,7 +110,8 @@ pub exactly-S : HandsOut Mm (asItems (0x90 ∷ []) ++ behindS) (press ∷ [])
 unfolding computing replies.computing
 exactly-S =
     exactly (run-of in-S) from-then-on (asItems (0x90 ∷ [])) (0x05 ∷ []) [] behindS (in-S .line) refl refl refl
-    (in-finished [] (finished codeS ∷ finished (showingIn Mm press) ∷ []) nothing (record { format = Mm; report = slowMove; shows = false }) (omega arith) (omega arith))
+    (in-finished [] (finished codeS ∷ finished (showingIn Mm press) ∷ []) nothing (record { format = Mm; report = slowMove; shows = false })
+      (omega arith) (omega arith))
     (gone none) (omega arith)
 
 pub code-S : TellsReplies Mm (asItems (0x90 ∷ []) ++ behindS) (told.Format 0x53 ∷ [])
@@ -123,7 +125,8 @@ busy = boxAfter (setTo FiveByte .next) (Motion (pos 5) (pos 0) ∷ slots 1 [])
 abbrev twoSends : List Event
 twoSends = Send ∷ Latch ∷ Send ∷ []
 
-pub broken-by-t : (sentWords (answerTo busy (Host lettert)) ≡ 256 ∷ []) × (wordsGiven (answersTo (answerTo busy (Host lettert) .next) twoSends) ≡ 0x55 ∷ 0x4F ∷ [])
+pub broken-by-t : (sentWords (answerTo busy (Host lettert)) ≡ 256 ∷ [])
+    × (wordsGiven (answersTo (answerTo busy (Host lettert) .next) twoSends) ≡ 0x55 ∷ 0x4F ∷ [])
 unfolding computing
 broken-by-t = (refl, refl)
 
@@ -164,7 +167,8 @@ itemsBroken =
     ∷ asItems (0x10 ∷ 0x87 ∷ 0x05 ∷ 0x00 ∷ 0x00 ∷ 0x00 ∷ 257 ∷ 0x87 ∷ 0x07 ∷ 0x00 ∷ 0x00 ∷ 0x00 ∷ [])
 
 pub in-broken : SendsItems FiveByte eventsBroken itemsBroken
-    (silent ∷ broken 1 lettersU ∷ finished (reply (0x10 ∷ [])) ∷ finished (latchedIn FiveByte (report 0 (pos 5) (pos 0))) ∷ silent ∷ finished (latchedIn FiveByte (report 0 (pos 7) (pos 0))) ∷ [])
+    (silent ∷ broken 1 lettersU ∷ finished (reply (0x10 ∷ [])) ∷ finished (latchedIn FiveByte (report 0 (pos 5) (pos 0))) ∷ silent ∷
+      finished (latchedIn FiveByte (report 0 (pos 7) (pos 0))) ∷ [])
 unfolding computing replies.computing
 in-broken = record { asked = refl; line = refl; is = refl; ends = refl }
 

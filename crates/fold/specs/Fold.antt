@@ -62,7 +62,8 @@ module _ {W S A X : Type 0} (m : MachineOver W S A X) where
 
 -- so many words at the front of a line are taken, with these answers, and so many places used: the state behind them, and the slice; what the rest of
 -- the line gives makes up the run
-pub record Part {W S A X : Type 0} (m : MachineOver W S A X) (s : S) (words : List W) (before : List X) (answers : List A) (taken used : ℕ) (next : S) (after : List X) : Type 0 where
+pub record Part {W S A X : Type 0} (m : MachineOver W S A X) (s : S) (words : List W) (before : List X) (answers : List A) (taken used : ℕ) (next : S)
+    (after : List X) : Type 0 where
   pub words-are : taken ≡ length answers
   pub places-are : used ≡ length (written m answers)
   pub wrote : after ≡ written m answers ++ drop used before

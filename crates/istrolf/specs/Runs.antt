@@ -40,7 +40,8 @@ pub record Took (words : List ℕ) (found : List Report) (before : List ℤ) (b 
 -- A reader, given the words, hands out these reports, in this order, and no others: by steps, and by a long read with room for them.
 pub record HandsOutBy (h : HeldReader) (words : List ℕ) (found : List Report) : Type 0 where
   pub by-steps : (steps : List ReadWord) → StepsPromise h words steps → handedOut steps ≡ found
-  pub by-read : (before after : List ℤ) (b : ReadWords) → ReadPromise h words before b after → 5 * length found ≤ length before → Took words found before b after
+  pub by-read : (before after : List ℤ) (b : ReadWords) → ReadPromise h words before b after → 5 * length found ≤ length before
+      → Took words found before b after
 
 -- a fresh reader of f does
 abbrev pub HandsOut : Format → List ℕ → List Report → Type 0
@@ -53,7 +54,8 @@ handedOutAt i steps = handedOut (take 1 (drop i steps))
 -- A fresh reader of f, given the words, answers word i (the first being 0) by the report p; and a long read with room for all that is found takes
 -- every word and writes what is found, p's five numbers behind those of the reports found before word i.
 pub record HandsOutAt (f : Format) (words : List ℕ) (i : ℕ) (p : Report) : Type 0 where
-  pub by-steps : (a : FreshReader) (steps : List ReadWord) → FreshReaderPromise (letterOf f) a → StepsPromise (a .reader) words steps → handedOutAt i steps ≡ p ∷ []
+  pub by-steps : (a : FreshReader) (steps : List ReadWord) → FreshReaderPromise (letterOf f) a → StepsPromise (a .reader) words steps
+      → handedOutAt i steps ≡ p ∷ []
   pub by-read : (a : FreshReader) (steps : List ReadWord) (before after : List ℤ) (b : ReadWords)
       → FreshReaderPromise (letterOf f) a
       → StepsPromise (a .reader) words steps

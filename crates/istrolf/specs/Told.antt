@@ -1,4 +1,5 @@
--- A reader that is told of replies, as C holds it: the report reader, a number for the reply that is awaited, and what has come of it; and what its functions give back.
+-- A reader that is told of replies, as C holds it: the report reader, a number for the reply that is awaited, and what
+-- has come of it; and what its functions give back.
 use Prim.Native.Nat.{ℕ}
 use mathlib.Core.Bool.{Bool, cond, _&&_}
 use mathlib.Core.List.{List}

@@ -1,5 +1,6 @@
--- The listing: the input's lines (Lines) to numbered words (Scanning), words to items (Items), items to bytes (Printing), the three in a row (Listing);
--- and the lister, byte by byte (Feeding) or some lines at a time (Batches, Stamped), with what is promised of it (Promises) and its calls one after the other (Calls).
+-- The listing: the input's lines (Lines) to numbered words (Scanning), words to items (Items), items to bytes
+-- (Printing), the three in a row (Listing); and the lister, byte by byte (Feeding) or some lines at a time (Batches,
+-- Stamped), with what is promised of it (Promises) and its calls one after the other (Calls).
 pub mod Lines
 pub mod Scanning
 pub mod Items

@@ -1,4 +1,5 @@
--- What is promised of `Lister::fresh`, `Lister::feed`, `Lister::finish` and `Given::line`: for every argument one answer, and every byte of the slice; and of the scanner.
+-- What is promised of `Lister::fresh`, `Lister::feed`, `Lister::finish` and `Given::line`: for every argument one
+-- answer, and every byte of the slice; and of the scanner.
 use Prim.Native.Nat.{ℕ}
 use mathlib.Core.Path.{_≡_}
 use mathlib.Core.Bool.{Bool, cond}

@@ -7,7 +7,8 @@ use Rattle.port.specs.Sessions.{wordsOver}
 use Rattle.mrecord.specs.Recording.{lineOf, behindLine, linesOf, fullAtSilence, full, gone, endOf, mrecord}
 
 -- U, and a silence is two tenths: a byte, the byte FF, a break, one wait, a byte, and three waits
-pub small : mrecord 85 2 0 .writes (7 ∷ 255 ∷ 255 ∷ 255 ∷ 0 ∷ 0 ∷ 256 ∷ 8 ∷ 256 ∷ 256 ∷ 256 ∷ []) ≡ 70 ∷ 9 ∷ 85 ∷ 10 ∷ 66 ∷ 9 ∷ 55 ∷ 10 ∷ 66 ∷ 9 ∷ 50 ∷ 53 ∷ 53 ∷ 10 ∷ 88 ∷ 10 ∷ 66 ∷ 9 ∷ 56 ∷ 10 ∷ 81 ∷ 10 ∷ []
+pub small : mrecord 85 2 0 .writes (7 ∷ 255 ∷ 255 ∷ 255 ∷ 0 ∷ 0 ∷ 256 ∷ 8 ∷ 256 ∷ 256 ∷ 256 ∷ [])
+    ≡ 70 ∷ 9 ∷ 85 ∷ 10 ∷ 66 ∷ 9 ∷ 55 ∷ 10 ∷ 66 ∷ 9 ∷ 50 ∷ 53 ∷ 53 ∷ 10 ∷ 88 ∷ 10 ∷ 66 ∷ 9 ∷ 56 ∷ 10 ∷ 81 ∷ 10 ∷ []
 unfolding cleared plain behindMark byteOf quietOf wordsOver lineOf behindLine linesOf digitsOf sizeIn placesOf decimalOf
 small = refl
 

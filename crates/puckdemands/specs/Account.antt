@@ -1,4 +1,5 @@
--- The whole account of a move, of a device, per axis, over every sequence of events from its making: every count that the ball made is in a report, in the device, or in a loss that has a name.
+-- The whole account of a move, of a device, per axis, over every sequence of events from its making: every count that
+-- the ball made is in a report, in the device, or in a loss that has a name.
 use Prim.Native.Nat.{ℕ}
 use mathlib.Core.Path.{_≡_, refl, _∙_}
 use mathlib.Core.Bool.{true}
@@ -23,8 +24,9 @@ use Rattle.puckdemands.specs.Computing.{computing}
 use Rattle.puckdemands.specs.Demand3.{Run, sent, stillGoing}
 
 module _ {buttons revision maker : ℕ} {p : Puck} {events : List Event} {answers : List PuckStepped} (run : Run buttons revision maker p events answers) where
-  -- "The motion fed while awake equals: values in finished reports, plus what is latched in the report now going, plus the counter, plus excess over the report limit, plus excess over the 16-bit
-  -- counter, plus what was latched in broken-off reports, plus counters cleared by" T
+  -- "The motion fed while awake equals: values in finished reports, plus what is latched in the report now going, plus
+  -- the counter, plus excess over the report limit, plus excess over the 16-bit counter, plus what was latched in
+  -- broken-off reports, plus counters cleared by" T
   pub account : (a : Axis)
       → over (fedBy a) p events
       ≡ inFinished a (sent run)
@@ -46,8 +48,9 @@ module _ {buttons revision maker : ℕ} {p : Puck} {events : List Event} {answer
       → excessOf k a (lastPuck p answers .ball .sums) ≡ sumOf (thrownSince k a [] p events)
   sums-are-excesses k a n = sums-held k a ∙ (plain-sums (pos 0) (thrownSince k a [] p events) n ∙ +ℤ-idl (sumOf (thrownSince k a [] p events)))
 
--- Worked: a run from the making in which none of the seven is 0, to the right and down alike. In prompt mode a move of 300, of which its report says 127; the counter at its end, and 5 more; T clears it;
--- 10 counted in the self-test, latched behind it and broken off by a byte that is no command; of 200, 127 latched; and 3 counted.
+-- Worked: a run from the making in which none of the seven is 0, to the right and down alike. In prompt mode a move of
+-- 300, of which its report says 127; the counter at its end, and 5 more; T clears it; 10 counted in the self-test,
+-- latched behind it and broken off by a byte that is no command; of 200, 127 latched; and 3 counted.
 abbrev tested : List Event → List Event
 tested later = Send ∷ Send ∷ Send ∷ Send ∷ later
 
@@ -81,8 +84,10 @@ pub record Comes (a : Axis) (events : List Event) (fed finished going counter li
 -- of 246 over the limit the sum holds the 73 since T, and of 5 over the counter none
 pub seven-parts : Comes x-axis allSeven (pos 33285) (pos 127) (pos 127) (pos 3) (pos 246) (pos 5) (pos 10) (pos 32767) (pos 73) (pos 0)
 unfolding computing
-seven-parts = record { is-fed = refl; in-finished = refl; in-going = refl; in-counter = refl; over-the-limit = refl; over-sixteen = refl; in-broken = refl; by-T = refl; limit-since = refl; sixteen-since = refl; limit-sum = refl; sixteen-sum = refl }
+seven-parts = record { is-fed = refl; in-finished = refl; in-going = refl; in-counter = refl; over-the-limit = refl; over-sixteen = refl;
+    in-broken = refl; by-T = refl; limit-since = refl; sixteen-since = refl; limit-sum = refl; sixteen-sum = refl }
 
 pub seven-parts-down : Comes y-axis allSeven (minus 33286) (minus 127) (minus 127) (minus 3) (minus 246) (minus 5) (minus 10) (minus 32768) (minus 73) (pos 0)
 unfolding computing
-seven-parts-down = record { is-fed = refl; in-finished = refl; in-going = refl; in-counter = refl; over-the-limit = refl; over-sixteen = refl; in-broken = refl; by-T = refl; limit-since = refl; sixteen-since = refl; limit-sum = refl; sixteen-sum = refl }
+seven-parts-down = record { is-fed = refl; in-finished = refl; in-going = refl; in-counter = refl; over-the-limit = refl; over-sixteen = refl;
+    in-broken = refl; by-T = refl; limit-since = refl; sixteen-since = refl; limit-sum = refl; sixteen-sum = refl }

@@ -1,5 +1,6 @@
--- Demand 1 of the device and its reader: "Every public entry takes every event, line word, state and buffer and ends with an answer. A refusal has a number from the list, hands back the old
--- state and writes nothing; a reader given many words does all before the bad one and stops there."
+-- Demand 1 of the device and its reader: "Every public entry takes every event, line word, state and buffer and ends
+-- with an answer. A refusal has a number from the list, hands back the old state and writes nothing; a reader given
+-- many words does all before the bad one and stops there."
 use Prim.Native.Nat.{ℕ, _*_, _<_, _≤_}
 use mathlib.Core.Path.{_≡_, refl}
 use mathlib.Core.Bool.{Bool, true, false}
@@ -55,7 +56,8 @@ good-reader-one = permitted.one-good
 pub read-word-one : (r : PuckReader) (w : ℕ) (a b : PuckRead) → reader.StepPromise r w a → reader.StepPromise r w b → a ≡ b
 read-word-one = permitted.one-step
 
-pub read-line-one : (r : PuckReader) (words : List ℕ) (out : List ℤ) (a b : PuckReading) (x y : List ℤ) → reader.ReadPromise r words out a x → reader.ReadPromise r words out b y
+pub read-line-one : (r : PuckReader) (words : List ℕ) (out : List ℤ) (a b : PuckReading) (x y : List ℤ) → reader.ReadPromise r words out a x
+    → reader.ReadPromise r words out b y
     → (a ≡ b) × (x ≡ y)
 read-line-one = permitted.one-read
 
@@ -66,7 +68,8 @@ puck-refusals = device-refusals.refusals
 pub read-word-refusals : (r : PuckReader) (w : ℕ) (s : PuckRead) → reader.StepPromise r w s → reader.StepRefusal r s
 read-word-refusals = refusals.step-refusals
 
-pub read-line-refusals : (r : PuckReader) (words : List ℕ) (out : List ℤ) (a : PuckReading) (after : List ℤ) → reader.ReadPromise r words out a after → reader.ReadRefusal r words out a after
+pub read-line-refusals : (r : PuckReader) (words : List ℕ) (out : List ℤ) (a : PuckReading) (after : List ℤ) → reader.ReadPromise r words out a after
+    → reader.ReadRefusal r words out a after
 read-line-refusals = refusals.read-refusals
 
 -- "Tested in that order": each function's tests stand in the order of the list
@@ -76,14 +79,16 @@ puck-tests p e r h = rightly refl (puck-refusals p e r h)
 pub read-word-tests : (r : PuckReader) (w : ℕ) (s : PuckRead) → reader.StepPromise r w s → Tests (badState ∷ badWord ∷ []) (s .refusal)
 read-word-tests r w s h = rightly refl (read-word-refusals r w s h)
 
-pub read-line-tests : (r : PuckReader) (words : List ℕ) (out : List ℤ) (a : PuckReading) (after : List ℤ) → reader.ReadPromise r words out a after → Tests (badState ∷ badWord ∷ []) (a .refusal)
+pub read-line-tests : (r : PuckReader) (words : List ℕ) (out : List ℤ) (a : PuckReading) (after : List ℤ) → reader.ReadPromise r words out a after
+    → Tests (badState ∷ badWord ∷ []) (a .refusal)
 read-line-tests r words out a after h = rightly refl (read-line-refusals r words out a after h)
 
 -- which of them it is
 pub puck-bad-state : (p : Puck) (e : Event) (r : PuckStepped) → puck.StepPromise p e r → devices.good p ≡ false → outcome r ≡ refused badState p
 puck-bad-state = device-refusals.bad-state
 
-pub puck-bad-buttons : (p : Puck) (n : ℕ) (r : PuckStepped) → puck.StepPromise p (Buttons n) r → devices.good p ≡ true → 7 < n → outcome r ≡ refused badButtons p
+pub puck-bad-buttons : (p : Puck) (n : ℕ) (r : PuckStepped) → puck.StepPromise p (Buttons n) r → devices.good p ≡ true → 7 < n
+    → outcome r ≡ refused badButtons p
 puck-bad-buttons = device-refusals.bad-buttons
 
 pub read-word-bad-state : (r : PuckReader) (w : ℕ) (s : PuckRead) → readers.good r ≡ false → reader.StepPromise r w s → s ≡ refusing badState r
@@ -92,16 +97,19 @@ read-word-bad-state = refusals.bad-state
 pub read-word-bad-word : (r : PuckReader) (w : ℕ) (s : PuckRead) → readers.good r ≡ true → silence < w → reader.StepPromise r w s → s ≡ refusing badWord r
 read-word-bad-word = refusals.bad-word
 
-pub read-line-bad-state : (r : PuckReader) (words : List ℕ) (out : List ℤ) (a : PuckReading) (after : List ℤ) → readers.good r ≡ false → reader.ReadPromise r words out a after
+pub read-line-bad-state : (r : PuckReader) (words : List ℕ) (out : List ℤ) (a : PuckReading) (after : List ℤ) → readers.good r ≡ false
+    → reader.ReadPromise r words out a after
     → whole a after ≡ stopped readsLine badState r out
 read-line-bad-state = refusals.bad-state-read
 
-pub read-line-ends : (r : PuckReader) (words : List ℕ) (out : List ℤ) (a : PuckReading) (after : List ℤ) → readers.good r ≡ true → reader.ReadPromise r words out a after
+pub read-line-ends : (r : PuckReader) (words : List ℕ) (out : List ℤ) (a : PuckReading) (after : List ℤ) → readers.good r ≡ true
+    → reader.ReadPromise r words out a after
     → (a .refusal ≡ success) ⊎ ((a .refusal ≡ badWord) × (silence < getD words (a .taken) 0))
 read-line-ends = refusals.read-ends
 
 -- "a reader given many words does all before the bad one and stops there": 4 is the outcome of the words before it, but for the number
-pub read-line-before-bad : (r : PuckReader) (words : List ℕ) (out : List ℤ) (a : PuckReading) (after : List ℤ) → readers.good r ≡ true → reader.ReadPromise r words out a after
+pub read-line-before-bad : (r : PuckReader) (words : List ℕ) (out : List ℤ) (a : PuckReading) (after : List ℤ) → readers.good r ≡ true
+    → reader.ReadPromise r words out a after
     → a .refusal ≡ badWord
     → whole a after ≡ reader.beforeBad r words out a
 read-line-before-bad = refusals.before-bad
@@ -164,5 +172,6 @@ fresh-good = goodness.fresh-is-good
 pub reader-stays-good : (r : PuckReader) (w : ℕ) (s : PuckRead) → readers.good r ≡ true → reader.StepPromise r w s → readers.good (s .next) ≡ true
 reader-stays-good = goodness.step-stays-good
 
-pub read-stays-good : (r : PuckReader) (words : List ℕ) (out : List ℤ) (a : PuckReading) (after : List ℤ) → readers.good r ≡ true → reader.ReadPromise r words out a after → readers.good (a .next) ≡ true
+pub read-stays-good : (r : PuckReader) (words : List ℕ) (out : List ℤ) (a : PuckReading) (after : List ℤ) → readers.good r ≡ true
+    → reader.ReadPromise r words out a after → readers.good (a .next) ≡ true
 read-stays-good = goodness.read-stays-good

@@ -1,5 +1,6 @@
--- Demand 2 of the device and its reader: "Box and reader agree with the manuals: each event moves the box as the rules say, each report has the manual's bytes, and reading them with a ready
--- reader gives back the report [..]; what was read, encoded again, gives the same bytes, except a minus zero."
+-- Demand 2 of the device and its reader: "Box and reader agree with the manuals: each event moves the box as the rules
+-- say, each report has the manual's bytes, and reading them with a ready reader gives back the report [..]; what was
+-- read, encoded again, gives the same bytes, except a minus zero."
 use Prim.Native.Nat.{ℕ, _+_, _-_, _≤_, _%_}
 use mathlib.Core.Path.{_≡_}
 use mathlib.Core.Bool.{true, false}
@@ -99,7 +100,8 @@ pub in-a-run-from-its-making : (buttons revision maker : ℕ) (p : Puck) (events
     → let powered = atPowerUp (buttons % 8) (revision % 16) (maker % 8) in
     wordsGiven run ≡ passageWords puckBytes (passagesOf p powered events) ++ partWords puckBytes (goingAfter p powered events)
 in-a-run-from-its-making buttons revision maker p events run made permitted =
-    run-passages p (atPowerUp (buttons % 8) (revision % 16) (maker % 8)) events run (made-is-good buttons revision maker p made) (made-holds buttons revision maker p made) permitted
+    run-passages p (atPowerUp (buttons % 8) (revision % 16) (maker % 8)) events run (made-is-good buttons revision maker p made)
+      (made-holds buttons revision maker p made) permitted
 
 -- "reading them with a ready reader gives back the report": a report that S holds, or a self-test that the figure has room for, of which r is handed out
 pub read-back : (m : PuckMessage)

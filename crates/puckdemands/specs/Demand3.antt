@@ -1,5 +1,6 @@
--- Demand 3, "proved once over the two report sizes, self-tests included, for a device over its words from power-up on": over every sequence of events from its making, any byte of the host's
--- among them, its words going to a fresh reader with room for all it finds.
+-- Demand 3, "proved once over the two report sizes, self-tests included, for a device over its words from power-up on":
+-- over every sequence of events from its making, any byte of the host's among them, its words going to a fresh reader
+-- with room for all it finds.
 use Prim.Native.Nat.{ℕ, _%_, _<_}
 use mathlib.Core.Path.{_≡_, sym, _∙_}
 use mathlib.Core.Bool.{true}
@@ -38,14 +39,16 @@ module _ {buttons revision maker : ℕ} {p : Puck} {events : List Event} {answer
 
   -- the words that the run gave are those of its passages
   pub as-sent : wordsGiven answers ≡ passageWords puckBytes sent ++ partWords puckBytes stillGoing
-  as-sent = run-passages p powered events answers (made-is-good buttons revision maker p (run .made)) (made-holds buttons revision maker p (run .made)) (run .permitted)
+  as-sent = run-passages p powered events answers (made-is-good buttons revision maker p (run .made))
+      (made-holds buttons revision maker p (run .made)) (run .permitted)
 
   -- which are sound
   pub sound : SoundLine sent × SoundGoing stillGoing
   sound = run-sound p powered events (made-is-good buttons revision maker p (run .made)) (made-holds buttons revision maker p (run .made))
 
-  -- "Replace one stretch of its line words", `old`, "by any other legal words, or none", `new`: "each finished report that begins after the stretch is handed out as the box sent it", be it
-  -- a movement or a self-test. The finished report m hands out r, and i is the place of the word that ends it.
+  -- "Replace one stretch of its line words", `old`, "by any other legal words, or none", `new`: "each finished report
+  -- that begins after the stretch is handed out as the box sent it", be it a movement or a self-test. The finished
+  -- report m hands out r, and i is the place of the word that ends it.
   pub marked : (pre old new post : List ℕ)
       → wordsGiven answers ≡ pre ++ (old ++ post)
       → lineWords new ≡ true
@@ -58,7 +61,8 @@ module _ {buttons revision maker : ℕ} {p : Puck} {events : List Event} {answer
       → Within before pre old
       → HandsOutAt (pre ++ (new ++ post)) i r
   marked pre old new post line legal before m after is r shown i place within =
-      handed.marked sent stillGoing pre old new post (record { sound = sound .0; sound-going = sound .1; as-sent = sym as-sent ∙ line; legal = legal }) before m after is i place r shown within
+      handed.marked sent stillGoing pre old new post
+        (record { sound = sound .0; sound-going = sound .1; as-sent = sym as-sent ∙ line; legal = legal }) before m after is i place r shown within
 
   -- wherever one report lost bytes, by the words that are left; of a broken-off one, or of the one that is going, none need be missing
   pub exactly-lost : {words : List ℕ} {others : List (Passage PuckMessage)}
@@ -66,7 +70,8 @@ module _ {buttons revision maker : ℕ} {p : Puck} {events : List Event} {answer
       → HandsOut words (finishedReports others)
   exactly-lost lost = handed.exactly (sound .0) (sound .1) lost
 
-  -- "If the stretch only removed bytes of a single report of a marked format, exactly the finished reports other than that one are handed out, in the order sent."
+  -- "If the stretch only removed bytes of a single report of a marked format, exactly the finished reports other than
+  -- that one are handed out, in the order sent."
   pub exactly : {pre old : List ℕ} {others : List (Passage PuckMessage)} (new post : List ℕ)
       → wordsGiven answers ≡ pre ++ (old ++ post)
       → InOne puckBytes pre old sent stillGoing others

@@ -62,7 +62,8 @@ streaming = puckAfter (made 0 1 3) (Send ∷ Send ∷ Send ∷ Send ∷ Host mod
 abbrev stretch : List Event
 stretch = Motion (pos 5) (minus 3) ∷ Period ∷ Latch ∷ Send ∷ Send ∷ Host 0x66 ∷ Buttons 4 ∷ Latch ∷ Send ∷ Send ∷ Send ∷ Send ∷ []
 
-pub follows : (answers : List PuckStepped) → RunPromise streaming stretch answers → box.RunPromise (streaming .ball) (map asBox stretch) (map asBoxAnswer answers)
+pub follows : (answers : List PuckStepped) → RunPromise streaming stretch answers
+    → box.RunPromise (streaming .ball) (map asBox stretch) (map asBoxAnswer answers)
 unfolding computing allHosts
 follows answers = box-run streaming stretch answers refl refl refl
 

@@ -183,7 +183,8 @@ module _ {buttons revision maker : ℕ} {p : Puck} (front : List Event) (n : ℕ
       let o = outlived in
       record {
         since = finishedReports (o .later);
-        hands-out = rw (← (finished-append shownByPuck ahead (o .later)), ← (o .is), as-sent run) (followed (sent run) (stillGoing run) (sound run .0) (sound run .1) r f);
+        hands-out = rw (← (finished-append shownByPuck ahead (o .later)), ← (o .is),
+          as-sent run) (followed (sent run) (stillGoing run) (sound run .0) (sound run .1) r f);
         in-order = o .shown;
       }
 
@@ -201,13 +202,15 @@ module _ {buttons revision maker : ℕ} {p : Puck} (front : List Event) (n : ℕ
       let before = ahead ++ a .before in
       let is : sent run ≡ before ++ (finished m ∷ a .after) =
       o .is ∙ (ap (λ (l : List (Passage PuckMessage)). ahead ++ l) (a .is) ∙ sym (append-assoc ahead (a .before) (finished m ∷ a .after))) in
-      let longer : length (passageWords puckBytes ahead) ≤ length (passageWords puckBytes before) = rw (passages-append puckBytes, length-append) (omega arith) in
+      let longer : length (passageWords puckBytes ahead) ≤ length (passageWords puckBytes before) =
+        rw (passages-append puckBytes, length-append) (omega arith) in
       let some = bytes-length (a .latched .format) (a .latched .report) in
       let place = length (passageWords puckBytes before) + length (puckBytes m) + length new - suc (length old) in
       record {
         place = place;
         handed = carried Mm (a .latched .report);
-        at = marked run pre old new post line legal before m (a .after) is (movement (carried Mm (a .latched .report))) refl place (omega (arith, some, size-between (a .latched .format) .0)) (omega arith);
+        at = marked run pre old new post line legal before m (a .after) is (movement (carried Mm (a .latched .report))) refl place
+          (omega (arith, some, size-between (a .latched .format) .0)) (omega arith);
         buttons = a .buttons;
       }
 
@@ -243,7 +246,8 @@ module _ {p : Puck} {events : List Event} {answers : List PuckStepped} (run : St
       (as-many p (run .good) (run .stream) (run .idle) events (run .none) (run .keeps) (run .never) (run .shown) (isDown button))
 
   -- one that was told the buttons at the start tells that a button went down exactly as often as it was pressed
-  pub as-many-saves : HeardAll (watching (p .ball .settings .buttons)) (movementsIn (handedOut (reading.answers steps))) told → timesDown button told ≡ madeSince
+  pub as-many-saves : HeardAll (watching (p .ball .settings .buttons)) (movementsIn (handedOut (reading.answers steps))) told
+      → timesDown button told ≡ madeSince
   as-many-saves h = hearing.heard-known button (p .ball .settings .buttons) (movementsIn (handedOut (reading.answers steps))) told h ∙ seen-is
 
   -- one that was not told them misses one press at most, that of the first report

@@ -1,5 +1,6 @@
--- Worked runs of the device, and of its reader over their words: power-up with a button down, T in the middle of a report, a byte of the host's in a self-test, a self-test joined halfway, and one
--- that lost a byte; each with its words, its passages and its answers computed.
+-- Worked runs of the device, and of its reader over their words: power-up with a button down, T in the middle of a
+-- report, a byte of the host's in a self-test, a self-test joined halfway, and one that lost a byte; each with its
+-- words, its passages and its answers computed.
 use Prim.Native.Nat.{ℕ}
 use mathlib.Core.Path.{_≡_, refl}
 use mathlib.Core.List.{List, [], _∷_}
@@ -24,7 +25,8 @@ use Rattle.puckhistory.specs.Runs.{puckWords}
 use Rattle.puckhistory.specs.History.{passagesOf, goingAfter, atPowerUp}
 use Rattle.puckdemands.specs.Computing.{computing}
 
--- a device of revision 1 and maker 3 is made with these buttons; over the events it sends these words, which are these passages, and nothing is going at the end
+-- a device of revision 1 and maker 3 is made with these buttons; over the events it sends these words, which are these
+-- passages, and nothing is going at the end
 pub record Sends (buttons : ℕ) (events : List Event) (words : List ℕ) (passages : List (Passage PuckMessage)) : Type 0 where
   pub line : puckWords (made buttons 1 3) events ≡ words
   pub is : passagesOf (made buttons 1 3) (atPowerUp buttons 1 3) events ≡ passages
@@ -48,11 +50,13 @@ left-button-read = refl
 
 -- T in the middle of a report: the report is broken off, and what was counted since is gone with it
 abbrev middle : List Event
-middle = Send ∷ Send ∷ Send ∷ Send ∷ Motion (pos 5) (pos 3) ∷ Host letterP ∷ Latch ∷ Send ∷ Motion (pos 9) (pos 0) ∷ Host letterT ∷ Send ∷ Send ∷ Send ∷ Send ∷ Host letterP ∷ Latch ∷ Send ∷ Send ∷ Send ∷ []
+middle = Send ∷ Send ∷ Send ∷ Send ∷ Motion (pos 5) (pos 3) ∷ Host letterP ∷ Latch ∷ Send ∷ Motion (pos 9) (pos 0) ∷ Host letterT ∷ Send ∷ Send ∷ Send ∷
+    Send ∷ Host letterP ∷ Latch ∷ Send ∷ Send ∷ Send ∷ []
 
 pub T-in-a-report : Sends 0 middle
     (0xA1 ∷ 0x32 ∷ 0x00 ∷ 0x00 ∷ 0x98 ∷ 256 ∷ 0xA1 ∷ 0x32 ∷ 0x00 ∷ 0x00 ∷ 0x98 ∷ 0x00 ∷ 0x00 ∷ [])
-    (finished (of-test (test 0 0)) ∷ broken 1 (of-box (latchedIn Mm (report 0 (pos 5) (pos 3)))) ∷ finished (of-test (test 0 0)) ∷ finished (of-box (latchedIn Mm (report 0 (pos 0) (pos 0)))) ∷ [])
+    (finished (of-test (test 0 0)) ∷ broken 1 (of-box (latchedIn Mm (report 0 (pos 5) (pos 3)))) ∷ finished (of-test (test 0 0)) ∷
+      finished (of-box (latchedIn Mm (report 0 (pos 0) (pos 0)))) ∷ [])
 unfolding computing
 T-in-a-report = record { line = refl; is = refl; ends = refl }
 
@@ -72,16 +76,19 @@ unfolding computing answersOver
 joined-halfway = refl
 
 -- one that lost its second byte: the next first byte drops the three
-pub lost-a-byte : Answered (0xA1 ∷ 0x3D ∷ 0x04 ∷ 0x9C ∷ 0x05 ∷ 0x03 ∷ []) (Nothing ∷ Nothing ∷ Nothing ∷ Dropped 3 ∷ Nothing ∷ Movement (report 4 (pos 5) (pos 3)) ∷ [])
+pub lost-a-byte : Answered (0xA1 ∷ 0x3D ∷ 0x04 ∷ 0x9C ∷ 0x05 ∷ 0x03 ∷ []) (Nothing ∷ Nothing ∷ Nothing ∷ Dropped 3 ∷ Nothing ∷
+    Movement (report 4 (pos 5) (pos 3)) ∷ [])
 unfolding computing answersOver
 lost-a-byte = refl
 
 -- byte 4 above 7: all four are dropped; and a byte that begins no report, 110 or 111
-pub wrong-buttons : Answered (0xA1 ∷ 0x32 ∷ 0x00 ∷ 0x08 ∷ 0xC0 ∷ 0xE0 ∷ 0xB0 ∷ []) (Nothing ∷ Nothing ∷ Nothing ∷ Dropped 4 ∷ Dropped 1 ∷ Dropped 1 ∷ Dropped 1 ∷ [])
+pub wrong-buttons : Answered (0xA1 ∷ 0x32 ∷ 0x00 ∷ 0x08 ∷ 0xC0 ∷ 0xE0 ∷ 0xB0 ∷ []) (Nothing ∷ Nothing ∷ Nothing ∷ Dropped 4 ∷ Dropped 1 ∷ Dropped 1 ∷
+    Dropped 1 ∷ [])
 unfolding computing answersOver
 wrong-buttons = refl
 
 -- any device code is read: a tablet's self-test
-pub a-tablet : Answered (0xA2 ∷ 0x14 ∷ 0x00 ∷ 0x00 ∷ []) (Nothing ∷ Nothing ∷ Nothing ∷ Test (record { revision = 2; maker = 1; device = 4; error = 0; buttons = 0 }) ∷ [])
+pub a-tablet : Answered (0xA2 ∷ 0x14 ∷ 0x00 ∷ 0x00 ∷ []) (Nothing ∷ Nothing ∷ Nothing ∷
+    Test (record { revision = 2; maker = 1; device = 4; error = 0; buttons = 0 }) ∷ [])
 unfolding computing answersOver
 a-tablet = refl

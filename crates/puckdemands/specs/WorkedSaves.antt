@@ -42,7 +42,8 @@ use Rattle.puckhistory.proofs.Permitted.{answers-permitted}
 use Rattle.demands.specs.Saves.{Press, TellsAtMost}
 use Rattle.puckdemands.specs.Computing.{computing}
 use Rattle.puckdemands.specs.Demand3.{Run, sent}
-use Rattle.puckdemands.specs.Saves.{true-where-damage-shows, stays-marked, pressed, never-a-second-save, ShowsStates, SeenAt, a-press-survives, seen-after-the-stretch, Steady}
+use Rattle.puckdemands.specs.Saves.{true-where-damage-shows, stays-marked, pressed, never-a-second-save, ShowsStates, SeenAt}
+use Rattle.puckdemands.specs.Saves.{a-press-survives, seen-after-the-stretch, Steady}
 
 -- a device of revision 1 and maker 3, made with no button down, and any events
 abbrev start : Puck
@@ -89,7 +90,8 @@ shown-in-a-test =
     (stays (stays (stays (stays (stays (stays (scar (0x03 ∷ 0xA1 ∷ []) (stays (stays (stays (stays (stays (stays whole))))))))))))) fresh refl
 
 pub scarred-answers : answersOver reads fresh scarredWords
-    ≡ Nothing ∷ Nothing ∷ Nothing ∷ Test test ∷ Nothing ∷ Nothing ∷ Dropped 2 ∷ Dropped 1 ∷ Dropped 1 ∷ Dropped 1 ∷ Nothing ∷ Nothing ∷ Movement (report 0 (pos 0) (pos 0)) ∷ []
+    ≡ Nothing ∷ Nothing ∷ Nothing ∷ Test test ∷ Nothing ∷ Nothing ∷ Dropped 2 ∷ Dropped 1 ∷ Dropped 1 ∷ Dropped 1 ∷ Nothing ∷ Nothing ∷
+      Movement (report 0 (pos 0) (pos 0)) ∷ []
 unfolding computing answersOver
 scarred-answers = refl
 
@@ -103,7 +105,8 @@ stays-in-a-test =
 -- Bytes must not be lost without a 256: these two are, and the self-test's second byte ends a movement to 5, 50 that
 -- was never sent. (One byte alone does no such harm: Demand3's `exactly`.)
 pub bytes-need-trace : answersOver reads fresh (0xA1 ∷ 0x32 ∷ 0x00 ∷ 0x00 ∷ 0x98 ∷ 0x05 ∷ 0x32 ∷ 0x00 ∷ 0x00 ∷ 0x98 ∷ 0x00 ∷ 0x00 ∷ [])
-    ≡ Nothing ∷ Nothing ∷ Nothing ∷ Test test ∷ Nothing ∷ Nothing ∷ Movement (report 0 (pos 5) (pos 50)) ∷ Dropped 1 ∷ Dropped 1 ∷ Nothing ∷ Nothing ∷ Movement (report 0 (pos 0) (pos 0)) ∷ []
+    ≡ Nothing ∷ Nothing ∷ Nothing ∷ Test test ∷ Nothing ∷ Nothing ∷ Movement (report 0 (pos 5) (pos 50)) ∷ Dropped 1 ∷ Dropped 1 ∷ Nothing ∷ Nothing ∷
+      Movement (report 0 (pos 0) (pos 0)) ∷ []
 unfolding computing answersOver
 bytes-need-trace = refl
 
@@ -120,7 +123,8 @@ tap-seen = (refl, refl, refl)
 
 -- of the same words, A1 32 00 00 9A 00 00 A1 32 3D 02 98 00 00, some are lost without a trace and a break comes in: a
 -- watch tells one press at most
-pub tap-scarred : (r : PuckReader) → FreshPromise r → (steps : List PuckRead) → reading.StepsPromise r (0x32 ∷ 0x00 ∷ 0x00 ∷ 0x9A ∷ 0x00 ∷ 0x32 ∷ 256 ∷ 0x98 ∷ 0x00 ∷ 0x00 ∷ []) steps
+pub tap-scarred : (r : PuckReader) → FreshPromise r → (steps : List PuckRead)
+    → reading.StepsPromise r (0x32 ∷ 0x00 ∷ 0x00 ∷ 0x9A ∷ 0x00 ∷ 0x32 ∷ 256 ∷ 0x98 ∷ 0x00 ∷ 0x00 ∷ []) steps
     → TellsAtMost 1 middle 0 (movementsIn (handedOut (reading.answers steps)))
 unfolding computing answersTo answerTo presses buttonsTold
 tap-scarred =
@@ -129,7 +133,8 @@ tap-scarred =
 
 -- No byte may change into another: the first byte of a movement arrives as 9A, and M is down that nobody pressed
 pub no-byte-changes : (puckWords start (tested (asked [])) ≡ 0xA1 ∷ 0x32 ∷ 0x00 ∷ 0x00 ∷ 0x98 ∷ 0x00 ∷ 0x00 ∷ [])
-    × (answersOver reads fresh (0xA1 ∷ 0x32 ∷ 0x00 ∷ 0x00 ∷ 0x9A ∷ 0x00 ∷ 0x00 ∷ []) ≡ Nothing ∷ Nothing ∷ Nothing ∷ Test test ∷ Nothing ∷ Nothing ∷ Movement (report 2 (pos 0) (pos 0)) ∷ [])
+    × (answersOver reads fresh (0xA1 ∷ 0x32 ∷ 0x00 ∷ 0x00 ∷ 0x9A ∷ 0x00 ∷ 0x00 ∷ [])
+      ≡ Nothing ∷ Nothing ∷ Nothing ∷ Test test ∷ Nothing ∷ Nothing ∷ Movement (report 2 (pos 0) (pos 0)) ∷ [])
     × (_≡_ {A = ℕ} (pressed (run (tested (asked []))) middle) 0)
 unfolding computing answersOver presses buttonsTold
 no-byte-changes = (refl, refl, refl)
@@ -224,7 +229,8 @@ steady =
       permitted = answers-permitted streaming both;
     }
 
-pub both-seen : (movementsIn (finishedReports (passagesOf streaming nothing both)) ≡ report 2 (pos 0) (pos 0) ∷ report 0 (pos 0) (pos 0) ∷ report 4 (pos 0) (pos 0) ∷ [])
+pub both-seen : (movementsIn (finishedReports (passagesOf streaming nothing both))
+    ≡ report 2 (pos 0) (pos 0) ∷ report 0 (pos 0) (pos 0) ∷ report 4 (pos 0) (pos 0) ∷ [])
     × (_≡_ {A = ℕ} (presses (isDown middle) false (buttonsTold both)) 1)
     × (_≡_ {A = ℕ} (presses (isDown left) false (buttonsTold both)) 1)
 unfolding computing presses buttonsTold

@@ -1,5 +1,6 @@
--- The whole account of a move, of a device: every count that its ball made, axis by axis, in a report, in the device, or in a loss that has a name. The parts are
--- those of the box's account; "cleared by T" takes the place of "cleared by format commands".
+-- The whole account of a move, of a device: every count that its ball made, axis by axis, in a report, in the device,
+-- or in a loss that has a name. The parts are those of the box's account; "cleared by T" takes the place of "cleared by
+-- format commands".
 use mathlib.Core.Bool.{Bool, false, not, cond, _&&_}
 use mathlib.Core.List.{List, [], _∷_, _++_}
 use lib.Dec.{eqb}

@@ -1,5 +1,5 @@
--- The history of a run of the device: its passages and what is going at its end, told from the events and the device's own states, never from the words. Out of a self-test it is the
--- box's history.
+-- The history of a run of the device: its passages and what is going at its end, told from the events and the device's
+-- own states, never from the words. Out of a self-test it is the box's history.
 use Prim.Native.Nat.{ℕ}
 use mathlib.Core.Bool.{cond}
 use mathlib.Core.List.{List, []}

@@ -33,7 +33,8 @@ pub record Took (words : List ℕ) (found : List PuckReport) (before : List ℤ)
 -- The reader r, given the words, hands out these reports, in this order, and no others: by steps, and by a long read with room for them.
 pub record HandsOutBy (r : PuckReader) (words : List ℕ) (found : List PuckReport) : Type 0 where
   pub by-steps : (steps : List PuckRead) → StepsPromise r words steps → handedOut (answers steps) ≡ found
-  pub by-read : (before after : List ℤ) (b : PuckReading) → ReadPromise r words before b after → 6 * length found ≤ length before → Took words found before b after
+  pub by-read : (before after : List ℤ) (b : PuckReading) → ReadPromise r words before b after → 6 * length found ≤ length before
+      → Took words found before b after
 
 -- a fresh reader does
 abbrev pub HandsOut : List ℕ → List PuckReport → Type 0
@@ -45,8 +46,9 @@ pub record TrueBy (r : PuckReader) (words : List ℕ) (sent : List PuckReport) :
   pub hands-out : HandsOutBy r words found
   pub among : Sub found sent
 
--- A fresh reader, given the words, answers word i (the first being 0) by the report p; and a long read with room for all that is found takes every word and writes what is found, p's six
--- numbers behind those of the reports found before word i.
+-- A fresh reader, given the words, answers word i (the first being 0) by the report p; and a long read with room for
+-- all that is found takes every word and writes what is found, p's six numbers behind those of the reports found before
+-- word i.
 pub record HandsOutAt (words : List ℕ) (i : ℕ) (p : PuckReport) : Type 0 where
   pub by-steps : (r : PuckReader) (steps : List PuckRead) → FreshPromise r → StepsPromise r words steps → getD (answers steps) i Nothing ≡ handing p
   pub by-read : (r : PuckReader) (steps : List PuckRead) (before after : List ℤ) (b : PuckReading)

@@ -1,6 +1,7 @@
--- What one word does. The rules are those of every reader of a marked format: a byte that fits its place is kept, and the last gives the report; a first byte starts a
--- report anywhere, and the kept are dropped; a byte that no rule takes is dropped with the kept; 256 and 257 drop the kept. Which byte fits where, and how many bytes a
--- report has, the frame of the two reports says.
+-- What one word does. The rules are those of every reader of a marked format: a byte that fits its place is kept, and
+-- the last gives the report; a first byte starts a report anywhere, and the kept are dropped; a byte that no rule takes
+-- is dropped with the kept; 256 and 257 drop the kept. Which byte fits where, and how many bytes a report has, the
+-- frame of the two reports says.
 use Prim.Native.Nat.{ℕ}
 use mathlib.Core.Bool.{cond}
 use lib.Dec.{leb}

@@ -18,7 +18,8 @@ use Rattle.readback.specs.Promises.{rewriteOf}
 use Rattle.readback.specs.Whole.{reading, readingFrom, readingOf}
 
 unfoldable pub computing : Unit {0}
-unfolding readingOf readingFrom cutIn stepOf widthIn salvageIn itemIn droppedIn reportIn keptIn badIn fieldsIn fieldIn valueIn numberIn plusIn readable placesOf sizeIn
+unfolding readingOf readingFrom cutIn stepOf widthIn salvageIn itemIn droppedIn reportIn keptIn badIn fieldsIn fieldIn
+  valueIn numberIn plusIn readable placesOf sizeIn
 computing = tt
 
 -- the paper's: L 4/D 0002 1/R 0005 L?- 5 3/H 0/
@@ -38,7 +39,8 @@ unfolding computing
 no-end = refl
 
 -- a salvage's: S 6/R 000006 LMR 6 3/D 000009 3/H 0/
-salvage : readingOf (83 ∷ 9 ∷ 54 ∷ 10 ∷ 82 ∷ 9 ∷ 48 ∷ 48 ∷ 48 ∷ 48 ∷ 48 ∷ 54 ∷ 9 ∷ 76 ∷ 77 ∷ 82 ∷ 9 ∷ 54 ∷ 9 ∷ 51 ∷ 10 ∷ 68 ∷ 9 ∷ 48 ∷ 48 ∷ 48 ∷ 48 ∷ 48 ∷ 57 ∷ 9 ∷ 51 ∷ 10 ∷ 72 ∷ 9 ∷ 48 ∷ 10 ∷ [])
+salvage : readingOf (83 ∷ 9 ∷ 54 ∷ 10 ∷ 82 ∷ 9 ∷ 48 ∷ 48 ∷ 48 ∷ 48 ∷ 48 ∷ 54 ∷ 9 ∷ 76 ∷ 77 ∷ 82 ∷ 9 ∷ 54 ∷ 9 ∷ 51 ∷ 10 ∷ 68 ∷ 9 ∷ 48 ∷ 48 ∷ 48 ∷ 48 ∷
+    48 ∷ 57 ∷ 9 ∷ 51 ∷ 10 ∷ 72 ∷ 9 ∷ 48 ∷ 10 ∷ [])
     ≡ reading true (item.R 6 (record { left = true; middle = Down; right = true }) (pos 6) (pos 3) ∷ item.D 9 3 ∷ item.H 0 ∷ []) 0
 unfolding computing
 salvage = refl
@@ -63,7 +65,8 @@ unfolding computing
 none-dropped = refl
 
 -- L 4/D 0002 1/D 0002 1/: a line number again
-again : readingOf (76 ∷ 9 ∷ 52 ∷ 10 ∷ 68 ∷ 9 ∷ 48 ∷ 48 ∷ 48 ∷ 50 ∷ 9 ∷ 49 ∷ 10 ∷ 68 ∷ 9 ∷ 48 ∷ 48 ∷ 48 ∷ 50 ∷ 9 ∷ 49 ∷ 10 ∷ []) ≡ reading false (item.D 2 1 ∷ []) 3
+again : readingOf (76 ∷ 9 ∷ 52 ∷ 10 ∷ 68 ∷ 9 ∷ 48 ∷ 48 ∷ 48 ∷ 50 ∷ 9 ∷ 49 ∷ 10 ∷ 68 ∷ 9 ∷ 48 ∷ 48 ∷ 48 ∷ 50 ∷ 9 ∷ 49 ∷ 10 ∷ [])
+    ≡ reading false (item.D 2 1 ∷ []) 3
 unfolding computing
 again = refl
 
@@ -110,7 +113,8 @@ unfolding computing callOf piecesOf run linesOf good lineOf decimalOf digitsOf
 rewriting-computes = tt
 
 -- L 4/D 0002 1/H 0/ to L 6/D 000002 1/H 0/
-wider : take 19 (rewriteOf fresh (76 ∷ 9 ∷ 52 ∷ 10 ∷ 68 ∷ 9 ∷ 48 ∷ 48 ∷ 48 ∷ 50 ∷ 9 ∷ 49 ∷ 10 ∷ 72 ∷ 9 ∷ 48 ∷ 10 ∷ []) (replicate 60 0) .out) ≡ 76 ∷ 9 ∷ 54 ∷ 10 ∷ 68 ∷ 9 ∷ 48 ∷ 48 ∷ 48 ∷ 48 ∷ 48 ∷ 50 ∷ 9 ∷ 49 ∷ 10 ∷ 72 ∷ 9 ∷ 48 ∷ 10 ∷ []
+wider : take 19 (rewriteOf fresh (76 ∷ 9 ∷ 52 ∷ 10 ∷ 68 ∷ 9 ∷ 48 ∷ 48 ∷ 48 ∷ 50 ∷ 9 ∷ 49 ∷ 10 ∷ 72 ∷ 9 ∷ 48 ∷ 10 ∷ []) (replicate 60 0) .out)
+    ≡ 76 ∷ 9 ∷ 54 ∷ 10 ∷ 68 ∷ 9 ∷ 48 ∷ 48 ∷ 48 ∷ 48 ∷ 48 ∷ 50 ∷ 9 ∷ 49 ∷ 10 ∷ 72 ∷ 9 ∷ 48 ∷ 10 ∷ []
 unfolding rewriting-computes
 wider = refl
 

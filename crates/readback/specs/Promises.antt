@@ -1,4 +1,5 @@
--- What is promised of `Readback::fresh`, `Readback::read`, `Readback::finish` and `Readback::rewrite`: for every argument one answer, and every number of the slice.
+-- What is promised of `Readback::fresh`, `Readback::read`, `Readback::finish` and `Readback::rewrite`: for every
+-- argument one answer, and every number of the slice.
 use Prim.Native.Nat.{ℕ, _+_}
 use mathlib.Core.Path.{_≡_}
 use mathlib.Core.Bool.{cond, _&&_}

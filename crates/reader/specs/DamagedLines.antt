@@ -47,7 +47,8 @@ HandsOut f words found = (a : NewReader) → FreshPromise (letterOf f) a → Han
 -- A fresh reader of f, given the words, answers word i (the first being 0) by the report p; and a long read with room for all that is found takes
 -- every word and writes what is found, p's five numbers behind those of the reports found before word i.
 pub record HandsOutAt (f : Format) (words : List ℕ) (i : ℕ) (p : Report) : Type 0 where
-  pub by-steps : (a : NewReader) (steps : List Read) → FreshPromise (letterOf f) a → StepsPromise (a .reader) words steps → getD (answers steps) i answer.Nothing ≡ answer.Report p
+  pub by-steps : (a : NewReader) (steps : List Read) → FreshPromise (letterOf f) a → StepsPromise (a .reader) words steps
+      → getD (answers steps) i answer.Nothing ≡ answer.Report p
   pub by-read : (a : NewReader) (steps : List Read) (before after : List ℤ) (b : Reading)
       → FreshPromise (letterOf f) a
       → StepsPromise (a .reader) words steps

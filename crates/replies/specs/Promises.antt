@@ -55,8 +55,8 @@ TellPromise s asked answer = answer ≡ tellOf s asked
 abbrev pub TellRefusal : ToldReader → Telling → Type 0
 TellRefusal s answer = RefusesRightly (λ (t : Telling). t .refusal) (tellingOf badState s 0 ∷ tellingOf noReply s 0 ∷ []) answer
 
--- for each case of what became of a reply its number and values: 0 nothing yet, 1 ACK, 2 and the format, 3 and format and mode, 4 and the buttons, 5 and the bytes
--- of a broken one, how many and which
+-- for each case of what became of a reply its number and values: 0 nothing yet, 1 ACK, 2 and the format, 3 and format
+-- and mode, 4 and the buttons, 5 and the bytes of a broken one, how many and which
 abbrev pub replyNumbers : Reply → List ℕ
 replyNumbers reply.Nothing = 0 ∷ []
 replyNumbers reply.Ack = 1 ∷ []

@@ -1,5 +1,5 @@
--- The reply that is awaited: "Only the seven `f` bytes and the `t` pairs of a known format and mode are accepted; of 05H all but the low three bits of byte 1 is
--- ignored."
+-- The reply that is awaited: "Only the seven `f` bytes and the `t` pairs of a known format and mode are accepted; of
+-- 05H all but the low three bits of byte 1 is ignored."
 use Prim.Native.Nat.{ℕ, _+_, _*_, _%_}
 use mathlib.Core.Bool.{Bool, true, false, not, cond, _&&_, _||_}
 use lib.Dec.{eqb, ltb}

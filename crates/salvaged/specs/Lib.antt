@@ -1,5 +1,5 @@
--- The salvage of a recording: its log (Log), as it is read (Hearing), the items of the log (Items), lines to a slice (Writing), the whole (Listing), as it is printed
--- (Walk), what is promised (Promises), and the theorems (Whole).
+-- The salvage of a recording: its log (Log), as it is read (Hearing), the items of the log (Items), lines to a slice
+-- (Writing), the whole (Listing), as it is printed (Walk), what is promised (Promises), and the theorems (Whole).
 pub mod Log
 pub mod Hearing
 pub mod Items

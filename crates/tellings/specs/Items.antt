@@ -98,7 +98,8 @@ unfoldable pub CallsPromise : ToldReader → List Call → List ℤ → List Cal
 CallsPromise s [] before [] = Unit
 CallsPromise s [] before (c ∷ called) = ⊥
 CallsPromise s (call ∷ calls) before [] = ⊥
-CallsPromise s (long words ∷ calls) before (was-read a after ∷ called) = ReadPromise s words before a after × CallsPromise (a .next) calls (unused hearsLine (whole a after)) called
+CallsPromise s (long words ∷ calls) before (was-read a after ∷ called) = ReadPromise s words before a after
+    × CallsPromise (a .next) calls (unused hearsLine (whole a after)) called
 CallsPromise s (long words ∷ calls) before (was-told t ∷ called) = ⊥
 CallsPromise s (tell asked ∷ calls) before (was-read a after ∷ called) = ⊥
 CallsPromise s (tell asked ∷ calls) before (was-told t ∷ called) = TellPromise s asked t × CallsPromise (t .next) calls before called

@@ -18,7 +18,8 @@ use Rattle.reader.specs.declared.Answer.the-variants as answer
 use Rattle.replies.specs.Replying.{came, none, nothing, letterOfCode}
 use Rattle.replies.specs.Rules.{toldReader}
 use Rattle.replies.specs.Promises.{FreshPromise}
-use Rattle.tellings.specs.Items.{Item, telling, asItems, Done, afterDone, ItemsPromise, ownAnswersOf, repliesOf, Call, itemsOf, Called, CallsPromise, sliceAfter, TookAll}
+use Rattle.tellings.specs.Items.{Item, telling, asItems, Done, afterDone, ItemsPromise, ownAnswersOf, repliesOf, Call, itemsOf}
+use Rattle.tellings.specs.Items.{Called, CallsPromise, sliceAfter, TookAll}
 use Rattle.ballbox.specs.Commands.{space, letterf, lettert, byte05}
 use Rattle.replies.specs.declared.Asked.{Asked}
 use Rattle.replies.specs.declared.Asked.the-variants.{Command}
@@ -80,7 +81,8 @@ repliesSent (p ∷ passages) = repliesIn p ++ repliesSent passages
 -- A fresh reader of f, given the items, answers word i (the first being 0) by the report p; and calls with room for all that is found take every word and write
 -- what is found, p's five numbers behind those of the reports found before word i.
 pub record HandsOutAt (f : Format) (items : List Item) (i : ℕ) (p : Report) : Type 0 where
-  pub by-steps : (a : NewToldReader) (done : List Done) → FreshPromise (letterOf f) a → ItemsPromise (a .reader) items done → getD (ownAnswersOf done) i answer.Nothing ≡ answer.Report p
+  pub by-steps : (a : NewToldReader) (done : List Done) → FreshPromise (letterOf f) a → ItemsPromise (a .reader) items done
+      → getD (ownAnswersOf done) i answer.Nothing ≡ answer.Report p
   pub by-calls : (a : NewToldReader) (done : List Done) (calls : List Call) (before : List ℤ) (called : List Called)
       → FreshPromise (letterOf f) a
       → ItemsPromise (a .reader) items done
@@ -92,7 +94,8 @@ pub record HandsOutAt (f : Format) (items : List Item) (i : ℕ) (p : Report) : 
 
 -- A fresh reader of f, given the items, hands out these reports, in this order, and no others, one by one and in calls with room for them.
 pub record HandsOut (f : Format) (items : List Item) (found : List Report) : Type 0 where
-  pub by-steps : (a : NewToldReader) (done : List Done) → FreshPromise (letterOf f) a → ItemsPromise (a .reader) items done → handedOut (ownAnswersOf done) ≡ found
+  pub by-steps : (a : NewToldReader) (done : List Done) → FreshPromise (letterOf f) a → ItemsPromise (a .reader) items done
+      → handedOut (ownAnswersOf done) ≡ found
   pub by-calls : (a : NewToldReader) (done : List Done) (calls : List Call) (before : List ℤ) (called : List Called)
       → FreshPromise (letterOf f) a
       → ItemsPromise (a .reader) items done
@@ -105,8 +108,8 @@ pub record HandsOut (f : Format) (items : List Item) (found : List Report) : Typ
 pub record TellsReplies (f : Format) (items : List Item) (replies : List Reply) : Type 0 where
   pub told : (a : NewToldReader) (done : List Done) → FreshPromise (letterOf f) a → ItemsPromise (a .reader) items done → repliesOf done ≡ replies
 
--- The stretch `old`, behind the words `pre`, lies within the bytes of one report, a finished one, one that was broken off, or the one that is under way; and the
--- passages other than that report.
+-- The stretch `old`, behind the words `pre`, lies within the bytes of one report, a finished one, one that was broken
+-- off, or the one that is under way; and the passages other than that report.
 pub data InReport (pre old : List ℕ) : List (Passage Message) → UnderWay Message → List (Passage Message) → Type 0 where
   in-finished : (before after : List (Passage Message)) (going : UnderWay Message) (l : Latched)
       → length (passageWords messageBytes before) ≤ length pre

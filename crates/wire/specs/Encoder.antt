@@ -15,7 +15,8 @@ use Rattle.wire.specs.declared.Unheld.the-variants.{None, FirstX, FirstY
 use Rattle.wire.specs.declared.Named.{Named}
 use Rattle.wire.specs.declared.Named.the-variants.{Known, Unknown}
 use Rattle.wire.specs.declared.Encoded.{Encoded}
-use Rattle.wire.specs.declared.Encoded.the-variants.{Written, NoSuchLetter, ButtonsAboveSeven, FirstXNotHeld, FirstYNotHeld, SecondXNotHeld, SecondYNotHeld, BufferTooShort}
+use Rattle.wire.specs.declared.Encoded.the-variants.{Written, NoSuchLetter, ButtonsAboveSeven, FirstXNotHeld, FirstYNotHeld}
+use Rattle.wire.specs.declared.Encoded.the-variants.{SecondXNotHeld, SecondYNotHeld, BufferTooShort}
 
 -- what is left behind: the number given back, the length told, and every byte of the buffer
 pub record Encoding : Type 0 where
