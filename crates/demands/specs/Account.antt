@@ -86,8 +86,19 @@ pub record Comes (a : Axis) (events : List Event) (fed finished going counter li
 
 pub seven-parts : (Comes x-axis allSeven (pos 33105) (pos 127) (pos 20) (pos 3) (pos 173) (pos 5) (pos 10) (pos 32767)) × (neverA freshBox allSeven ≡ true)
 unfolding computing
-seven-parts = (record { is-fed = refl; in-finished = refl; in-going = refl; in-counter = refl; over-the-limit = refl; over-sixteen = refl;
-    in-broken = refl; by-formats = refl }, refl)
+seven-parts = (
+  record {
+    is-fed = refl;
+    in-finished = refl;
+    in-going = refl;
+    in-counter = refl;
+    over-the-limit = refl;
+    over-sixteen = refl;
+    in-broken = refl;
+    by-formats = refl;
+  },
+  refl,
+)
 
 -- and one that selects A, whose reports say positions: 8 were fed, and the reports say 5 and then 8
 abbrev withA : List Event
@@ -95,8 +106,19 @@ withA = Host (letterOf Absolute) ∷ Motion (pos 5) (pos 0) ∷ slots 5 (Motion 
 
 pub not-in-A : (Comes x-axis withA (pos 8) (pos 13) (pos 0) (pos 0) (pos 0) (pos 0) (pos 0) (pos 0)) × (neverA freshBox withA ≡ false)
 unfolding computing
-not-in-A = (record { is-fed = refl; in-finished = refl; in-going = refl; in-counter = refl; over-the-limit = refl; over-sixteen = refl;
-    in-broken = refl; by-formats = refl }, refl)
+not-in-A = (
+  record {
+    is-fed = refl;
+    in-finished = refl;
+    in-going = refl;
+    in-counter = refl;
+    over-the-limit = refl;
+    over-sixteen = refl;
+    in-broken = refl;
+    by-formats = refl;
+  },
+  refl,
+)
 
 -- The same downwards, in V, whose wire turns y over: 300 to the south, of which its report says 127; the counter at its
 -- end, and 5 more; T clears it; 10 latched and broken off; 20 latched, and 3 counted.
@@ -111,8 +133,19 @@ sevenDown =
 pub seven-parts-down : (Comes y-axis sevenDown (minus 33106) (minus 127) (minus 20) (minus 3) (minus 173) (minus 5) (minus 10) (minus 32768))
     × (neverA freshBox sevenDown ≡ true)
 unfolding computing
-seven-parts-down = (record { is-fed = refl; in-finished = refl; in-going = refl; in-counter = refl; over-the-limit = refl; over-sixteen = refl;
-    in-broken = refl; by-formats = refl }, refl)
+seven-parts-down = (
+  record {
+    is-fed = refl;
+    in-finished = refl;
+    in-going = refl;
+    in-counter = refl;
+    over-the-limit = refl;
+    over-sixteen = refl;
+    in-broken = refl;
+    by-formats = refl;
+  },
+  refl,
+)
 
 -- U with its second pair: 5 in the first, and in the second -127 of -200 and 127 of 150; then a report that is going,
 -- 9, -9 and 4, -6, and 1, 2 counted.
@@ -126,8 +159,24 @@ pub second-pairs : (Comes x-axis secondPairs (minus 181) (minus 122) (pos 13) (p
     × (Comes y-axis secondPairs (pos 137) (pos 127) (minus 15) (pos 2) (pos 23) (pos 0) (pos 0) (pos 0))
 unfolding computing
 second-pairs = (
-  record { is-fed = refl; in-finished = refl; in-going = refl; in-counter = refl; over-the-limit = refl; over-sixteen = refl; in-broken = refl;
-      by-formats = refl },
-  record { is-fed = refl; in-finished = refl; in-going = refl; in-counter = refl; over-the-limit = refl; over-sixteen = refl; in-broken = refl;
-      by-formats = refl },
+  record {
+    is-fed = refl;
+    in-finished = refl;
+    in-going = refl;
+    in-counter = refl;
+    over-the-limit = refl;
+    over-sixteen = refl;
+    in-broken = refl;
+    by-formats = refl;
+  },
+  record {
+    is-fed = refl;
+    in-finished = refl;
+    in-going = refl;
+    in-counter = refl;
+    over-the-limit = refl;
+    over-sixteen = refl;
+    in-broken = refl;
+    by-formats = refl;
+  },
 )

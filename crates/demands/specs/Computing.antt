@@ -26,10 +26,10 @@ use Rattle.history.specs.Presses.{changesIn, statesOver, neverNinth, slotsFrom,
 
 unfoldable pub computing : Unit {0}
 unfolding reader.computing ones onesIn held excess heldSum sumExcess heldLong added withParity digit undigit rowsV
-  bytesV rowsA bytesA bytesB rowsW bytesW bytesBy readW freshBox goingFrom counted countedOver placedAt placed movedBy
-  apart hasMoved limits limited limitExcess movement taken takenOver cleared latchedReport latched withSecond
-  secondLatched commandOf codeByte obeyed onButtons latching withByteReady after memoryAfter nextByte sending dropped
-  onHost awake good goodSettings goodTrack goodGoing goodMemory remembered remembering toShow showingFirst shown hidden
-  stepOf passagesOver goingOver answerTo answersTo toldBy allHosts changesIn statesOver neverNinth slotsFrom boxAfter
-  lastBox thrown thrownIn sumOf addedOver neverA
+    bytesV rowsA bytesA bytesB rowsW bytesW bytesBy readW freshBox goingFrom counted countedOver placedAt placed movedBy
+    apart hasMoved limits limited limitExcess movement taken takenOver cleared latchedReport latched withSecond
+    secondLatched commandOf codeByte obeyed onButtons latching withByteReady after memoryAfter nextByte sending dropped
+    onHost awake good goodSettings goodTrack goodGoing goodMemory remembered remembering toShow showingFirst shown hidden
+    stepOf passagesOver goingOver answerTo answersTo toldBy allHosts changesIn statesOver neverNinth slotsFrom boxAfter
+    lastBox thrown thrownIn sumOf addedOver neverA
 computing = tt

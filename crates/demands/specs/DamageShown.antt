@@ -72,7 +72,7 @@ module _ {f : Format} {b : BallBox} {a : Stepped} {events : List Event} {answers
       → TellsAtMost (made (isDown button) (a .next) events) button (a .next .settings .buttons) (handedOut (reading.answers steps))
   never-a-second-save start d button c =
       never-a-second-save-where-damage-shows (of-demand-3 run) events (asked-unanswered events (run .asked)) answers (run .permitted)
-        (front-given run in-front) d button c start
+      (front-given run in-front) d button c start
 
   -- A finished report r of which every byte stays, whatever is left of the words before it, `early`, and behind it,
   -- `late`; i is the place of the word that ends it.

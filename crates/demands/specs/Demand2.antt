@@ -82,7 +82,7 @@ pub in-a-run : (b : BallBox) (going : UnderWay Message) (events : List Event) (r
     → Carries b going
     → RunPromise b events run
     → partWords messageBytes going ++ wordsGiven run
-      ≡ passageWords messageBytes (passagesOf b going events) ++ partWords messageBytes (goingAfter b going events)
+    ≡ passageWords messageBytes (passagesOf b going events) ++ partWords messageBytes (goingAfter b going events)
 in-a-run = run-carried
 
 -- so in every run of a fresh box, whatever the host sends

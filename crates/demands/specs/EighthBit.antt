@@ -99,7 +99,7 @@ module _ {b : BallBox} {a : Stepped} {events : List Event} {answers : List Stepp
       let k = turned-left less (w .5) in
       turned-out (turned-both (turned-none front) (turned-both (w .4) (turned-both (k .2) (w .6))))
       (exactly run {pre = w .0} {old = w .1} (k .0) (w .2) in-front refl (w .3)
-        (in-one-long messageBytes (turned-length (w .4)) (turned-length (w .5)) one) (k .1) (rw (turned-length (k .2), turned-length (w .5)) some))
+      (in-one-long messageBytes (turned-length (w .4)) (turned-length (w .5)) one) (k .1) (rw (turned-length (k .2), turned-length (w .5)) some))
 
 -- Worked: a movement and a press, each of their bytes with bit 7 set, and of the movement's 85 BD became 00 256. The
 -- press is the answer to word 5.
@@ -119,7 +119,7 @@ turned-V =
     (0xCC ∷ []) (0x85 ∷ 0xBD ∷ []) (0x00 ∷ 256 ∷ []) (0xE0 ∷ 0x80 ∷ 0x80 ∷ [])
     (rw (in-V .line) (turns refl (turns refl (turns refl (turns refl (turns refl (turns refl none)))))))
     refl (finished (latchedIn Microsoft (move 0 (pos 5) (pos 3))) ∷
-      []) (record { format = Microsoft; report = press; shows = true }) [] (in-V .is) 5 refl (omega arith)
+    []) (record { format = Microsoft; report = press; shows = true }) [] (in-V .is) 5 refl (omega arith)
 
 -- and the movement's second byte lost
 pub turned-lost-V : HandsOut Microsoft (0xCC ∷ 0xBD ∷ 0xE0 ∷ 0x80 ∷ 0x80 ∷ []) (press ∷ [])

@@ -75,7 +75,7 @@ module _ {f : Format} {b : BallBox} {a : Stepped} {events : List Event} {answers
         → HandsOutAt f (early ++ (word silence ∷ lineItems quietly ++ (asItems (messageBytes (report r)) ++ late))) i (carried f (r .report))
     stays-behind-a-silence =
         polled.stays-behind-a-silence f (a .next) events answers (set-box run) (run .asked) (run .permitted)
-          (front-given (setting run) in-front) before r after is behind
+        (front-given (setting run) in-front) before r after is behind
 
   module _ (button : Button) (c : CarriedBy f (isDown button)) (n : NewToldReader) (fresh : FreshPromise (letterOf f) n) (done : List Done) where
     -- Never a save that nobody made: its reports go to a watch, which tells that a button went down no more often than
@@ -105,13 +105,16 @@ module _ {f : Format} {b : BallBox} {a : Stepped} {events : List Event} {answers
       as-many-saves h =
           let is = handed-out follows .by-steps n done fresh q in
           hearing.heard-known button (a .next .settings .buttons) (finishedReports f (sent a events)) told (rw is at h)
-            ∙ all-seen begins events button c stream keeps never shown
+          ∙ all-seen begins events button c stream keeps never shown
 
       -- one that was not told them misses one press at most, that of the first report
       pub one-missed-at-most : HeardAll unaware (handedOut (ownAnswersOf done)) told → made (isDown button) (a .next) events ≤ suc (timesDown button told)
       one-missed-at-most h =
           let is = handed-out follows .by-steps n done fresh q in
           let near = hearing.fresh-near (isDown button) (a .next .settings .buttons) (finishedReports f (sent a events)) .1 in
-          omega
-          (arith, near, hearing.heard-fresh button (finishedReports f (sent a events)) told (rw is at h),
-            all-seen begins events button c stream keeps never shown)
+          omega (
+            arith,
+            near,
+            hearing.heard-fresh button (finishedReports f (sent a events)) told (rw is at h),
+            all-seen begins events button c stream keeps never shown,
+          )

@@ -220,7 +220,7 @@ pub word-counts : (s : ToldReader) (w : ℕ) (h : Heard)
     → h .refusal ≡ success
     → byteIn w + (s .reader .count + s .awaited .came .count)
     ≡ sizeBy (s .reader .format) * reportsIn (h .answer) + droppedIn (h .answer) + wholeBytes (h .reply) + brokenBytes (h .reply) +
-      (h .next .reader .count + h .next .awaited .came .count)
+    (h .next .reader .count + h .next .awaited .came .count)
 word-counts = counting.step-counts
 
 pub line-counts : (s : ToldReader) (words : List ℕ) (out : List ℤ) (a : HeardLine) (after : List ℤ)
@@ -228,7 +228,7 @@ pub line-counts : (s : ToldReader) (words : List ℕ) (out : List ℤ) (a : Hear
     → ReadPromise s words out a after
     → bytesIn (take (a .taken) words) + (s .reader .count + s .awaited .came .count)
     ≡ sizeBy (s .reader .format) * a .reports + a .dropped + wholeBytes (a .reply) + brokenBytes (a .reply) +
-      (a .next .reader .count + a .next .awaited .came .count)
+    (a .next .reader .count + a .next .awaited .came .count)
 line-counts = counting.read-counts
 
 -- "if the words before it were all taken, the results join as one"

@@ -59,8 +59,10 @@ pub refuses : {f : Format} {r : Report}
     → Refuses f r (unheldNumber (unheld f r))
 refuses {f} {r} h e =
     record {
-      refused = λ before after a p. let s = movement-refused f r before after a h e p in (ap (λ (x : Encoding). x .refusal) s,
-        ap (λ (x : Encoding). x .buffer) s);
+      refused = λ before after a p. let s = movement-refused f r before after a h e p in (
+        ap (λ (x : Encoding). x .refusal) s,
+        ap (λ (x : Encoding). x .buffer) s,
+      );
     }
 
 pub reads : {f : Format} {bytes : List ℕ} {r : Report}

@@ -180,7 +180,7 @@ module _ {f : Format} {b : BallBox} {g : UnderWay Message} (box : Box f b g) (fr
       ends w = omega (arith, size-between f .0)
 
       seen : HandsOutAt f (given ++ (pre ++ (new ++ post))) place (carried f (shown .latched .report))
-        → SeenAt f (given ++ (pre ++ (new ++ post))) (buttonsIn f n)
+          → SeenAt f (given ++ (pre ++ (new ++ post))) (buttonsIn f n)
       seen h =
           record {
             place = place;
@@ -209,7 +209,7 @@ module _ {f : Format} {b : BallBox} {g : UnderWay Message} (box : Box f b g) (fr
           let w2 : Within before pre old = omega (arith, longer, long) in
           let later-unbroken : Unbroken (shown .before ++ (finished (report (shown .latched)) ∷ shown .after)) = rw (shown .is) at (outlives .unbroken) in
           seen (damaged.unmarked f _ _ given pre old new post replaced before (shown .latched) (shown .after) is place (ends w2) ahead
-            (quietly ++ shown .before)
+          (quietly ++ shown .before)
           (ap (λ (x : List (Passage Message)). x ++ shown .before) e ∙ append-assoc ahead (silent ∷ quietly) (shown .before))
           (unbroken-then quietly (shown .before) u (front-unbroken (shown .before) (finished (report (shown .latched)) ∷ shown .after) later-unbroken)) w)
 
@@ -374,7 +374,7 @@ module _ {f : Format} {b : BallBox} (begins : Begins f b) (events : List Event) 
         let all = never-begun b nothing events (carrying .good) (carrying .carries) (carrying .showing) down was in
         let more =
         buttons.fewer down was (sub-append (sub-all (buttonsBegun sent))
-          (sub-more (buttonsGoing going) (remembered (boxAfter b events .memory) ++ (boxAfter b events .settings .buttons ∷ [])))) in
+        (sub-more (buttonsGoing going) (remembered (boxAfter b events .memory) ++ (boxAfter b events .settings .buttons ∷ [])))) in
         let now = rw (begins .none) at all in
         rw (scars.scarred-out f m sent going (is-sound .0) at-end d start .by-steps steps q)
         (tells button (b .settings .buttons) found (omega (arith, few, same, more, now, buttons.stays-so down was)))

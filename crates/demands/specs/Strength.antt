@@ -176,7 +176,7 @@ no-silent-box p k silent =
     let events : List Event = Host letterP ∷ Latch ∷ Send ∷ [] in
     let given : wordsGiven (runBy p (p .fresh) events) ≡ givenOver nextBox (λ b e. box.stepOf b e .words) freshBox events =
     permitted (p .fresh) events (runBy p (p .fresh) events) (run-kept p k (p .fresh) events)
-      ∙ ap (λ (b : BallBox). givenOver nextBox (λ b e. box.stepOf b e .words) b events) (k .fresh) in
+    ∙ ap (λ (b : BallBox). givenOver nextBox (λ b e. box.stepOf b e .words) b events) (k .fresh) in
     let z : _≡_ {A = ℕ} 0x87 silence = sym (ap (λ (words : List ℕ). getD words 0 silence) given) ∙ silent events 0 in
     omega arith
 

@@ -125,7 +125,7 @@ module _ {f : Format} {input : List ℕ} {lines rest : List (List ℕ)} {a : Ste
       by-steps (rw (as-sent run-of) (fresh-followed f (sent a (eventsOf lines)) (stillGoing a (eventsOf lines)) (sound .0) (sound .1) front later is m p u))
   handed (no-silence m h) =
       nothing-before-silence (letterOf f) (freshOf (letterOf f)) (wordsGiven given) (stepsOf (freshReader f) (wordsGiven given)) (letter-marked f
-        ∙ m) refl h (permitted (freshReader f) (wordsGiven given))
+      ∙ m) refl h (permitted (freshReader f) (wordsGiven given))
 
 -- An input that is good to its end: the reports that were seen, and at the end `H` and the bytes kept. The recording
 -- has a line for the format and one for each word, no more than 999,999.
@@ -137,7 +137,7 @@ pub listed-whole : {f : Format} {input : List ℕ} {lines : List (List ℕ)} {a 
 unfolding itemsFrom gaveOf
 listed-whole {f} {input} {a = a} {given = given} {reports = reports} tried seen few =
     listed f input (wordsGiven given) reports found.End _
-      (whole-found (tried .tries) a given (tried .set) (tried .permitted) (letter-known f) (legal tried) few) (handed tried seen) refl refl refl
+    (whole-found (tried .tries) a given (tried .set) (tried .permitted) (letter-known f) (legal tried) few) (handed tried seen) refl refl refl
 
 -- With more lines it has the reports that a fresh reader hands out of the first 999,998 words, and ends in `over`.
 pub listed-too-long : {f : Format} {input : List ℕ} {lines : List (List ℕ)} {a : Stepped} {given : List Stepped}
@@ -147,7 +147,7 @@ pub listed-too-long : {f : Format} {input : List ℕ} {lines : List (List ℕ)} 
 unfolding itemsFrom gaveOf
 listed-too-long {f} {input} {a = a} {given = given} tried many =
     listed f input (take (mostLines - 1) (wordsGiven given)) _ found.Over _
-      (long-found (tried .tries) a given (tried .set) (tried .permitted) (letter-known f) (legal tried) many) refl refl refl refl
+    (long-found (tried .tries) a given (tried .set) (tried .permitted) (letter-known f) (legal tried) many) refl refl refl refl
 
 -- "A line that is bad, or an event that the box refuses, ends it with `E` and the line's number, which `mlist` in turn lists as a bad line": the reports of the
 -- events before it, and at the end `E` and the number of the recording's line behind the words, without `H`

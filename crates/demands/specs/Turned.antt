@@ -87,7 +87,7 @@ turned-at t h =
       by-steps = λ a steps e s. h .by-steps a steps e (steps-before t (a .reader) (fresh-V a e) steps s);
       by-read = λ a steps before after b e s q room.
           let k = h .by-read a steps before after b e (steps-before t (a .reader) (fresh-V a e) steps s)
-            (read-before t (a .reader) (fresh-V a e) before after b q) room in
+          (read-before t (a .reader) (fresh-V a e) before after b q) room in
           (took-as t (k .0), k .1);
     }
 

@@ -39,8 +39,8 @@ use Rattle.demands.specs.TriedBox.{Tried, marked, from-silence, Lists, l
 -- what they compute with: the rules of the box and of the reader, and those of lines of events, of recordings and of listings
 unfoldable computing : Unit {0}
 unfolding rules.computing linesIn markIn formatIn saidBy lineIn foundIn gaveOf itemsFrom lineOf listingOf digitsOf
-  sizeIn placesOf decimalOf readable plusIn numberIn freshOf lines.saidBy lines.withFields lines.motionIn
-  lines.formatIn lines.aloneIn wordBytes recordLine slots lineDone recordsFrom recordingOf
+    sizeIn placesOf decimalOf readable plusIn numberIn freshOf lines.saidBy lines.withFields lines.motionIn
+    lines.formatIn lines.aloneIn wordBytes recordLine slots lineDone recordsFrom recordingOf
 computing = tt
 
 -- S: a movement, a character's time with nothing to send, and a press: F S/M 5 -3/S 4/N 4/S 3/

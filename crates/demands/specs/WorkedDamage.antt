@@ -52,8 +52,13 @@ words = 0x00 ∷ 0x02 ∷ 0xE8 ∷ 0x00 ∷ 0x01 ∷ 0x00 ∷ 257 ∷ 0x00 ∷ 0
 pub run : (events : List Event) → onlyAsks events ≡ true → Run ThreeByte freshBox (setTo ThreeByte) events (answersTo (setTo ThreeByte .next) events)
 unfolding computing
 run events asked =
-    record { good = refl; awake = refl; set = answer-permitted freshBox (Host (letterOf ThreeByte)); asked = asked;
-      permitted = answers-permitted (setTo ThreeByte .next) events }
+    record {
+      good = refl;
+      awake = refl;
+      set = answer-permitted freshBox (Host (letterOf ThreeByte));
+      asked = asked;
+      permitted = answers-permitted (setTo ThreeByte .next) events;
+    }
 
 pub moves-send : (wordsGiven (answersTo (setTo ThreeByte .next) moves) ≡ words)
     × (finishedReports ThreeByte (sent (setTo ThreeByte) moves) ≡ far ∷ near ∷ near ∷ [])
@@ -83,9 +88,9 @@ unfolding computing
 stays-in-T =
     stays-behind-a-silence (run moves refl) from-then-on
     (finished (latchedIn ThreeByte far) ∷ finished (latchedIn ThreeByte near) ∷ silent ∷
-      []) (record { format = ThreeByte; report = near; shows = false }) [] refl whole
+    []) (record { format = ThreeByte; report = near; shows = false }) [] refl whole
     (finished (latchedIn ThreeByte far) ∷ finished (latchedIn ThreeByte near) ∷
-      []) [] refl tt (scar (0x00 ∷ []) (stays (stays (stays (stays (stays whole)))))) 9 refl
+    []) [] refl tt (scar (0x00 ∷ []) (stays (stays (stays (stays (stays whole)))))) 9 refl
 
 -- A byte must not be lost without a 256: the first one is, and M goes down
 abbrev Saves : List Report → Type 0

@@ -72,7 +72,7 @@ unfolding computing replies.computing
 handed-in-T =
     handed-out (run-of in-T)
     (since [] (finished (reply (0x00 ∷ 0x00 ∷ 0x00 ∷ [])) ∷ finished (latchedIn ThreeByte far) ∷ finished (latchedIn ThreeByte near) ∷ silent ∷
-      finished (latchedIn ThreeByte near) ∷ [])
+    finished (latchedIn ThreeByte near) ∷ [])
     refl (in-T .is) tt tt)
 
 -- The reply's first byte arrives as 256: the reader hands out what is behind the next silence, and that is true.
@@ -132,7 +132,7 @@ up = report 0 (pos 0) (pos 0)
 
 pub in-S : SendsItems Mm tapping tapped
     (finished (reply (0x53 ∷ 0x4F ∷ [])) ∷ broken 1 (showingIn Mm down) ∷ finished (reply (0x06 ∷ [])) ∷ finished (showingIn Mm down) ∷
-      finished (showingIn Mm up) ∷ [])
+    finished (showingIn Mm up) ∷ [])
 unfolding computing replies.computing
 in-S = record { asked = refl; line = refl; is = refl; ends = refl }
 

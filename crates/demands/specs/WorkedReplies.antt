@@ -111,7 +111,7 @@ unfolding computing replies.computing
 exactly-S =
     exactly (run-of in-S) from-then-on (asItems (0x90 ∷ [])) (0x05 ∷ []) [] behindS (in-S .line) refl refl refl
     (in-finished [] (finished codeS ∷ finished (showingIn Mm press) ∷ []) nothing (record { format = Mm; report = slowMove; shows = false })
-      (omega arith) (omega arith))
+    (omega arith) (omega arith))
     (gone none) (omega arith)
 
 pub code-S : TellsReplies Mm (asItems (0x90 ∷ []) ++ behindS) (told.Format 0x53 ∷ [])
@@ -168,7 +168,7 @@ itemsBroken =
 
 pub in-broken : SendsItems FiveByte eventsBroken itemsBroken
     (silent ∷ broken 1 lettersU ∷ finished (reply (0x10 ∷ [])) ∷ finished (latchedIn FiveByte (report 0 (pos 5) (pos 0))) ∷ silent ∷
-      finished (latchedIn FiveByte (report 0 (pos 7) (pos 0))) ∷ [])
+    finished (latchedIn FiveByte (report 0 (pos 7) (pos 0))) ∷ [])
 unfolding computing replies.computing
 in-broken = record { asked = refl; line = refl; is = refl; ends = refl }
 

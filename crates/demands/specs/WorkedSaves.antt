@@ -78,7 +78,7 @@ slots-needed = (refl, refl)
 -- place, and 6 is never shown
 pub kept-needed : shownBy (passagesOf (boxIn Mm) nothing
     (Motion (pos 5) (pos 0) ∷ slots 1 (Buttons 1 ∷ Buttons 2 ∷ Buttons 3 ∷ Buttons 4 ∷ Buttons 1 ∷ Buttons 3 ∷ Buttons 7 ∷ Buttons 6 ∷ Buttons 5 ∷
-      slots 27 [])))
+    slots 27 [])))
     ≡ 1 ∷ 2 ∷ 3 ∷ 4 ∷ 1 ∷ 3 ∷ 7 ∷ 5 ∷ []
 unfolding computing
 kept-needed = refl
@@ -123,7 +123,7 @@ noPress = Motion (pos 2) (minus 24) ∷ slots 3 (Motion (pos 1) (pos 0) ∷ slot
 
 pub mark-needed : (wordsGiven (answersTo (boxIn ThreeByte) noPress) ≡ 0x00 ∷ 0x02 ∷ 0xE8 ∷ 0x00 ∷ 0x01 ∷ 0x00 ∷ [])
     × AnsweredBy (ready (letterOf ThreeByte)) (0x02 ∷ 0xE8 ∷ 0x00 ∷ 0x01 ∷ 0x00 ∷ []) (Nothing ∷ Nothing ∷ answer.Report (report 2 (minus 24) (pos 0)) ∷
-      Nothing ∷ Nothing ∷ [])
+    Nothing ∷ Nothing ∷ [])
     × (_≡_ {A = ℕ} (pressesFrom (isDown middle) 0 (report 2 (minus 24) (pos 0) ∷ [])) 1)
     × (_≡_ {A = ℕ} (presses (isDown middle) false (buttonsTold noPress)) 0)
 unfolding computing presses buttonsTold

@@ -113,11 +113,11 @@ examples = move ∷ tap ∷ asked ∷ refused ∷ badline ∷ wide ∷ none ∷ 
 -- what they compute with
 unfoldable computing : Unit {0}
 unfolding recordingOf recordsFrom lineDone slots recordLine wordBytes saidBy withFields motionIn formatIn aloneIn
-  linesIn digitsOf sizeIn placesOf decimalOf readable plusIn numberIn stepOf good goodSettings goodTrack goodGoing
-  goodMemory onButtons latching withByteReady after memoryAfter nextByte sending dropped onHost awake commandOf obeyed
-  limits limited limitExcess movement taken takenOver cleared latchedReport latched withSecond secondLatched counted
-  countedOver placedAt placed movedBy apart hasMoved remembered remembering toShow showingFirst shown hidden freshBox
-  goingFrom added namedBy sizeBy markedBy known bytesS bytesT bytesU bytesBy held excess heldSum sumExcess heldLong signed twos number bits bit
+    linesIn digitsOf sizeIn placesOf decimalOf readable plusIn numberIn stepOf good goodSettings goodTrack goodGoing
+    goodMemory onButtons latching withByteReady after memoryAfter nextByte sending dropped onHost awake commandOf obeyed
+    limits limited limitExcess movement taken takenOver cleared latchedReport latched withSecond secondLatched counted
+    countedOver placedAt placed movedBy apart hasMoved remembered remembering toShow showingFirst shown hidden freshBox
+    goingFrom added namedBy sizeBy markedBy known bytesS bytesT bytesU bytesBy held excess heldSum sumExcess heldLong signed twos number bits bit
 computing = tt
 
 pub computed : map (λ e. recordingOf (e .input)) examples ≡ map (λ e. e .output) examples

@@ -29,7 +29,7 @@ paper =
     record {
       input = 70 ∷ 9 ∷ 86 ∷ 10 ∷ 66 ∷ 9 ∷ 53 ∷ 10 ∷ 66 ∷ 9 ∷ 49 ∷ 48 ∷ 56 ∷ 10 ∷ 66 ∷ 9 ∷ 53 ∷ 10 ∷ 66 ∷ 9 ∷ 54 ∷ 49 ∷ 10 ∷ 81 ∷ 10 ∷ [];
       output = 76 ∷ 9 ∷ 52 ∷ 10 ∷ 68 ∷ 9 ∷ 48 ∷ 48 ∷ 48 ∷ 50 ∷ 9 ∷ 49 ∷ 10 ∷ 82 ∷ 9 ∷ 48 ∷ 48 ∷ 48 ∷ 53 ∷ 9 ∷ 76 ∷ 63 ∷ 45 ∷ 9 ∷ 53 ∷ 9 ∷ 51 ∷ 10 ∷ 72 ∷
-        9 ∷ 48 ∷ 10 ∷ [];
+          9 ∷ 48 ∷ 10 ∷ [];
     }
 
 -- no line at all
@@ -110,7 +110,7 @@ abbrev summed : Example
 summed =
     record {
       input = 70 ∷ 9 ∷ 85 ∷ 10 ∷ 81 ∷ 10 ∷ 66 ∷ 9 ∷ 49 ∷ 50 ∷ 56 ∷ 10 ∷ 66 ∷ 9 ∷ 49 ∷ 50 ∷ 56 ∷ 10 ∷ 66 ∷ 9 ∷ 49 ∷ 10 ∷ 66 ∷ 9 ∷ 50 ∷ 53 ∷ 53 ∷ 10 ∷
-        66 ∷ 9 ∷ 50 ∷ 10 ∷ 88 ∷ 10 ∷ [];
+          66 ∷ 9 ∷ 50 ∷ 10 ∷ 88 ∷ 10 ∷ [];
       output = 76 ∷ 9 ∷ 52 ∷ 10 ∷ 82 ∷ 9 ∷ 48 ∷ 48 ∷ 48 ∷ 55 ∷ 9 ∷ 76 ∷ 77 ∷ 82 ∷ 9 ∷ 45 ∷ 49 ∷ 50 ∷ 57 ∷ 9 ∷ 51 ∷ 10 ∷ 72 ∷ 9 ∷ 48 ∷ 10 ∷ [];
     }
 
@@ -140,8 +140,8 @@ examples =
 -- what they compute with
 unfoldable computing : Unit {0}
 unfolding linesIn markIn formatIn saidBy lineIn foundIn gaveOf itemsFrom lineOf digitsOf sizeIn placesOf decimalOf
-  readable plusIn numberIn freshOf stepOf wordOf byteOf keep start stray lose breakOf silenceOf dropping entered good
-  known placed namedBy sizeBy markedBy fitsBy fitsAt fitsFirst fitsLater like reportBy readV readU bit bits number untwos signed
+    readable plusIn numberIn freshOf stepOf wordOf byteOf keep start stray lose breakOf silenceOf dropping entered good
+    known placed namedBy sizeBy markedBy fitsBy fitsAt fitsFirst fitsLater like reportBy readV readU bit bits number untwos signed
 computing = tt
 
 -- at the width of these
@@ -152,7 +152,7 @@ computed = refl
 -- and two of them at the width of new listings: L 6/D 000002 1/R 000005 L?- 5 3/H 0/, and L 6/E 000001/
 pub at-six : map listingOf (paper .input ∷ empty .input ∷ []) ≡
     (76 ∷ 9 ∷ 54 ∷ 10 ∷ 68 ∷ 9 ∷ 48 ∷ 48 ∷ 48 ∷ 48 ∷ 48 ∷ 50 ∷ 9 ∷ 49 ∷ 10 ∷ 82 ∷ 9 ∷ 48 ∷ 48 ∷ 48 ∷ 48 ∷ 48 ∷ 53 ∷ 9 ∷ 76 ∷ 63 ∷ 45 ∷ 9 ∷ 53 ∷ 9 ∷ 51 ∷
-      10 ∷ 72 ∷ 9 ∷ 48 ∷ 10 ∷ [])
+    10 ∷ 72 ∷ 9 ∷ 48 ∷ 10 ∷ [])
     ∷ (76 ∷ 9 ∷ 54 ∷ 10 ∷ 69 ∷ 9 ∷ 48 ∷ 48 ∷ 48 ∷ 48 ∷ 48 ∷ 49 ∷ 10 ∷ []) ∷ []
 unfolding listingOf computing
 at-six = refl

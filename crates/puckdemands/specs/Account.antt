@@ -84,10 +84,34 @@ pub record Comes (a : Axis) (events : List Event) (fed finished going counter li
 -- of 246 over the limit the sum holds the 73 since T, and of 5 over the counter none
 pub seven-parts : Comes x-axis allSeven (pos 33285) (pos 127) (pos 127) (pos 3) (pos 246) (pos 5) (pos 10) (pos 32767) (pos 73) (pos 0)
 unfolding computing
-seven-parts = record { is-fed = refl; in-finished = refl; in-going = refl; in-counter = refl; over-the-limit = refl; over-sixteen = refl;
-    in-broken = refl; by-T = refl; limit-since = refl; sixteen-since = refl; limit-sum = refl; sixteen-sum = refl }
+seven-parts = record {
+  is-fed = refl;
+  in-finished = refl;
+  in-going = refl;
+  in-counter = refl;
+  over-the-limit = refl;
+  over-sixteen = refl;
+  in-broken = refl;
+  by-T = refl;
+  limit-since = refl;
+  sixteen-since = refl;
+  limit-sum = refl;
+  sixteen-sum = refl;
+}
 
 pub seven-parts-down : Comes y-axis allSeven (minus 33286) (minus 127) (minus 127) (minus 3) (minus 246) (minus 5) (minus 10) (minus 32768) (minus 73) (pos 0)
 unfolding computing
-seven-parts-down = record { is-fed = refl; in-finished = refl; in-going = refl; in-counter = refl; over-the-limit = refl; over-sixteen = refl;
-    in-broken = refl; by-T = refl; limit-since = refl; sixteen-since = refl; limit-sum = refl; sixteen-sum = refl }
+seven-parts-down = record {
+  is-fed = refl;
+  in-finished = refl;
+  in-going = refl;
+  in-counter = refl;
+  over-the-limit = refl;
+  over-sixteen = refl;
+  in-broken = refl;
+  by-T = refl;
+  limit-since = refl;
+  sixteen-since = refl;
+  limit-sum = refl;
+  sixteen-sum = refl;
+}

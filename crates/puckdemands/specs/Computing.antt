@@ -34,11 +34,11 @@ use Rattle.puckhistory.specs.Account.{thrownSince}
 
 unfoldable pub computing : Unit {0}
 unfolding number bit bits held excess heldSum sumExcess heldLong signed passagesOver goingOver lineWords moveOf namedBy
-  sizeBy known bytesS bytesBy like fitsFirst fitsLater readS added goingFrom remembering toShow showingFirst shown
-  hidden counted countedOver placedAt placed movedBy apart hasMoved limits limited limitExcess movement taken takenOver
-  cleared latchedReport latched commandOf obeyed onButtons onPeriod latching withByteReady after memoryAfter nextByte
-  sending dropped onHost awake boxes.good boxes.goodSettings boxes.goodTrack boxes.goodGoing boxes.goodMemory
-  ballbox.stepOf history.toldBy testBytes testOf isTest isButtons sizeFrom fitsStart fitsBehind poweredBox powered
-  byBox byT testByte inTest outOfTest rules follows rests goodTest good stepOf wordOf puckAfter puckWords boxTells
-  testTells toldBy thrown sumOf addedOver thrownSince
+    sizeBy known bytesS bytesBy like fitsFirst fitsLater readS added goingFrom remembering toShow showingFirst shown
+    hidden counted countedOver placedAt placed movedBy apart hasMoved limits limited limitExcess movement taken takenOver
+    cleared latchedReport latched commandOf obeyed onButtons onPeriod latching withByteReady after memoryAfter nextByte
+    sending dropped onHost awake boxes.good boxes.goodSettings boxes.goodTrack boxes.goodGoing boxes.goodMemory
+    ballbox.stepOf history.toldBy testBytes testOf isTest isButtons sizeFrom fitsStart fitsBehind poweredBox powered
+    byBox byT testByte inTest outOfTest rules follows rests goodTest good stepOf wordOf puckAfter puckWords boxTells
+    testTells toldBy thrown sumOf addedOver thrownSince
 computing = tt

@@ -101,7 +101,7 @@ pub in-a-run-from-its-making : (buttons revision maker : ℕ) (p : Puck) (events
     wordsGiven run ≡ passageWords puckBytes (passagesOf p powered events) ++ partWords puckBytes (goingAfter p powered events)
 in-a-run-from-its-making buttons revision maker p events run made permitted =
     run-passages p (atPowerUp (buttons % 8) (revision % 16) (maker % 8)) events run (made-is-good buttons revision maker p made)
-      (made-holds buttons revision maker p made) permitted
+    (made-holds buttons revision maker p made) permitted
 
 -- "reading them with a ready reader gives back the report": a report that S holds, or a self-test that the figure has room for, of which r is handed out
 pub read-back : (m : PuckMessage)

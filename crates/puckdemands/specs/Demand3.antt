@@ -62,7 +62,7 @@ module _ {buttons revision maker : ℕ} {p : Puck} {events : List Event} {answer
       → HandsOutAt (pre ++ (new ++ post)) i r
   marked pre old new post line legal before m after is r shown i place within =
       handed.marked sent stillGoing pre old new post
-        (record { sound = sound .0; sound-going = sound .1; as-sent = sym as-sent ∙ line; legal = legal }) before m after is i place r shown within
+      (record { sound = sound .0; sound-going = sound .1; as-sent = sym as-sent ∙ line; legal = legal }) before m after is i place r shown within
 
   -- wherever one report lost bytes, by the words that are left; of a broken-off one, or of the one that is going, none need be missing
   pub exactly-lost : {words : List ℕ} {others : List (Passage PuckMessage)}

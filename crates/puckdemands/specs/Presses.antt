@@ -110,8 +110,13 @@ module _ {p : Puck} {events : List Event} {answers : List PuckStepped} (run : St
   -- a recorder sees them: a fresh reader is handed the words of the run, and hands out exactly the finished reports
   pub seen : HandsOut (wordsGiven answers) (finishedReports sent)
   seen =
-      let k : SetTo Mm (p .ball) nothing = record { good = has .ball; awake = has .follows .awake; format = has .follows .format; carries = run .idle;
-        sound = tt } in
+      let k : SetTo Mm (p .ball) nothing = record {
+        good = has .ball;
+        awake = has .follows .awake;
+        format = has .follows .format;
+        carries = run .idle;
+        sound = tt;
+      } in
       let h : Holds p nothing = by-box nothing none-left k in
       let s = run-sound p nothing events (run .good) h in
       rw (run-passages p nothing events answers (run .good) h (run .permitted)) (followed sent (goingAfter p nothing events) (s .0) (s .1))

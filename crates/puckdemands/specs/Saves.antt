@@ -183,8 +183,11 @@ module _ {buttons revision maker : ℕ} {p : Puck} (front : List Event) (n : ℕ
       let o = outlived in
       record {
         since = finishedReports (o .later);
-        hands-out = rw (← (finished-append shownByPuck ahead (o .later)), ← (o .is),
-          as-sent run) (followed (sent run) (stillGoing run) (sound run .0) (sound run .1) r f);
+        hands-out = rw (
+          ← (finished-append shownByPuck ahead (o .later)),
+          ← (o .is),
+          as-sent run,
+        ) (followed (sent run) (stillGoing run) (sound run .0) (sound run .1) r f);
         in-order = o .shown;
       }
 
@@ -203,14 +206,14 @@ module _ {buttons revision maker : ℕ} {p : Puck} (front : List Event) (n : ℕ
       let is : sent run ≡ before ++ (finished m ∷ a .after) =
       o .is ∙ (ap (λ (l : List (Passage PuckMessage)). ahead ++ l) (a .is) ∙ sym (append-assoc ahead (a .before) (finished m ∷ a .after))) in
       let longer : length (passageWords puckBytes ahead) ≤ length (passageWords puckBytes before) =
-        rw (passages-append puckBytes, length-append) (omega arith) in
+      rw (passages-append puckBytes, length-append) (omega arith) in
       let some = bytes-length (a .latched .format) (a .latched .report) in
       let place = length (passageWords puckBytes before) + length (puckBytes m) + length new - suc (length old) in
       record {
         place = place;
         handed = carried Mm (a .latched .report);
         at = marked run pre old new post line legal before m (a .after) is (movement (carried Mm (a .latched .report))) refl place
-          (omega (arith, some, size-between (a .latched .format) .0)) (omega arith);
+            (omega (arith, some, size-between (a .latched .format) .0)) (omega arith);
         buttons = a .buttons;
       }
 

@@ -56,7 +56,7 @@ middle = Send ∷ Send ∷ Send ∷ Send ∷ Motion (pos 5) (pos 3) ∷ Host let
 pub T-in-a-report : Sends 0 middle
     (0xA1 ∷ 0x32 ∷ 0x00 ∷ 0x00 ∷ 0x98 ∷ 256 ∷ 0xA1 ∷ 0x32 ∷ 0x00 ∷ 0x00 ∷ 0x98 ∷ 0x00 ∷ 0x00 ∷ [])
     (finished (of-test (test 0 0)) ∷ broken 1 (of-box (latchedIn Mm (report 0 (pos 5) (pos 3)))) ∷ finished (of-test (test 0 0)) ∷
-      finished (of-box (latchedIn Mm (report 0 (pos 0) (pos 0)))) ∷ [])
+    finished (of-box (latchedIn Mm (report 0 (pos 0) (pos 0)))) ∷ [])
 unfolding computing
 T-in-a-report = record { line = refl; is = refl; ends = refl }
 

@@ -91,7 +91,7 @@ shown-in-a-test =
 
 pub scarred-answers : answersOver reads fresh scarredWords
     ≡ Nothing ∷ Nothing ∷ Nothing ∷ Test test ∷ Nothing ∷ Nothing ∷ Dropped 2 ∷ Dropped 1 ∷ Dropped 1 ∷ Dropped 1 ∷ Nothing ∷ Nothing ∷
-      Movement (report 0 (pos 0) (pos 0)) ∷ []
+    Movement (report 0 (pos 0) (pos 0)) ∷ []
 unfolding computing answersOver
 scarred-answers = refl
 
@@ -106,7 +106,7 @@ stays-in-a-test =
 -- was never sent. (One byte alone does no such harm: Demand3's `exactly`.)
 pub bytes-need-trace : answersOver reads fresh (0xA1 ∷ 0x32 ∷ 0x00 ∷ 0x00 ∷ 0x98 ∷ 0x05 ∷ 0x32 ∷ 0x00 ∷ 0x00 ∷ 0x98 ∷ 0x00 ∷ 0x00 ∷ [])
     ≡ Nothing ∷ Nothing ∷ Nothing ∷ Test test ∷ Nothing ∷ Nothing ∷ Movement (report 0 (pos 5) (pos 50)) ∷ Dropped 1 ∷ Dropped 1 ∷ Nothing ∷ Nothing ∷
-      Movement (report 0 (pos 0) (pos 0)) ∷ []
+    Movement (report 0 (pos 0) (pos 0)) ∷ []
 unfolding computing answersOver
 bytes-need-trace = refl
 
@@ -134,7 +134,7 @@ tap-scarred =
 -- No byte may change into another: the first byte of a movement arrives as 9A, and M is down that nobody pressed
 pub no-byte-changes : (puckWords start (tested (asked [])) ≡ 0xA1 ∷ 0x32 ∷ 0x00 ∷ 0x00 ∷ 0x98 ∷ 0x00 ∷ 0x00 ∷ [])
     × (answersOver reads fresh (0xA1 ∷ 0x32 ∷ 0x00 ∷ 0x00 ∷ 0x9A ∷ 0x00 ∷ 0x00 ∷ [])
-      ≡ Nothing ∷ Nothing ∷ Nothing ∷ Test test ∷ Nothing ∷ Nothing ∷ Movement (report 2 (pos 0) (pos 0)) ∷ [])
+    ≡ Nothing ∷ Nothing ∷ Nothing ∷ Test test ∷ Nothing ∷ Nothing ∷ Movement (report 2 (pos 0) (pos 0)) ∷ [])
     × (_≡_ {A = ℕ} (pressed (run (tested (asked []))) middle) 0)
 unfolding computing answersOver presses buttonsTold
 no-byte-changes = (refl, refl, refl)

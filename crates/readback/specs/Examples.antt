@@ -19,7 +19,7 @@ use Rattle.readback.specs.Whole.{reading, readingFrom, readingOf}
 
 unfoldable pub computing : Unit {0}
 unfolding readingOf readingFrom cutIn stepOf widthIn salvageIn itemIn droppedIn reportIn keptIn badIn fieldsIn fieldIn
-  valueIn numberIn plusIn readable placesOf sizeIn
+    valueIn numberIn plusIn readable placesOf sizeIn
 computing = tt
 
 -- the paper's: L 4/D 0002 1/R 0005 L?- 5 3/H 0/

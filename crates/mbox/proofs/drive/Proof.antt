@@ -24,17 +24,8 @@ loop-holds c = let s = c .before .before in (here-begins (s .args .turn .now) (s
 sub-feed : tie.Need-sub-feed Inv-loop μ-loop
 sub-feed c = c .before .before .loop .inv .0 .within
 
-part-feed-start : tie.Need-part-feed-start Inv-loop μ-loop
-part-feed-start c = search needs
-
-part-feed-end : tie.Need-part-feed-end Inv-loop μ-loop
-part-feed-end c = search needs
-
 feed-requires : tie.Need-feed-requires Inv-loop μ-loop
 feed-requires c κs = tt
-
-slice-aggregate-show : tie.Need-slice-aggregate-show Inv-loop μ-loop
-slice-aggregate-show c = search needs
 
 slice-reshare-prefix-show : tie.Need-slice-reshare-prefix-show Inv-loop μ-loop
 slice-reshare-prefix-show c =
@@ -102,10 +93,10 @@ drive-spec =
     μ-loop
     loop-holds
     sub-feed
-    part-feed-start
-    part-feed-end
+    (λ c. search needs)
+    (λ c. search needs)
     feed-requires
-    slice-aggregate-show
+    (λ c. search needs)
     slice-reshare-prefix-show
     slice-aggregate-show-2
     show-requires

@@ -25,9 +25,6 @@ loop-holds c = let s = c .before .before in (last-begins (s .args .turn .now) (s
 finish-requires : tie.Need-finish-requires Inv-loop μ-loop
 finish-requires c κs = tt
 
-slice-aggregate-show : tie.Need-slice-aggregate-show Inv-loop μ-loop
-slice-aggregate-show c = search needs
-
 slice-reshare-prefix-show : tie.Need-slice-reshare-prefix-show Inv-loop μ-loop
 slice-reshare-prefix-show c =
     let finish = c .before .before .before .before .finish in
@@ -74,7 +71,7 @@ end-spec =
     μ-loop
     loop-holds
     finish-requires
-    slice-aggregate-show
+    (λ c. search needs)
     slice-reshare-prefix-show
     slice-aggregate-show-2
     show-requires

@@ -23,9 +23,6 @@ with-requires c κs = tt
 add-i : tie.Need-add-i Inv-loop μ-loop
 add-i c = record { fits = omega arith }
 
-loop-less : tie.Need-loop-less Inv-loop μ-loop
-loop-less c = omega arith
-
 loop-again : tie.Need-loop-again Inv-loop μ-loop
 loop-again c =
     let l = c .before .before .loop in
@@ -42,4 +39,4 @@ returns c =
 pub empty-spec : {M : Type 1} → statement M
 empty-spec =
     tie.close
-    (tie.spec Inv-loop μ-loop loop-holds with-requires add-i loop-less loop-again returns)
+    (tie.spec Inv-loop μ-loop loop-holds with-requires add-i (λ c. omega arith) loop-again returns)

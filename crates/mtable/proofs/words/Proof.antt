@@ -20,17 +20,8 @@ abbrev μ-loop : tie.MeasureT-loop
 loop-holds : tie.Need-loop-holds Inv-loop μ-loop
 loop-holds c = (refl, omega arith)
 
-shared-slice-read-with : tie.Need-shared-slice-read-with Inv-loop μ-loop
-shared-slice-read-with c = omega arith
-
 with-requires : tie.Need-with-requires Inv-loop μ-loop
 with-requires c κs = tt
-
-add-i : tie.Need-add-i Inv-loop μ-loop
-add-i c = omega arith
-
-loop-less : tie.Need-loop-less Inv-loop μ-loop
-loop-less c = omega arith
 
 loop-again : tie.Need-loop-again Inv-loop μ-loop
 loop-again c =
@@ -51,4 +42,4 @@ returns c =
     l .inv .0 ∙ ap (grownBy (s .args .text)) (take-all (l .i) (s .args .bytes .now) (omega arith))
 
 pub words-spec : {M : Type 1} → statement M
-words-spec = tie.close (tie.spec Inv-loop μ-loop loop-holds shared-slice-read-with with-requires add-i loop-less loop-again returns)
+words-spec = tie.close (tie.spec Inv-loop μ-loop loop-holds (λ c. omega arith) with-requires (λ c. omega arith) (λ c. omega arith) loop-again returns)

@@ -4,9 +4,6 @@ use borrow.Author.Needs.{needs}
 use Rattle.salvage.proofs.byte.Statement.{statement}
 use Rattle.salvage.proofs.byte.Tie as tie
 
-is-byte-requires : tie.Need-is-byte-requires
-is-byte-requires c κs = search needs
-
 returns : tie.Need-returns
 returns c = rw (sym (c .before .is-byte .ensures) ∙ c .if1 .taken)
 
@@ -14,4 +11,4 @@ returns-2 : tie.Need-returns-2
 returns-2 c = rw (sym (c .before .is-byte .ensures) ∙ c .if1 .left)
 
 pub byte-spec : {M : Type 1} → statement M
-byte-spec = tie.close (tie.spec is-byte-requires returns returns-2)
+byte-spec = tie.close (tie.spec (λ c κs. search needs) returns returns-2)

@@ -7,14 +7,8 @@ use Rattle.salvage.specs.Picking.{fitsWord}
 use Rattle.salvage.proofs.fits_word.Statement.{statement}
 use Rattle.salvage.proofs.fits_word.Tie as tie
 
-is-byte-requires : tie.Need-is-byte-requires
-is-byte-requires c κs = search needs
-
 cast-fits : tie.Need-cast-fits
 cast-fits c = omega (arith, leb-true (c .before .before .args .word) 255 (sym (c .before .is-byte .ensures) ∙ c .if1 .taken))
-
-fits-requires : tie.Need-fits-requires
-fits-requires c κs = search needs
 
 returns : tie.Need-returns
 unfolding fitsWord
@@ -25,4 +19,4 @@ unfolding fitsWord
 returns-2 c = rw (sym (c .before .is-byte .ensures) ∙ c .if1 .left)
 
 pub fits-word-spec : {M : Type 1} → statement M
-fits-word-spec = tie.close (tie.spec is-byte-requires cast-fits fits-requires returns returns-2)
+fits-word-spec = tie.close (tie.spec (λ c κs. search needs) cast-fits (λ c κs. search needs) returns returns-2)

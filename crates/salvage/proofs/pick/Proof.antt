@@ -10,12 +10,6 @@ use borrow.Author.Needs.{needs}
 use Rattle.salvage.proofs.pick.Statement.{statement}
 use Rattle.salvage.proofs.pick.Tie as tie
 
-refusal-requires : tie.Need-refusal-requires
-refusal-requires c κs = search needs
-
-told-requires : tie.Need-told-requires
-told-requires c κs = search needs
-
 returns : tie.Need-returns
 unfolding pickOf
 returns c =
@@ -24,18 +18,12 @@ returns c =
     let k : refusalOf (a .letter) (a .words .now) ≡ success → ⊥ = λ z. c .before .if1 .taken (e ∙ z) in
     rw (c .told .ensures, e, ne-eqb (refusalOf (a .letter) (a .words .now)) success k)
 
-size-requires : tie.Need-size-requires
-size-requires c κs = search needs
-
 pick-runs-requires : tie.Need-pick-runs-requires
 pick-runs-requires c κs =
     let a = c .before .before .before .before .before .before .args in
     let t = taken (a .letter) (a .words .now) (sym (c .before .before .before .refusal .ensures) ∙ c .before .before .if1 .left) in
     let e = c .before .size .ensures in
     (e, omega (arith, size-positive (a .letter) (t .is-known)), t .few)
-
-same-length : tie.Need-same-length
-same-length c = search needs
 
 returns-2 : tie.Need-returns-2
 unfolding pickOf
@@ -48,10 +36,10 @@ pub pick-spec : {M : Type 1} → statement M
 pick-spec =
     tie.close
     (tie.spec
-    refusal-requires
-    told-requires
+    (λ c κs. search needs)
+    (λ c κs. search needs)
     returns
-    size-requires
+    (λ c κs. search needs)
     pick-runs-requires
-    same-length
+    (λ c. search needs)
     returns-2)

@@ -22,24 +22,6 @@ abbrev μ-loop : tie.MeasureT-loop
 loop-holds : tie.Need-loop-holds Inv-loop μ-loop
 loop-holds c = let a = c .before .before .args in begins (a .letter) (a .words .now) (a .places .now)
 
-mul-starts : tie.Need-mul-starts Inv-loop μ-loop
-mul-starts c = search needs
-
-sub-starts : tie.Need-sub-starts Inv-loop μ-loop
-sub-starts c = search needs
-
-part-starts-start : tie.Need-part-starts-start Inv-loop μ-loop
-part-starts-start c = search needs
-
-part-starts-end : tie.Need-part-starts-end Inv-loop μ-loop
-part-starts-end c = search needs
-
-starts-requires : tie.Need-starts-requires Inv-loop μ-loop
-starts-requires c κs = search needs
-
-told-requires : tie.Need-told-requires Inv-loop μ-loop
-told-requires c κs = search needs
-
 same-length : tie.Need-same-length Inv-loop μ-loop
 same-length c = long (c .before .before .before .before .before .before .loop .inv)
 
@@ -50,27 +32,12 @@ returns c =
     let here = rw (rest-is (s .args .words .now) (l .at)) at (sym (c .before .before .before .starts .ensures) ∙ c .before .before .if1 .taken) in
     rw (c .told .ensures) (stops (l .inv) (omega (arith, s .pre .0)) (omega arith) (c .before .if2 .taken) here)
 
-cast-places : tie.Need-cast-places Inv-loop μ-loop
-cast-places c = search needs
-
-mul-places : tie.Need-mul-places Inv-loop μ-loop
-mul-places c = search needs
-
-slice-write-places : tie.Need-slice-write-places Inv-loop μ-loop
-slice-write-places c = search needs
-
-add-runs : tie.Need-add-runs Inv-loop μ-loop
-add-runs c = search needs
-
 add-at : tie.Need-add-at Inv-loop μ-loop
 add-at c =
     let s = c .before .before .before .before .before .before .before .before in
     let l = c .before .before .before .before .before .loop in
     let here = rw (rest-is (s .args .words .now) (l .at)) at (sym (c .before .before .starts .ensures) ∙ c .before .if1 .taken) in
     omega (arith, s .pre .0, s .pre .2, reaches (sizeBy (s .args .letter)) (validBy (s .args .letter)) (s .args .words .now) (l .at) (omega arith) (omega (arith, s .pre .0)) here)
-
-loop-less : tie.Need-loop-less Inv-loop μ-loop
-loop-less c = search needs
 
 loop-again : tie.Need-loop-again Inv-loop μ-loop
 loop-again c =
@@ -79,26 +46,11 @@ loop-again c =
     let here = rw (rest-is (s .args .words .now) (l .at)) at (sym (c .before .before .starts .ensures) ∙ c .before .if1 .taken) in
     rw (s .pre .0) (run-more (l .inv) (omega (arith, s .pre .0)) (omega arith) (c .if2 .left) here)
 
-mul-byte : tie.Need-mul-byte Inv-loop μ-loop
-mul-byte c = search needs
-
-shared-slice-read-byte : tie.Need-shared-slice-read-byte Inv-loop μ-loop
-shared-slice-read-byte c = search needs
-
-byte-requires : tie.Need-byte-requires Inv-loop μ-loop
-byte-requires c κs = search needs
-
 add-left : tie.Need-add-left Inv-loop μ-loop
 add-left c =
     let s = c .before .before .before .before .before .before .before .before .before in
     let l = c .before .before .before .before .before .before .loop in
     omega (arith, l .inv .small, c .byte .ensures, s .pre .2, one-at-most (isByte (getD (s .args .words .now) (l .at) 0)))
-
-add-at-2 : tie.Need-add-at-2 Inv-loop μ-loop
-add-at-2 c = search needs
-
-loop-less-2 : tie.Need-loop-less-2 Inv-loop μ-loop
-loop-less-2 c = search needs
 
 loop-again-2 : tie.Need-loop-again-2 Inv-loop μ-loop
 loop-again-2 c =
@@ -106,9 +58,6 @@ loop-again-2 c =
     let l = c .before .before .before .before .before .before .loop in
     let here = rw (rest-is (s .args .words .now) (l .at)) at (sym (c .before .before .before .starts .ensures) ∙ c .before .before .if1 .left) in
     rw (c .byte .ensures) (word-more (l .inv) (omega arith) here)
-
-told-requires-2 : tie.Need-told-requires-2 Inv-loop μ-loop
-told-requires-2 c κs = search needs
 
 same-length-2 : tie.Need-same-length-2 Inv-loop μ-loop
 same-length-2 c = long (c .before .before .loop .inv)
@@ -126,28 +75,28 @@ pick-runs-spec =
     Inv-loop
     μ-loop
     loop-holds
-    mul-starts
-    sub-starts
-    part-starts-start
-    part-starts-end
-    starts-requires
-    told-requires
+    (λ c. search needs)
+    (λ c. search needs)
+    (λ c. search needs)
+    (λ c. search needs)
+    (λ c κs. search needs)
+    (λ c κs. search needs)
     same-length
     returns
-    cast-places
-    mul-places
-    slice-write-places
-    add-runs
+    (λ c. search needs)
+    (λ c. search needs)
+    (λ c. search needs)
+    (λ c. search needs)
     add-at
-    loop-less
+    (λ c. search needs)
     loop-again
-    mul-byte
-    shared-slice-read-byte
-    byte-requires
+    (λ c. search needs)
+    (λ c. search needs)
+    (λ c κs. search needs)
     add-left
-    add-at-2
-    loop-less-2
+    (λ c. search needs)
+    (λ c. search needs)
     loop-again-2
-    told-requires-2
+    (λ c κs. search needs)
     same-length-2
     returns-2)

@@ -6,14 +6,8 @@ use Rattle.salvage.proofs.Refusals.{unknown-first, marked-second, long-
 use Rattle.salvage.proofs.refusal.Statement.{statement}
 use Rattle.salvage.proofs.refusal.Tie as tie
 
-known-requires : tie.Need-known-requires
-known-requires c κs = search needs
-
 returns : tie.Need-returns
 returns c = let a = c .before .before .before .args in sym (unknown-first (a .letter) (a .words .now) (sym (c .before .known .ensures) ∙ not-true _ (c .if1 .taken)))
-
-marked-requires : tie.Need-marked-requires
-marked-requires c κs = search needs
 
 returns-2 : tie.Need-returns-2
 returns-2 c =
@@ -26,9 +20,6 @@ returns-3 c =
     let a = c .before .before .before .before .before .before .args in
     let k = sym (c .before .before .before .before .known .ensures) ∙ not-false _ (c .before .before .before .if1 .left) in
     sym (long-third (a .letter) (a .words .now) k (sym (c .before .before .marked .ensures) ∙ c .before .if2 .left) (c .if3 .taken))
-
-line-words-requires : tie.Need-line-words-requires
-line-words-requires c κs = search needs
 
 returns-4 : tie.Need-returns-4
 returns-4 c =
@@ -48,11 +39,11 @@ pub refusal-spec : {M : Type 1} → statement M
 refusal-spec =
     tie.close
     (tie.spec
-    known-requires
+    (λ c κs. search needs)
     returns
-    marked-requires
+    (λ c κs. search needs)
     returns-2
     returns-3
-    line-words-requires
+    (λ c κs. search needs)
     returns-4
     returns-5)

@@ -19,9 +19,6 @@ Inv-loop letter words size ok₀ i₀ ok i =
 abbrev μ-loop : tie.MeasureT-loop
 μ-loop letter words size ok₀ i₀ ok i = size - i
 
-size-requires : tie.Need-size-requires Inv-loop μ-loop
-size-requires c κs = search needs
-
 returns : tie.Need-returns Inv-loop μ-loop
 returns c =
     let a = c .before .before .before .args in
@@ -37,21 +34,6 @@ loop-holds c = (c .before .before .size .ensures, omega arith, omega arith, refl
 
 cast-fits-word : tie.Need-cast-fits-word Inv-loop μ-loop
 cast-fits-word c = omega (arith, at-most-five (c .before .before .before .before .before .before .args .letter))
-
-mul-fits-word : tie.Need-mul-fits-word Inv-loop μ-loop
-mul-fits-word c = search needs
-
-shared-slice-read-fits-word : tie.Need-shared-slice-read-fits-word Inv-loop μ-loop
-shared-slice-read-fits-word c = search needs
-
-fits-word-requires : tie.Need-fits-word-requires Inv-loop μ-loop
-fits-word-requires c κs = search needs
-
-add-i : tie.Need-add-i Inv-loop μ-loop
-add-i c = search needs
-
-loop-less : tie.Need-loop-less Inv-loop μ-loop
-loop-less c = search needs
 
 loop-again : tie.Need-loop-again Inv-loop μ-loop
 loop-again c =
@@ -81,15 +63,15 @@ starts-spec =
     (tie.spec
     Inv-loop
     μ-loop
-    size-requires
+    (λ c κs. search needs)
     returns
     returns-2
     loop-holds
     cast-fits-word
-    mul-fits-word
-    shared-slice-read-fits-word
-    fits-word-requires
-    add-i
-    loop-less
+    (λ c. search needs)
+    (λ c. search needs)
+    (λ c κs. search needs)
+    (λ c. search needs)
+    (λ c. search needs)
     loop-again
     returns-3)

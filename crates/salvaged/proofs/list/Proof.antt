@@ -7,15 +7,6 @@ use borrow.Author.Needs.{needs}
 use Rattle.salvaged.proofs.list.Statement.{statement}
 use Rattle.salvaged.proofs.list.Tie as tie
 
-slice-aggregate-read : tie.Need-slice-aggregate-read
-slice-aggregate-read c = search needs
-
-read-requires : tie.Need-read-requires
-read-requires c κs = search needs
-
-array-share-prefix-words : tie.Need-array-share-prefix-words
-array-share-prefix-words c = search needs
-
 slice-aggregate-print : tie.Need-slice-aggregate-print
 slice-aggregate-print c =
     let r = c .before .before .read in
@@ -28,9 +19,6 @@ print-requires c κs =
     let f = r .ensures .fine in
     (omega (arith, f .few, length-take-le (r .result .count) (r .last .1 .0) (omega (arith, f .few, f .long))), f .short)
 
-same-length : tie.Need-same-length
-same-length c = search needs
-
 returns : tie.Need-returns
 unfolding listOf
 returns c = rw (sym (c .before .before .before .before .before .before .read .ensures .same)) (c .before .before .print .ensures)
@@ -39,10 +27,10 @@ pub list-spec : {M : Type 1} → statement M
 list-spec =
     tie.close
     (tie.spec
-    slice-aggregate-read
-    read-requires
-    array-share-prefix-words
+    (λ c. search needs)
+    (λ c κs. search needs)
+    (λ c. search needs)
     slice-aggregate-print
     print-requires
-    same-length
+    (λ c. search needs)
     returns)

@@ -16,9 +16,6 @@ abbrev μ-loop : tie.MeasureT-loop
 returns : tie.Need-returns Inv-loop μ-loop
 returns c = record { fits = λ f. absurd (omega (arith, f)); unmoved = λ f. refl }
 
-sub-if2 : tie.Need-sub-if2 Inv-loop μ-loop
-sub-if2 c = omega arith
-
 returns-2 : tie.Need-returns-2 Inv-loop μ-loop
 returns-2 c = record { fits = λ f. absurd (omega (arith, f)); unmoved = λ f. refl }
 
@@ -36,9 +33,6 @@ slice-write-input c = omega (arith, c .before .before .loop .inv .0 .0, c .befor
 
 add-i : tie.Need-add-i Inv-loop μ-loop
 add-i c = record { fits = omega arith }
-
-loop-less : tie.Need-loop-less Inv-loop μ-loop
-loop-less c = omega arith
 
 loop-again : tie.Need-loop-again Inv-loop μ-loop
 loop-again c =
@@ -69,14 +63,14 @@ keep-spec =
     Inv-loop
     μ-loop
     returns
-    sub-if2
+    (λ c. omega arith)
     returns-2
     loop-holds
     add-input
     slice-read-input
     slice-write-input
     add-i
-    loop-less
+    (λ c. omega arith)
     loop-again
     same-length
     returns-3)

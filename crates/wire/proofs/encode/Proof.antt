@@ -10,15 +10,6 @@ use Rattle.wire.specs.declared.Unheld.the-variants.{None, FirstX, FirstY
 use Rattle.wire.proofs.encode.Statement.{statement}
 use Rattle.wire.proofs.encode.Tie as tie
 
-format-of-requires : tie.Need-format-of-requires
-format-of-requires c κs = search needs
-
-enum-known-f : tie.Need-enum-known-f
-enum-known-f c = search needs
-
-enum-told : tie.Need-enum-told
-enum-told c = search needs
-
 returns : tie.Need-returns
 unfolding encodeIn
 returns c = rw (sym (c .before .before .format-of .ensures) ∙ c .enum-told .given .1)
@@ -26,12 +17,6 @@ returns c = rw (sym (c .before .before .format-of .ensures) ∙ c .enum-told .gi
 returns-2 : tie.Need-returns-2
 unfolding encodeIn
 returns-2 c = rw (sym (c .before .before .before .before .before .format-of .ensures) ∙ c .before .before .before .f .given .1) (simp (lt-leb _ 7 (c .if1 .taken)))
-
-unheld-requires : tie.Need-unheld-requires
-unheld-requires c κs = search needs
-
-enum-told-2 : tie.Need-enum-told-2
-enum-told-2 c = search needs
 
 -- what is answered for a movement, or for none, that is not held
 movement : (c : tie.After-unheld) (u : Unheld) → c .unheld .result ≡ u → let a = c .before .before .before .before .before .before .before .before .args in
@@ -42,21 +27,6 @@ movement c u e = rw (sym (c .before .before .before .before .before .before .for
 write-requires : tie.Need-write-requires
 unfolding accepted holds
 write-requires c κs = simp (le-leb _ 7 (c .before .before .before .before .if1 .left), sym (c .before .before .before .unheld .ensures) ∙ c .before .enum-told2 .given .1)
-
-enum-told-3 : tie.Need-enum-told-3
-enum-told-3 c = search needs
-
-enum-told-4 : tie.Need-enum-told-4
-enum-told-4 c = search needs
-
-enum-told-5 : tie.Need-enum-told-5
-enum-told-5 c = search needs
-
-enum-told-6 : tie.Need-enum-told-6
-enum-told-6 c = search needs
-
-same-length : tie.Need-same-length
-same-length c = search needs
 
 returns-3 : tie.Need-returns-3
 returns-3 c = c .before .before .write .ensures ∙ sym (movement (c .before .before .before .before .before .before) None (c .before .before .before .before .enum-told2 .given .1))
@@ -77,19 +47,19 @@ pub encode-spec : {M : Type 1} → statement M
 encode-spec =
     tie.close
     (tie.spec
-    format-of-requires
-    enum-known-f
-    enum-told
+    (λ c κs. search needs)
+    (λ c. search needs)
+    (λ c. search needs)
     returns
     returns-2
-    unheld-requires
-    enum-told-2
+    (λ c κs. search needs)
+    (λ c. search needs)
     write-requires
-    enum-told-3
-    enum-told-4
-    enum-told-5
-    enum-told-6
-    same-length
+    (λ c. search needs)
+    (λ c. search needs)
+    (λ c. search needs)
+    (λ c. search needs)
+    (λ c. search needs)
     returns-3
     returns-4
     returns-5

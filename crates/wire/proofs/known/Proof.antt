@@ -5,15 +5,6 @@ use Rattle.wire.specs.Line.{known}
 use Rattle.wire.proofs.known.Statement.{statement}
 use Rattle.wire.proofs.known.Tie as tie
 
-format-of-requires : tie.Need-format-of-requires
-format-of-requires c κs = search needs
-
-enum-told : tie.Need-enum-told
-enum-told c = search needs
-
-enum-told-2 : tie.Need-enum-told-2
-enum-told-2 c = search needs
-
 returns : tie.Need-returns
 unfolding known
 returns c = rw (sym (c .before .before .format-of .ensures) ∙ c .enum-told .given .1)
@@ -24,4 +15,4 @@ returns-2 c = rw (sym (c .before .before .format-of .ensures) ∙ c .enum-told2 
 
 pub known-spec : {M : Type 1} → statement M
 known-spec =
-    tie.close (tie.spec format-of-requires enum-told enum-told-2 returns returns-2)
+    tie.close (tie.spec (λ c κs. search needs) (λ c. search needs) (λ c. search needs) returns returns-2)

@@ -5,18 +5,6 @@ use Rattle.wire.specs.Line.{markedBy}
 use Rattle.wire.proofs.marked.Statement.{statement}
 use Rattle.wire.proofs.marked.Tie as tie
 
-format-of-requires : tie.Need-format-of-requires
-format-of-requires c κs = search needs
-
-enum-known-f : tie.Need-enum-known-f
-enum-known-f c = search needs
-
-marked-of-requires : tie.Need-marked-of-requires
-marked-of-requires c κs = search needs
-
-enum-told : tie.Need-enum-told
-enum-told c = search needs
-
 returns : tie.Need-returns
 unfolding markedBy
 returns c = rw (sym (c .before .before .before .before .format-of .ensures) ∙ c .before .before .f .given .1) (c .marked-of .ensures)
@@ -28,4 +16,4 @@ returns-2 c = rw (sym (c .before .before .format-of .ensures) ∙ c .enum-told .
 pub marked-spec : {M : Type 1} → statement M
 marked-spec =
     tie.close
-    (tie.spec format-of-requires enum-known-f marked-of-requires enum-told returns returns-2)
+    (tie.spec (λ c κs. search needs) (λ c. search needs) (λ c κs. search needs) (λ c. search needs) returns returns-2)

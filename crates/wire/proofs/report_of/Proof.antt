@@ -5,21 +5,6 @@ use Rattle.wire.specs.Reading.{reportBy}
 use Rattle.wire.proofs.report_of.Statement.{statement}
 use Rattle.wire.proofs.report_of.Tie as tie
 
-format-of-requires : tie.Need-format-of-requires
-format-of-requires c κs = search needs
-
-enum-known-f : tie.Need-enum-known-f
-enum-known-f c = search needs
-
-report-in-requires : tie.Need-report-in-requires
-report-in-requires c κs = search needs
-
-enum-told : tie.Need-enum-told
-enum-told c = search needs
-
-report-requires : tie.Need-report-requires
-report-requires c κs = search needs
-
 returns : tie.Need-returns
 unfolding reportBy
 returns c = rw (sym (c .before .before .before .before .format-of .ensures) ∙ c .before .before .f .given .1) (c .report-in .ensures)
@@ -32,10 +17,10 @@ pub report-of-spec : {M : Type 1} → statement M
 report-of-spec =
     tie.close
     (tie.spec
-    format-of-requires
-    enum-known-f
-    report-in-requires
-    enum-told
-    report-requires
+    (λ c κs. search needs)
+    (λ c. search needs)
+    (λ c κs. search needs)
+    (λ c. search needs)
+    (λ c κs. search needs)
     returns
     returns-2)

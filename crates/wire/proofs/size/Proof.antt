@@ -5,18 +5,6 @@ use Rattle.wire.specs.Line.{sizeBy}
 use Rattle.wire.proofs.size.Statement.{statement}
 use Rattle.wire.proofs.size.Tie as tie
 
-format-of-requires : tie.Need-format-of-requires
-format-of-requires c κs = search needs
-
-enum-known-f : tie.Need-enum-known-f
-enum-known-f c = search needs
-
-size-of-requires : tie.Need-size-of-requires
-size-of-requires c κs = search needs
-
-enum-told : tie.Need-enum-told
-enum-told c = search needs
-
 returns : tie.Need-returns
 unfolding sizeBy
 returns c = rw (sym (c .before .before .before .before .format-of .ensures) ∙ c .before .before .f .given .1) (c .size-of .ensures)
@@ -28,4 +16,4 @@ returns-2 c = rw (sym (c .before .before .format-of .ensures) ∙ c .enum-told .
 pub size-spec : {M : Type 1} → statement M
 size-spec =
     tie.close
-    (tie.spec format-of-requires enum-known-f size-of-requires enum-told returns returns-2)
+    (tie.spec (λ c κs. search needs) (λ c. search needs) (λ c κs. search needs) (λ c. search needs) returns returns-2)

@@ -7,18 +7,9 @@ use Rattle.yard.proofs.Keeps.{none-good}
 use Rattle.yard.proofs.check.Statement.{statement}
 use Rattle.yard.proofs.check.Tie as tie
 
-known-requires : tie.Need-known-requires
-known-requires c κs = search needs
-
-refused-requires : tie.Need-refused-requires
-refused-requires c κs = search needs
-
 returns : tie.Need-returns
 unfolding checkOf
 returns c = simp (sym (c .before .before .known .ensures) ∙ not-true _ (c .before .if1 .taken)) (c .refused .ensures)
-
-none-gone-requires : tie.Need-none-gone-requires
-none-gone-requires c κs = search needs
 
 checked-requires : tie.Need-checked-requires
 checked-requires c κs = rw (c .none-gone .ensures) (none-good _ (sym (c .before .before .known .ensures) ∙ not-false _ (c .before .if1 .left)))
@@ -31,9 +22,9 @@ pub check-spec : {M : Type 1} → statement M
 check-spec =
     tie.close
     (tie.spec
-    known-requires
-    refused-requires
+    (λ c κs. search needs)
+    (λ c κs. search needs)
     returns
-    none-gone-requires
+    (λ c κs. search needs)
     checked-requires
     returns-2)

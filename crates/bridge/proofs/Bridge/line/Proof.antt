@@ -30,17 +30,11 @@ abbrev μ-loop : tie.MeasureT-loop
 loop-holds : tie.Need-loop-holds Inv-loop μ-loop
 loop-holds c = let s = c .before .before in (loops.stands-none converts lawful (s .args .self) (s .args .words .now) (s .args .out .now), s .pre)
 
-part-first-end : tie.Need-part-first-end Inv-loop μ-loop
-part-first-end c = search needs
-
 sub-first-2 : tie.Need-sub-first-2 Inv-loop μ-loop
 sub-first-2 c = omega (arith, far (c .before .before .loop .inv .0))
 
 part-first-start-2 : tie.Need-part-first-start-2 Inv-loop μ-loop
 part-first-start-2 c = omega (arith, far (c .before .before .loop .inv .0))
-
-part-first-end-2 : tie.Need-part-first-end-2 Inv-loop μ-loop
-part-first-end-2 c = search needs
 
 first-requires : tie.Need-first-requires Inv-loop μ-loop
 first-requires c κs = let l = c .before .before .before .loop in (l .inv .1, rw (rest-is (c .before .before .before .before .before .before .args .words .now) (l .at), length-drop) (omega arith))
@@ -104,10 +98,10 @@ line-spec =
     (λ c. omega arith)
     (λ c. omega arith)
     (λ c. omega arith)
-    part-first-end
+    (λ c. search needs)
     sub-first-2
     part-first-start-2
-    part-first-end-2
+    (λ c. search needs)
     first-requires
     (λ c κs. search needs)
     same-length

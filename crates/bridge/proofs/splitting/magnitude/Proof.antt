@@ -28,8 +28,5 @@ cast-result-2 c = rw (toZ-ofZ (c .before .fits .d)) (holds (above-nonNeg (c .bef
 returns : tie.Need-returns
 returns c = ap natAbs (negated c) ∙ neg-magnitude (c .before .args .d)
 
-returns-2 : tie.Need-returns-2
-returns-2 c = search needs
-
 pub magnitude-spec : {M : Type 1} → statement M
-magnitude-spec = tie.close (tie.spec sub-result cast-result cast-result-2 returns returns-2)
+magnitude-spec = tie.close (tie.spec sub-result cast-result cast-result-2 returns (λ c. search needs))

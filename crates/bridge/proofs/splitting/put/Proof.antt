@@ -30,9 +30,6 @@ loop-holds c = let a = c .before .args in
     let z : 0 + 3 * a .count ≡ 3 * a .count = omega arith in
     (c .before .pre .0, rw z (c .before .pre .1), refl, rw z)
 
-part-write-end : tie.Need-part-write-end Inv-loop μ-loop
-part-write-end c = search needs
-
 write-requires : tie.Need-write-requires Inv-loop μ-loop
 write-requires c κs = let l = c .before .before .loop in rw (rest-is (l .out) (l .at), length-drop) (omega (arith, l .inv .1))
 
@@ -70,7 +67,7 @@ put-spec =
     loop-holds
     (λ c. omega arith)
     (λ c. omega arith)
-    part-write-end
+    (λ c. search needs)
     write-requires
     (λ c κs. c .before .before .before .before .before .loop .inv .0)
     (λ c. record { fits = omega (arith, c .before .before .before .before .before .before .loop .inv, c .before .before .before .before .before .before .before .before .good .1 .1 .1 .0 .1) })

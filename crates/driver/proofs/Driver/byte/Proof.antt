@@ -19,31 +19,16 @@ array-share-prefix-held c = fifteen (c .before .before)
 slice-aggregate-said-by : tie.Need-slice-aggregate-said-by
 slice-aggregate-said-by c = let m = c .before .before .before .args .self in sym (length-take-le (m .count) (m .held) (fifteen (c .before .before .before)))
 
-said-by-requires : tie.Need-said-by-requires
-said-by-requires c κs = search needs
-
-taken-requires : tie.Need-taken-requires
-taken-requires c κs = search needs
-
 returns : tie.Need-returns
 unfolding byteOf
 returns c = (rw (eq-eqb _ _ (c .before .before .before .if1 .taken)) (rw (c .before .said-by .ensures) at (c .taken .ensures)), omega arith)
-
-taken-requires-2 : tie.Need-taken-requires-2
-taken-requires-2 c κs = search needs
 
 returns-2 : tie.Need-returns-2
 unfolding byteOf
 returns-2 c = (rw (ne-eqb _ _ (c .before .before .if1 .left), le-leb _ _ (c .before .if2 .taken)) (c .taken2 .ensures), omega arith)
 
-array-write-held : tie.Need-array-write-held
-array-write-held c = search needs
-
 add-t14 : tie.Need-add-t14
 add-t14 c = record { fits = omega arith }
-
-none-requires : tie.Need-none-requires
-none-requires c κs = search needs
 
 returns-3 : tie.Need-returns-3
 unfolding byteOf
@@ -55,12 +40,12 @@ byte-spec =
     (tie.spec
     array-share-prefix-held
     slice-aggregate-said-by
-    said-by-requires
-    taken-requires
+    (λ c κs. search needs)
+    (λ c κs. search needs)
     returns
-    taken-requires-2
+    (λ c κs. search needs)
     returns-2
-    array-write-held
+    (λ c. search needs)
     add-t14
-    none-requires
+    (λ c κs. search needs)
     returns-3)

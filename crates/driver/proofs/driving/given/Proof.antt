@@ -1,5 +1,4 @@
 -- The word, if any.
-use borrow.Author.Needs.{needs}
 use borrow.Author.Tests.{eq-eqb, ne-eqb}
 use Rattle.driver.proofs.driving.given.Statement.{statement}
 use Rattle.driver.proofs.driving.given.Tie as tie

@@ -7,11 +7,5 @@ use Rattle.figures.proofs.print.signed.Tie as tie
 cast-long : tie.Need-cast-long
 cast-long c = search (needs, sfits-widen)
 
-long-requires : tie.Need-long-requires
-long-requires c κs = search needs
-
-returns : tie.Need-returns
-returns c = search needs
-
 pub signed-spec : {M : Type 1} → statement M
-signed-spec = tie.close (tie.spec cast-long long-requires returns)
+signed-spec = tie.close (tie.spec cast-long (λ c κs. search needs) (λ c. search needs))

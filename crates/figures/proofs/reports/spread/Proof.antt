@@ -9,12 +9,6 @@ use Rattle.figures.proofs.Laws.{sum-fits}
 use Rattle.figures.proofs.reports.spread.Statement.{statement}
 use Rattle.figures.proofs.reports.spread.Tie as tie
 
-mul-result : tie.Need-mul-result
-mul-result c = search needs
-
-rem-result : tie.Need-rem-result
-rem-result c = search needs
-
 cast-result : tie.Need-cast-result
 cast-result c = let v = c .before .args .values in record { sfits = omega (arith, mod-lt (c .before .args .n * 257) {m = v .count} (c .before .pre .0)) }
 
@@ -25,8 +19,5 @@ add-result c =
     let small : s .args .n * 257 % v .count < 4096 = omega (arith, mod-lt (s .args .n * 257) {m = v .count} (s .pre .0)) in
     rw (toZ-ofZ {w = w16} {z = v .low} (record { sfits = omega arith }), toZ-pos w16 {n = s .args .n * 257 % v .count} (omega arith)) (sum-fits (v .low) _ (s .pre .2) small)
 
-returns : tie.Need-returns
-returns c = search needs
-
 pub spread-spec : {M : Type 1} → statement M
-spread-spec = tie.close (tie.spec mul-result rem-result cast-result add-result returns)
+spread-spec = tie.close (tie.spec (λ c. search needs) (λ c. search needs) cast-result add-result (λ c. search needs))

@@ -10,28 +10,10 @@ use Rattle.istrolf.specs.declared.ListedBytes.{ListedBytes}
 use Rattle.istrolf.proofs.listers.istrolf_lister_finish.Statement.{statement}
 use Rattle.istrolf.proofs.listers.istrolf_lister_finish.Tie as tie
 
-stands-requires : tie.Need-stands-requires
-stands-requires c κs = search needs
-
-refused-listed-requires : tie.Need-refused-listed-requires
-refused-listed-requires c κs = search needs
-
 returns : tie.Need-returns
 unfolding finishOf
 returns c = let a = c .before .before .before .before .args in
     simp (sym (c .before .before .stands .ensures) ∙ not-true _ (c .before .if1 .taken)) (ap (λ (l : ListedBytes). whole l (a .out .now)) (c .refused-listed .ensures))
-
-unpacked-requires : tie.Need-unpacked-requires
-unpacked-requires c κs = search needs
-
-finish-requires : tie.Need-finish-requires
-finish-requires c κs = search needs
-
-packed-listed-requires : tie.Need-packed-listed-requires
-packed-listed-requires c κs = search needs
-
-same-length : tie.Need-same-length
-same-length c = search needs
 
 returns-2 : tie.Need-returns-2
 unfolding finishOf
@@ -46,11 +28,11 @@ pub istrolf-lister-finish-spec : {M : Type 1} → statement M
 istrolf-lister-finish-spec =
     tie.close
     (tie.spec
-    stands-requires
-    refused-listed-requires
+    (λ c κs. search needs)
+    (λ c κs. search needs)
     returns
-    unpacked-requires
-    finish-requires
-    packed-listed-requires
-    same-length
+    (λ c κs. search needs)
+    (λ c κs. search needs)
+    (λ c κs. search needs)
+    (λ c. search needs)
     returns-2)

@@ -3,14 +3,8 @@ use borrow.Author.Needs.{needs}
 use Rattle.istrolf.proofs.listers.istrolf_lister_fresh.Statement.{statement}
 use Rattle.istrolf.proofs.listers.istrolf_lister_fresh.Tie as tie
 
-fresh-requires : tie.Need-fresh-requires
-fresh-requires c κs = search needs
-
-packed-requires : tie.Need-packed-requires
-packed-requires c κs = search needs
-
 returns : tie.Need-returns
 returns c = rw (c .packed .ensures, c .before .fresh .ensures)
 
 pub istrolf-lister-fresh-spec : {M : Type 1} → statement M
-istrolf-lister-fresh-spec = tie.close (tie.spec fresh-requires packed-requires returns)
+istrolf-lister-fresh-spec = tie.close (tie.spec (λ c κs. search needs) (λ c κs. search needs) returns)

@@ -3,11 +3,8 @@ use borrow.Author.Needs.{needs}
 use Rattle.istrolf.proofs.listers.unpacked.Statement.{statement}
 use Rattle.istrolf.proofs.listers.unpacked.Tie as tie
 
-unpacked-requires : tie.Need-unpacked-requires
-unpacked-requires c κs = search needs
-
 returns : tie.Need-returns
 returns c = rw (c .before .before .unpacked .ensures)
 
 pub unpacked-spec : {M : Type 1} → statement M
-unpacked-spec = tie.close (tie.spec unpacked-requires returns)
+unpacked-spec = tie.close (tie.spec (λ c κs. search needs) returns)

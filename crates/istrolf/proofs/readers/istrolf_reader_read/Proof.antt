@@ -10,28 +10,10 @@ use Rattle.istrolf.specs.declared.ReadWords.{ReadWords}
 use Rattle.istrolf.proofs.readers.istrolf_reader_read.Statement.{statement}
 use Rattle.istrolf.proofs.readers.istrolf_reader_read.Tie as tie
 
-stands-requires : tie.Need-stands-requires
-stands-requires c κs = search needs
-
-refused-reading-requires : tie.Need-refused-reading-requires
-refused-reading-requires c κs = search needs
-
 returns : tie.Need-returns
 unfolding readOf
 returns c = let a = c .before .before .before .before .args in
     simp (sym (c .before .before .stands .ensures) ∙ not-true _ (c .before .if1 .taken)) (ap (λ (w : ReadWords). whole w (a .out .now)) (c .refused-reading .ensures))
-
-unpacked-requires : tie.Need-unpacked-requires
-unpacked-requires c κs = search needs
-
-read-requires : tie.Need-read-requires
-read-requires c κs = search needs
-
-packed-reading-requires : tie.Need-packed-reading-requires
-packed-reading-requires c κs = search needs
-
-same-length : tie.Need-same-length
-same-length c = search needs
 
 returns-2 : tie.Need-returns-2
 unfolding readOf
@@ -46,11 +28,11 @@ pub istrolf-reader-read-spec : {M : Type 1} → statement M
 istrolf-reader-read-spec =
     tie.close
     (tie.spec
-    stands-requires
-    refused-reading-requires
+    (λ c κs. search needs)
+    (λ c κs. search needs)
     returns
-    unpacked-requires
-    read-requires
-    packed-reading-requires
-    same-length
+    (λ c κs. search needs)
+    (λ c κs. search needs)
+    (λ c κs. search needs)
+    (λ c. search needs)
     returns-2)

@@ -10,24 +10,9 @@ use Rattle.istrolf.specs.Promises.{readerStepOf}
 use Rattle.istrolf.proofs.readers.istrolf_reader_step.Statement.{statement}
 use Rattle.istrolf.proofs.readers.istrolf_reader_step.Tie as tie
 
-stands-requires : tie.Need-stands-requires
-stands-requires c κs = search needs
-
-refused-read-requires : tie.Need-refused-read-requires
-refused-read-requires c κs = search needs
-
 returns : tie.Need-returns
 unfolding readerStepOf
 returns c = simp (sym (c .before .before .stands .ensures) ∙ not-true _ (c .before .if1 .taken)) (c .refused-read .ensures)
-
-unpacked-requires : tie.Need-unpacked-requires
-unpacked-requires c κs = search needs
-
-step-requires : tie.Need-step-requires
-step-requires c κs = search needs
-
-packed-read-requires : tie.Need-packed-read-requires
-packed-read-requires c κs = search needs
 
 returns-2 : tie.Need-returns-2
 unfolding readerStepOf
@@ -41,10 +26,10 @@ pub istrolf-reader-step-spec : {M : Type 1} → statement M
 istrolf-reader-step-spec =
     tie.close
     (tie.spec
-    stands-requires
-    refused-read-requires
+    (λ c κs. search needs)
+    (λ c κs. search needs)
     returns
-    unpacked-requires
-    step-requires
-    packed-read-requires
+    (λ c κs. search needs)
+    (λ c κs. search needs)
+    (λ c κs. search needs)
     returns-2)

@@ -6,12 +6,9 @@ use Rattle.ballbox.proofs.Marks.{as-number}
 use Rattle.istrolf.proofs.readers.packed.Statement.{statement}
 use Rattle.istrolf.proofs.readers.packed.Tie as tie
 
-cast-t3 : tie.Need-cast-t3
-cast-t3 c = search needs
-
 returns : tie.Need-returns
 returns c = let r = c .before .before .args .reader in
     ap (λ (n : ℕ). record { format = r .format; kept = r .kept; count = r .count; awaiting = n }) (as-number (r .awaiting))
 
 pub packed-spec : {M : Type 1} → statement M
-packed-spec = tie.close (tie.spec cast-t3 returns)
+packed-spec = tie.close (tie.spec (λ c. search needs) returns)

@@ -3,24 +3,6 @@ use borrow.Author.Needs.{needs}
 use Rattle.istrolf.proofs.readers.packed_read.Statement.{statement}
 use Rattle.istrolf.proofs.readers.packed_read.Tie as tie
 
-packed-requires : tie.Need-packed-requires
-packed-requires c κs = search needs
-
-enum-told : tie.Need-enum-told
-enum-told c = search needs
-
-no-report-requires : tie.Need-no-report-requires
-no-report-requires c κs = search needs
-
-enum-known-answer : tie.Need-enum-known-answer
-enum-known-answer c = search needs
-
-enum-known-answer-2 : tie.Need-enum-known-answer-2
-enum-known-answer-2 c = search needs
-
-no-report-requires-2 : tie.Need-no-report-requires-2
-no-report-requires-2 c κs = search needs
-
 returns : tie.Need-returns
 returns c = rw (c .no-report .ensures, c .before .before .before .packed .ensures, c .before .enum-told .given .1)
 
@@ -34,12 +16,12 @@ pub packed-read-spec : {M : Type 1} → statement M
 packed-read-spec =
     tie.close
     (tie.spec
-    packed-requires
-    enum-told
-    no-report-requires
-    enum-known-answer
-    enum-known-answer-2
-    no-report-requires-2
+    (λ c κs. search needs)
+    (λ c. search needs)
+    (λ c κs. search needs)
+    (λ c. search needs)
+    (λ c. search needs)
+    (λ c κs. search needs)
     returns
     returns-2
     returns-3)

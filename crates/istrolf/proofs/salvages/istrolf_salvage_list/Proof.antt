@@ -7,15 +7,6 @@ use borrow.Author.Needs.{needs}
 use Rattle.istrolf.proofs.salvages.istrolf_salvage_list.Statement.{statement}
 use Rattle.istrolf.proofs.salvages.istrolf_salvage_list.Tie as tie
 
-list-requires : tie.Need-list-requires
-list-requires c κs = search needs
-
-packed-requires : tie.Need-packed-requires
-packed-requires c κs = search needs
-
-same-length : tie.Need-same-length
-same-length c = search needs
-
 returns : tie.Need-returns
 unfolding salvageOf
 returns c =
@@ -23,4 +14,4 @@ returns c =
     ap (λ (t : SalvagedBytes). whole t (l .last .1 .0)) (c .packed .ensures) ∙ ap packedWhole (l .ensures)
 
 pub istrolf-salvage-list-spec : {M : Type 1} → statement M
-istrolf-salvage-list-spec = tie.close (tie.spec list-requires packed-requires same-length returns)
+istrolf-salvage-list-spec = tie.close (tie.spec (λ c κs. search needs) (λ c κs. search needs) (λ c. search needs) returns)

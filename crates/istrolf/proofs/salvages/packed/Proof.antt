@@ -4,11 +4,8 @@ use Rattle.ballbox.proofs.Marks.{as-number}
 use Rattle.istrolf.proofs.salvages.packed.Statement.{statement}
 use Rattle.istrolf.proofs.salvages.packed.Tie as tie
 
-cast-t2 : tie.Need-cast-t2
-cast-t2 c = search needs
-
 returns : tie.Need-returns
 returns c = simp (as-number (c .before .args .told .whole))
 
 pub packed-spec : {M : Type 1} → statement M
-packed-spec = tie.close (tie.spec cast-t2 returns)
+packed-spec = tie.close (tie.spec (λ c. search needs) returns)

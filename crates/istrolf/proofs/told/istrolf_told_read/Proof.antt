@@ -11,28 +11,10 @@ use Rattle.istrolf.specs.declared.HeardWords.{HeardWords}
 use Rattle.istrolf.proofs.told.istrolf_told_read.Statement.{statement}
 use Rattle.istrolf.proofs.told.istrolf_told_read.Tie as tie
 
-stands-requires : tie.Need-stands-requires
-stands-requires c κs = search needs
-
-refused-line-requires : tie.Need-refused-line-requires
-refused-line-requires c κs = search needs
-
 returns : tie.Need-returns
 unfolding toldReadOf
 returns c = let a = c .before .before .before .before .args in
     simp (sym (c .before .before .stands .ensures) ∙ not-true _ (c .before .if1 .taken)) (ap (λ (w : HeardWords). whole w (a .out .now)) (c .refused-line .ensures))
-
-unpacked-requires : tie.Need-unpacked-requires
-unpacked-requires c κs = search needs
-
-read-requires : tie.Need-read-requires
-read-requires c κs = search needs
-
-packed-line-requires : tie.Need-packed-line-requires
-packed-line-requires c κs = search needs
-
-same-length : tie.Need-same-length
-same-length c = search needs
 
 returns-2 : tie.Need-returns-2
 unfolding toldReadOf
@@ -47,11 +29,11 @@ pub istrolf-told-read-spec : {M : Type 1} → statement M
 istrolf-told-read-spec =
     tie.close
     (tie.spec
-    stands-requires
-    refused-line-requires
+    (λ c κs. search needs)
+    (λ c κs. search needs)
     returns
-    unpacked-requires
-    read-requires
-    packed-line-requires
-    same-length
+    (λ c κs. search needs)
+    (λ c κs. search needs)
+    (λ c κs. search needs)
+    (λ c. search needs)
     returns-2)

@@ -10,24 +10,9 @@ use Rattle.istrolf.specs.Promises.{toldStepOf}
 use Rattle.istrolf.proofs.told.istrolf_told_step.Statement.{statement}
 use Rattle.istrolf.proofs.told.istrolf_told_step.Tie as tie
 
-stands-requires : tie.Need-stands-requires
-stands-requires c κs = search needs
-
-refused-heard-requires : tie.Need-refused-heard-requires
-refused-heard-requires c κs = search needs
-
 returns : tie.Need-returns
 unfolding toldStepOf
 returns c = simp (sym (c .before .before .stands .ensures) ∙ not-true _ (c .before .if1 .taken)) (c .refused-heard .ensures)
-
-unpacked-requires : tie.Need-unpacked-requires
-unpacked-requires c κs = search needs
-
-step-requires : tie.Need-step-requires
-step-requires c κs = search needs
-
-packed-heard-requires : tie.Need-packed-heard-requires
-packed-heard-requires c κs = search needs
 
 returns-2 : tie.Need-returns-2
 unfolding toldStepOf
@@ -41,10 +26,10 @@ pub istrolf-told-step-spec : {M : Type 1} → statement M
 istrolf-told-step-spec =
     tie.close
     (tie.spec
-    stands-requires
-    refused-heard-requires
+    (λ c κs. search needs)
+    (λ c κs. search needs)
     returns
-    unpacked-requires
-    step-requires
-    packed-heard-requires
+    (λ c κs. search needs)
+    (λ c κs. search needs)
+    (λ c κs. search needs)
     returns-2)

@@ -10,24 +10,9 @@ use Rattle.istrolf.specs.Promises as promises
 use Rattle.istrolf.proofs.told.istrolf_told_waking.Statement.{statement}
 use Rattle.istrolf.proofs.told.istrolf_told_waking.Tie as tie
 
-stands-requires : tie.Need-stands-requires
-stands-requires c κs = search needs
-
-refused-telling-requires : tie.Need-refused-telling-requires
-refused-telling-requires c κs = search needs
-
 returns : tie.Need-returns
 unfolding promises.tellOf
 returns c = simp (sym (c .before .before .stands .ensures) ∙ not-true _ (c .before .if1 .taken)) (c .refused-telling .ensures)
-
-unpacked-requires : tie.Need-unpacked-requires
-unpacked-requires c κs = search needs
-
-tell-requires : tie.Need-tell-requires
-tell-requires c κs = search needs
-
-packed-telling-requires : tie.Need-packed-telling-requires
-packed-telling-requires c κs = search needs
 
 returns-2 : tie.Need-returns-2
 unfolding promises.tellOf
@@ -40,10 +25,10 @@ pub istrolf-told-waking-spec : {M : Type 1} → statement M
 istrolf-told-waking-spec =
     tie.close
     (tie.spec
-    stands-requires
-    refused-telling-requires
+    (λ c κs. search needs)
+    (λ c κs. search needs)
     returns
-    unpacked-requires
-    tell-requires
-    packed-telling-requires
+    (λ c κs. search needs)
+    (λ c κs. search needs)
+    (λ c κs. search needs)
     returns-2)

@@ -3,14 +3,8 @@ use borrow.Author.Needs.{needs}
 use Rattle.istrolf.proofs.told.packed.Statement.{statement}
 use Rattle.istrolf.proofs.told.packed.Tie as tie
 
-packed-requires : tie.Need-packed-requires
-packed-requires c κs = search needs
-
-kind-number-requires : tie.Need-kind-number-requires
-kind-number-requires c κs = search needs
-
 returns : tie.Need-returns
 returns c = rw (c .before .packed .ensures, c .kind-number .ensures)
 
 pub packed-spec : {M : Type 1} → statement M
-packed-spec = tie.close (tie.spec packed-requires kind-number-requires returns)
+packed-spec = tie.close (tie.spec (λ c κs. search needs) (λ c κs. search needs) returns)

@@ -3,42 +3,6 @@ use borrow.Author.Needs.{needs}
 use Rattle.istrolf.proofs.told.packed_reply.Statement.{statement}
 use Rattle.istrolf.proofs.told.packed_reply.Tie as tie
 
-enum-told : tie.Need-enum-told
-enum-told c = search needs
-
-replied-requires : tie.Need-replied-requires
-replied-requires c κs = search needs
-
-enum-told-2 : tie.Need-enum-told-2
-enum-told-2 c = search needs
-
-replied-requires-2 : tie.Need-replied-requires-2
-replied-requires-2 c κs = search needs
-
-enum-known-reply : tie.Need-enum-known-reply
-enum-known-reply c = search needs
-
-replied-requires-3 : tie.Need-replied-requires-3
-replied-requires-3 c κs = search needs
-
-enum-known-reply-2 : tie.Need-enum-known-reply-2
-enum-known-reply-2 c = search needs
-
-replied-requires-4 : tie.Need-replied-requires-4
-replied-requires-4 c κs = search needs
-
-enum-known-reply-3 : tie.Need-enum-known-reply-3
-enum-known-reply-3 c = search needs
-
-replied-requires-5 : tie.Need-replied-requires-5
-replied-requires-5 c κs = search needs
-
-enum-known-reply-4 : tie.Need-enum-known-reply-4
-enum-known-reply-4 c = search needs
-
-replied-requires-6 : tie.Need-replied-requires-6
-replied-requires-6 c κs = search needs
-
 returns : tie.Need-returns
 returns c = rw (c .replied .ensures, c .before .enum-told .given .1)
 
@@ -61,18 +25,18 @@ pub packed-reply-spec : {M : Type 1} → statement M
 packed-reply-spec =
     tie.close
     (tie.spec
-    enum-told
-    replied-requires
-    enum-told-2
-    replied-requires-2
-    enum-known-reply
-    replied-requires-3
-    enum-known-reply-2
-    replied-requires-4
-    enum-known-reply-3
-    replied-requires-5
-    enum-known-reply-4
-    replied-requires-6
+    (λ c. search needs)
+    (λ c κs. search needs)
+    (λ c. search needs)
+    (λ c κs. search needs)
+    (λ c. search needs)
+    (λ c κs. search needs)
+    (λ c. search needs)
+    (λ c κs. search needs)
+    (λ c. search needs)
+    (λ c κs. search needs)
+    (λ c. search needs)
+    (λ c κs. search needs)
     returns
     returns-2
     returns-3

@@ -1,5 +1,4 @@
 -- `next_at`: by the sign of the number.
-use borrow.Author.Needs.{needs}
 use native.Mathlib.Omega.{arith}
 use mathlib.Core.Path.{_≡_}
 use lib.IntN.{pos}

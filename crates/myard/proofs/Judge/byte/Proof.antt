@@ -4,15 +4,9 @@ use Rattle.myard.specs.Hearing.{behindByte}
 use Rattle.myard.proofs.Judge.byte.Statement.{statement}
 use Rattle.myard.proofs.Judge.byte.Tie as tie
 
-byte-requires : tie.Need-byte-requires
-byte-requires c κs = search needs
-
-heard-requires : tie.Need-heard-requires
-heard-requires c κs = search needs
-
 returns : tie.Need-returns
 unfolding behindByte
 returns c = rw (c .heard .ensures, c .before .before .byte .ensures)
 
 pub byte-spec : {M : Type 1} → statement M
-byte-spec = tie.close (tie.spec byte-requires heard-requires returns)
+byte-spec = tie.close (tie.spec (λ c κs. search needs) (λ c κs. search needs) returns)

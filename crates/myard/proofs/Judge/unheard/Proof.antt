@@ -3,11 +3,8 @@ use borrow.Author.Needs.{needs}
 use Rattle.myard.proofs.Judge.unheard.Statement.{statement}
 use Rattle.myard.proofs.Judge.unheard.Tie as tie
 
-fresh-requires : tie.Need-fresh-requires
-fresh-requires c κs = search needs
-
 returns : tie.Need-returns
 returns c = rw (c .before .fresh .ensures)
 
 pub unheard-spec : {M : Type 1} → statement M
-unheard-spec = tie.close (tie.spec fresh-requires returns)
+unheard-spec = tie.close (tie.spec (λ c κs. search needs) returns)

@@ -8,18 +8,6 @@ returns : tie.Need-returns
 unfolding judgedBy
 returns c = rw (c .if1 .taken)
 
-enum-told : tie.Need-enum-told
-enum-told c = search needs
-
-enum-known-verdict : tie.Need-enum-known-verdict
-enum-known-verdict c = search needs
-
-enum-known-verdict-2 : tie.Need-enum-known-verdict-2
-enum-known-verdict-2 c = search needs
-
-enum-told-2 : tie.Need-enum-told-2
-enum-told-2 c = search needs
-
 returns-2 : tie.Need-returns-2
 unfolding judgedBy
 returns-2 c = rw (c .before .before .if1 .left, c .enum-told .given .1)
@@ -41,10 +29,10 @@ judged-spec =
     tie.close
     (tie.spec
     returns
-    enum-told
-    enum-known-verdict
-    enum-known-verdict-2
-    enum-told-2
+    (λ c. search needs)
+    (λ c. search needs)
+    (λ c. search needs)
+    (λ c. search needs)
     returns-2
     returns-3
     returns-4

@@ -3,30 +3,6 @@ use borrow.Author.Needs.{needs}
 use Rattle.myard.proofs.judging.line_for.Statement.{statement}
 use Rattle.myard.proofs.judging.line_for.Tie as tie
 
-enum-told : tie.Need-enum-told
-enum-told c = search needs
-
-yes-requires : tie.Need-yes-requires
-yes-requires c κs = search needs
-
-enum-known-verdict : tie.Need-enum-known-verdict
-enum-known-verdict c = search needs
-
-numbered-requires : tie.Need-numbered-requires
-numbered-requires c κs = search needs
-
-enum-known-verdict-2 : tie.Need-enum-known-verdict-2
-enum-known-verdict-2 c = search needs
-
-numbered-requires-2 : tie.Need-numbered-requires-2
-numbered-requires-2 c κs = search needs
-
-enum-told-2 : tie.Need-enum-told-2
-enum-told-2 c = search needs
-
-over-requires : tie.Need-over-requires
-over-requires c κs = search needs
-
 returns : tie.Need-returns
 returns c = rw (c .before .enum-told .given .1) (c .yes .ensures)
 
@@ -43,14 +19,14 @@ pub line-for-spec : {M : Type 1} → statement M
 line-for-spec =
     tie.close
     (tie.spec
-    enum-told
-    yes-requires
-    enum-known-verdict
-    numbered-requires
-    enum-known-verdict-2
-    numbered-requires-2
-    enum-told-2
-    over-requires
+    (λ c. search needs)
+    (λ c κs. search needs)
+    (λ c. search needs)
+    (λ c κs. search needs)
+    (λ c. search needs)
+    (λ c κs. search needs)
+    (λ c. search needs)
+    (λ c κs. search needs)
     returns
     returns-2
     returns-3

@@ -14,24 +14,6 @@ use Rattle.text.proofs.Digits.{decimal-few}
 use Rattle.myard.proofs.judging.numbered.Statement.{statement}
 use Rattle.myard.proofs.judging.numbered.Tie as tie
 
-none-requires : tie.Need-none-requires
-none-requires c κs = search needs
-
-with-requires : tie.Need-with-requires
-with-requires c κs = search needs
-
-with-requires-2 : tie.Need-with-requires-2
-with-requires-2 c κs = search needs
-
-cast-decimal : tie.Need-cast-decimal
-cast-decimal c = search needs
-
-decimal-requires : tie.Need-decimal-requires
-decimal-requires c κs = search needs
-
-with-requires-3 : tie.Need-with-requires-3
-with-requires-3 c κs = search needs
-
 returns : tie.Need-returns
 returns c = let n = c .before .before .before .before .before .args .n in (
   c .with3 .ensures
@@ -44,10 +26,10 @@ pub numbered-spec : {M : Type 1} → statement M
 numbered-spec =
     tie.close
     (tie.spec
-    none-requires
-    with-requires
-    with-requires-2
-    cast-decimal
-    decimal-requires
-    with-requires-3
+    (λ c κs. search needs)
+    (λ c κs. search needs)
+    (λ c κs. search needs)
+    (λ c. search needs)
+    (λ c κs. search needs)
+    (λ c κs. search needs)
     returns)

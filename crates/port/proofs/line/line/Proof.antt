@@ -21,12 +21,6 @@ abbrev μ-loop : tie.MeasureT-loop
 loop-holds : tie.Need-loop-holds Inv-loop μ-loop
 loop-holds c = let s = c .before .before in stands-none hearsBytes lawful (s .args .port) (s .args .raw .now) (s .args .out .now)
 
-sub-first : tie.Need-sub-first Inv-loop μ-loop
-sub-first c = omega arith
-
-part-first-start : tie.Need-part-first-start Inv-loop μ-loop
-part-first-start c = omega arith
-
 mul-first : tie.Need-mul-first Inv-loop μ-loop
 mul-first c = let l = c .before .before in omega (arith, far (l .loop .inv), l .before .before .before .good .1 .1 .0 .1)
 
@@ -90,8 +84,8 @@ line-spec =
     Inv-loop
     μ-loop
     loop-holds
-    sub-first
-    part-first-start
+    (λ c. omega arith)
+    (λ c. omega arith)
     (λ c. search needs)
     mul-first
     sub-first-2

@@ -24,15 +24,6 @@ abbrev μ-loop : tie.MeasureT-loop
 loop-holds : tie.Need-loop-holds Inv-loop μ-loop
 loop-holds c = let s = c .before in (loops.stands-none readsLine lawful (s .args .self) (s .args .words .now) (s .args .out .now), s .pre)
 
-mul-first : tie.Need-mul-first Inv-loop μ-loop
-mul-first c = omega arith
-
-sub-first : tie.Need-sub-first Inv-loop μ-loop
-sub-first c = omega arith
-
-part-first-start : tie.Need-part-first-start Inv-loop μ-loop
-part-first-start c = omega arith
-
 mul-first-2 : tie.Need-mul-first-2 Inv-loop μ-loop
 mul-first-2 c = let l = c .before .before in omega (arith, far (l .loop .inv .0), l .before .before .good .1 .1 .0 .1)
 
@@ -99,9 +90,9 @@ line-spec =
     Inv-loop
     μ-loop
     loop-holds
-    mul-first
-    sub-first
-    part-first-start
+    (λ c. omega arith)
+    (λ c. omega arith)
+    (λ c. omega arith)
     (λ c. search needs)
     mul-first-2
     sub-first-2

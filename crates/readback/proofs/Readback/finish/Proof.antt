@@ -8,18 +8,9 @@ use Rattle.readback.proofs.Goodness.{few-lines}
 use Rattle.readback.proofs.Readback.finish.Statement.{statement}
 use Rattle.readback.proofs.Readback.finish.Tie as tie
 
-good-requires : tie.Need-good-requires
-good-requires c κs = search needs
-
-back-requires : tie.Need-back-requires
-back-requires c κs = search needs
-
 returns : tie.Need-returns
 unfolding finishOf
 returns c = rw (sym (c .before .before .good2 .ensures) ∙ not-true _ (c .before .if1 .taken)) (c .back .ensures)
-
-back-requires-2 : tie.Need-back-requires-2
-back-requires-2 c κs = search needs
 
 returns-2 : tie.Need-returns-2
 unfolding finishOf
@@ -27,9 +18,6 @@ returns-2 c = rw (sym (c .before .before .before .before .good2 .ensures) ∙ no
 
 add-back : tie.Need-add-back
 add-back c = record { fits = omega (arith, few-lines (c .before .before .before .before .before .args .self) (sym (c .before .before .before .before .good2 .ensures) ∙ not-false _ (c .before .before .before .if1 .left))) }
-
-back-requires-3 : tie.Need-back-requires-3
-back-requires-3 c κs = search needs
 
 returns-3 : tie.Need-returns-3
 unfolding finishOf
@@ -39,11 +27,11 @@ pub finish-spec : {M : Type 1} → statement M
 finish-spec =
     tie.close
     (tie.spec
-    good-requires
-    back-requires
+    (λ c κs. search needs)
+    (λ c κs. search needs)
     returns
-    back-requires-2
+    (λ c κs. search needs)
     returns-2
     add-back
-    back-requires-3
+    (λ c κs. search needs)
     returns-3)

@@ -23,20 +23,11 @@ there c = let i = c .before .before .before .before .before .args .input .now in
 step-is : (c : tie.After-step) → let a = c .before .before .before .before .before .args in c .step .result ≡ stepOf (a .self) (take (lengthTo newline (a .input .now)) (a .input .now))
 step-is c = rw (← c .before .before .before .length-to .ensures) (c .step .ensures)
 
-length-to-requires : tie.Need-length-to-requires
-length-to-requires c κs = search needs
-
-back-requires : tie.Need-back-requires
-back-requires c κs = search needs
-
 returns : tie.Need-returns
 returns c = let s = c .before .before .before .before .before in rw (c .back .ensures) (cut-stop pieces.reads reading-follows (s .args .self) (s .args .input .now) (s .args .out .now) (s .pre .0) (s .pre .1) (sym (c .before .before .before .length-to .ensures) ∙ c .before .before .if1 .taken) (omega arith))
 
 add-back : tie.Need-add-back
 add-back c = record { fits = omega (arith, few-lines (c .before .before .before .before .before .args .self) (c .before .before .before .before .before .pre .0)) }
-
-back-requires-2 : tie.Need-back-requires-2
-back-requires-2 c κs = search needs
 
 returns-2 : tie.Need-returns-2
 returns-2 c = let s = c .before .before .before .before .before .before in rw (c .back2 .ensures) (long-stop pieces.reads reading-follows (s .args .self) (s .args .input .now) (s .args .out .now) (s .pre .0) (s .pre .1) (sym (c .before .before .before .before .length-to .ensures) ∙ c .before .before .before .if1 .taken) (omega arith))
@@ -44,32 +35,14 @@ returns-2 c = let s = c .before .before .before .before .before .before in rw (c
 slice-aggregate-step : tie.Need-slice-aggregate-step
 slice-aggregate-step c = let s = c .before .before .before .before in sym (length-take-le (c .before .before .length-to .result) (s .args .input .now) (omega (arith, c .before .before .length-to .ensures, to-within newline (s .args .input .now))))
 
-step-requires : tie.Need-step-requires
-step-requires c κs = search needs
-
 add-back-2 : tie.Need-add-back-2
 add-back-2 c = record { fits = omega (arith, few-lines (c .before .before .before .before .before .before .before .before .args .self) (c .before .before .before .before .before .before .before .before .pre .0)) }
-
-back-requires-3 : tie.Need-back-requires-3
-back-requires-3 c κs = search needs
 
 returns-3 : tie.Need-returns-3
 returns-3 c = let s = c .before .before .before .before .before .before .before .before .before in rw (c .back3 .ensures) (faulty-stop pieces.reads reading-follows (s .args .self) (s .args .input .now) (s .args .out .now) (s .pre .0) (c .before .before .before .before .step .result) (there (c .before .before .before .before)) (step-is (c .before .before .before .before)) (not-true _ (c .before .before .if3 .taken)))
 
-enum-told : tie.Need-enum-told
-enum-told c = search needs
-
 add-back-3 : tie.Need-add-back-3
 add-back-3 c = record { fits = omega (arith, there (c .before .before .before .before .before)) }
-
-back-requires-4 : tie.Need-back-requires-4
-back-requires-4 c κs = search needs
-
-enum-known-given : tie.Need-enum-known-given
-enum-known-given c = search needs
-
-back-requires-5 : tie.Need-back-requires-5
-back-requires-5 c κs = search needs
 
 returns-4 : tie.Need-returns-4
 returns-4 c = let s = c .before .before .before .before .before .before .before .before .before .before .before .before .before in
@@ -84,17 +57,11 @@ put-requires c κs = let s = c .before .before .before .before .before .before .
 add-back-4 : tie.Need-add-back-4
 add-back-4 c = record { fits = omega (arith, there (c .before .before .before .before .before .before .before .before .before .before)) }
 
-back-requires-6 : tie.Need-back-requires-6
-back-requires-6 c κs = search needs
-
 returns-5 : tie.Need-returns-5
 returns-5 c = let s = c .before .before .before .before .before .before .before .before .before .before .before in
     let k = c .before .before .before .before .before .before .before .before .before .length-to .ensures in
     let g = c .before .enum-told .given .1 in
     rw (c .back4 .ensures, k) (rw g at (read-taken (s .args .self) (s .args .input .now) (s .args .out .now) (s .pre .0) (c .before .before .before .before .before .before .step .result) (there (c .before .before .before .before .before .before)) (step-is (c .before .before .before .before .before .before)) (not-false _ (c .before .before .before .before .if3 .left)) (rw g (omega arith))))
-
-same-length : tie.Need-same-length
-same-length c = search needs
 
 returns-6 : tie.Need-returns-6
 returns-6 c = let s = c .before .before .before .before .before .before .before .before .before .before .before .before .before .before .before .before in
@@ -106,26 +73,26 @@ pub first-spec : {M : Type 1} → statement M
 first-spec =
     tie.close
     (tie.spec
-    length-to-requires
-    back-requires
+    (λ c κs. search needs)
+    (λ c κs. search needs)
     returns
     add-back
-    back-requires-2
+    (λ c κs. search needs)
     returns-2
     slice-aggregate-step
-    step-requires
+    (λ c κs. search needs)
     add-back-2
-    back-requires-3
+    (λ c κs. search needs)
     returns-3
-    enum-told
+    (λ c. search needs)
     add-back-3
-    back-requires-4
-    enum-known-given
-    back-requires-5
+    (λ c κs. search needs)
+    (λ c. search needs)
+    (λ c κs. search needs)
     returns-4
     put-requires
     add-back-4
-    back-requires-6
+    (λ c κs. search needs)
     returns-5
-    same-length
+    (λ c. search needs)
     returns-6)

@@ -15,12 +15,6 @@ returns : tie.Need-returns
 unfolding good
 returns c = rw (eq-eqb _ _ (c .before .before .before .before .if1 .taken))
 
-cast-width-known : tie.Need-cast-width-known
-cast-width-known c = search needs
-
-width-known-requires : tie.Need-width-known-requires
-width-known-requires c κs = search needs
-
 returns-2 : tie.Need-returns-2
 unfolding good
 returns-2 c = rw (ne-eqb _ _ (c .before .before .before .if1 .left), sym (c .before .width-known .ensures) ∙ not-true _ (c .if2 .taken))
@@ -35,9 +29,6 @@ returns-3 c =
     let self = e .before .before .before .before .before .args .self in
     let known : widthKnown (self .width) ≡ true = sym (e .before .width-known .ensures) ∙ not-false _ (e .if2 .left) in
     rw (ne-eqb _ _ (e .before .before .before .if1 .left), known, lt-leb (self .last) (mostAt (self .width)) (rw (c .before .before .most .ensures) at (c .if3 .taken)))
-
-besides-requires : tie.Need-besides-requires
-besides-requires c κs = search needs
 
 add-result : tie.Need-add-result
 add-result c =
@@ -62,11 +53,11 @@ good-spec =
     tie.close
     (tie.spec
     returns
-    cast-width-known
-    width-known-requires
+    (λ c. search needs)
+    (λ c κs. search needs)
     returns-2
     most-requires
     returns-3
-    besides-requires
+    (λ c κs. search needs)
     add-result
     returns-4)

@@ -21,15 +21,6 @@ abbrev μ-loop : tie.MeasureT-loop
 loop-holds : tie.Need-loop-holds Inv-loop μ-loop
 loop-holds c = let s = c .before in starts-read (s .args .self) (s .args .input .now) (s .args .out .now) (s .pre)
 
-sub-first : tie.Need-sub-first Inv-loop μ-loop
-sub-first c = omega arith
-
-part-first-start : tie.Need-part-first-start Inv-loop μ-loop
-part-first-start c = omega arith
-
-part-first-end : tie.Need-part-first-end Inv-loop μ-loop
-part-first-end c = search needs
-
 mul-first : tie.Need-mul-first Inv-loop μ-loop
 mul-first c = record { fits = omega (arith, far-read (c .before .before .loop .inv), c .before .before .before .before .good .1 .0 .1, c .before .before .before .before .good .1 .1 .0 .1) }
 
@@ -38,9 +29,6 @@ sub-first-2 c = omega (arith, far-read (c .before .before .loop .inv))
 
 part-first-start-2 : tie.Need-part-first-start-2 Inv-loop μ-loop
 part-first-start-2 c = omega (arith, far-read (c .before .before .loop .inv))
-
-part-first-end-2 : tie.Need-part-first-end-2 Inv-loop μ-loop
-part-first-end-2 c = search needs
 
 first-requires : tie.Need-first-requires Inv-loop μ-loop
 first-requires c κs = let l = c .before .before .before .loop in (l .inv .stands .sound, rw (rest-is (c .before .before .before .before .before .args .input .now) (l .at), length-drop (l .at) (c .before .before .before .before .before .args .input .now)) (omega arith))
@@ -103,13 +91,13 @@ lines-spec =
     Inv-loop
     μ-loop
     loop-holds
-    sub-first
-    part-first-start
-    part-first-end
+    (λ c. omega arith)
+    (λ c. omega arith)
+    (λ c. search needs)
     mul-first
     sub-first-2
     part-first-start-2
-    part-first-end-2
+    (λ c. search needs)
     first-requires
     back-requires
     same-length

@@ -7,12 +7,6 @@ use Rattle.readback.proofs.Goodness.{known-few, as-number}
 use Rattle.readback.proofs.Readback.opens.Statement.{statement}
 use Rattle.readback.proofs.Readback.opens.Tie as tie
 
-width-known-requires : tie.Need-width-known-requires
-width-known-requires c κs = search needs
-
-faulty-requires : tie.Need-faulty-requires
-faulty-requires c κs = search needs
-
 returns : tie.Need-returns
 returns c = rw (sym (c .before .before .width-known .ensures) ∙ not-true _ (c .before .if1 .taken)) (c .faulty .ensures)
 
@@ -23,4 +17,4 @@ returns-2 : tie.Need-returns-2
 returns-2 c = rw (sym (c .before .width-known .ensures) ∙ not-false _ (c .if1 .left), as-number (c .before .before .args .salvage))
 
 pub opens-spec : {M : Type 1} → statement M
-opens-spec = tie.close (tie.spec width-known-requires faulty-requires returns cast-t6 (λ c. search needs) returns-2)
+opens-spec = tie.close (tie.spec (λ c κs. search needs) (λ c κs. search needs) returns cast-t6 (λ c. search needs) returns-2)

@@ -7,12 +7,6 @@ use Rattle.readback.proofs.Goodness.{few-lines, as-number}
 use Rattle.readback.proofs.Readback.passes.Statement.{statement}
 use Rattle.readback.proofs.Readback.passes.Tie as tie
 
-above-requires : tie.Need-above-requires
-above-requires c κs = search needs
-
-faulty-requires : tie.Need-faulty-requires
-faulty-requires c κs = search needs
-
 returns : tie.Need-returns
 returns c = rw (sym (c .before .before .above .ensures) ∙ not-true _ (c .before .if1 .taken)) (c .faulty .ensures)
 
@@ -29,8 +23,8 @@ pub passes-spec : {M : Type 1} → statement M
 passes-spec =
     tie.close
     (tie.spec
-    above-requires
-    faulty-requires
+    (λ c κs. search needs)
+    (λ c κs. search needs)
     returns
     (λ c κs. search needs)
     (λ c. search needs)

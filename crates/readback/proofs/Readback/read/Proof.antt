@@ -7,12 +7,6 @@ use Rattle.readback.specs.declared.Back.{Back}
 use Rattle.readback.proofs.Readback.read.Statement.{statement}
 use Rattle.readback.proofs.Readback.read.Tie as tie
 
-good-requires : tie.Need-good-requires
-good-requires c κs = search needs
-
-back-requires : tie.Need-back-requires
-back-requires c κs = search needs
-
 returns : tie.Need-returns
 unfolding callOf
 returns c = rw (sym (c .before .before .good2 .ensures) ∙ not-true _ (c .before .if1 .taken)) (ap (λ (b : Back). whole b (c .before .before .before .before .args .out .now)) (c .back .ensures))
@@ -20,13 +14,10 @@ returns c = rw (sym (c .before .before .good2 .ensures) ∙ not-true _ (c .befor
 lines-requires : tie.Need-lines-requires
 lines-requires c κs = sym (c .before .before .good2 .ensures) ∙ not-false _ (c .before .if1 .left)
 
-same-length : tie.Need-same-length
-same-length c = search needs
-
 returns-2 : tie.Need-returns-2
 unfolding callOf
 returns-2 c = rw (sym (c .before .before .before .before .good2 .ensures) ∙ not-false _ (c .before .before .before .if1 .left)) (c .before .lines .ensures)
 
 pub read-spec : {M : Type 1} → statement M
 read-spec =
-    tie.close (tie.spec good-requires back-requires returns lines-requires same-length returns-2)
+    tie.close (tie.spec (λ c κs. search needs) (λ c κs. search needs) returns lines-requires (λ c. search needs) returns-2)

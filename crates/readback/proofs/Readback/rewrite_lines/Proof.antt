@@ -22,12 +22,6 @@ abbrev μ-loop : tie.MeasureT-loop
 loop-holds : tie.Need-loop-holds Inv-loop μ-loop
 loop-holds c = let s = c .before .before in starts rewrites rewriting-follows (s .args .self) (s .args .input .now) (s .args .out .now) (s .pre)
 
-sub-rewrite-first : tie.Need-sub-rewrite-first Inv-loop μ-loop
-sub-rewrite-first c = omega arith
-
-part-rewrite-first-start : tie.Need-part-rewrite-first-start Inv-loop μ-loop
-part-rewrite-first-start c = omega arith
-
 sub-rewrite-first-2 : tie.Need-sub-rewrite-first-2 Inv-loop μ-loop
 sub-rewrite-first-2 c = omega (arith, far rewrites rewriting-follows (c .before .before .loop .inv))
 
@@ -83,8 +77,8 @@ rewrite-lines-spec =
     Inv-loop
     μ-loop
     loop-holds
-    sub-rewrite-first
-    part-rewrite-first-start
+    (λ c. omega arith)
+    (λ c. omega arith)
     (λ c. search needs)
     sub-rewrite-first-2
     part-rewrite-first-start-2

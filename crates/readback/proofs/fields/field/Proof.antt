@@ -21,38 +21,11 @@ length-is c = let a = c .before .before .before .before .before .before .args in
 reach : (c : tie.After-length-to) → let a = c .before .before .before .before .before .before .args in c .length-to .result ≤ length (a .line .now) - (a .at + 1)
 reach c = let a = c .before .before .before .before .before .before .args in rw (length-is c) (omega (arith, to-within tab (drop (a .at + 1) (a .line .now)), length-drop (a .at + 1) (a .line .now)))
 
-shared-slice-read-if2 : tie.Need-shared-slice-read-if2
-shared-slice-read-if2 c = search needs
-
-add-start : tie.Need-add-start
-add-start c = search needs
-
-sub-length-to : tie.Need-sub-length-to
-sub-length-to c = search needs
-
-part-length-to-start : tie.Need-part-length-to-start
-part-length-to-start c = search needs
-
-part-length-to-end : tie.Need-part-length-to-end
-part-length-to-end c = search needs
-
-length-to-requires : tie.Need-length-to-requires
-length-to-requires c κs = search needs
-
 add-end : tie.Need-add-end
 add-end c = record { fits = omega (arith, reach c) }
 
-sub-value : tie.Need-sub-value
-sub-value c = search needs
-
-part-value-start : tie.Need-part-value-start
-part-value-start c = search needs
-
 part-value-end : tie.Need-part-value-end
 part-value-end c = let r = reach c in search needs
-
-value-requires : tie.Need-value-requires
-value-requires c κs = search needs
 
 returns : tie.Need-returns
 returns c = let a = c .before .before .before .before .before .before .before .before .before .args in
@@ -72,17 +45,17 @@ pub field-spec : {M : Type 1} → statement M
 field-spec =
     tie.close
     (tie.spec
-    shared-slice-read-if2
-    add-start
-    sub-length-to
-    part-length-to-start
-    part-length-to-end
-    length-to-requires
+    (λ c. search needs)
+    (λ c. search needs)
+    (λ c. search needs)
+    (λ c. search needs)
+    (λ c. search needs)
+    (λ c κs. search needs)
     add-end
-    sub-value
-    part-value-start
+    (λ c. search needs)
+    (λ c. search needs)
     part-value-end
-    value-requires
+    (λ c κs. search needs)
     returns
     returns-2
     returns-3)

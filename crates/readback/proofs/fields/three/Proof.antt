@@ -21,29 +21,14 @@ three c = rw (c .counts3 .ensures) (counts-most (c .before .before .before .args
 four : (c : tie.After-counts4) → c .counts4 .result ≤ 1
 four c = rw (c .counts4 .ensures) (counts-most (c .before .before .before .before .args .c) 82 1)
 
-counts-requires : tie.Need-counts-requires
-counts-requires c κs = search needs
-
-counts-requires-2 : tie.Need-counts-requires-2
-counts-requires-2 c κs = search needs
-
 add-value : tie.Need-add-value
 add-value c = record { fits = omega (arith, two c, one (c .before)) }
-
-counts-requires-3 : tie.Need-counts-requires-3
-counts-requires-3 c κs = search needs
 
 add-value-2 : tie.Need-add-value-2
 add-value-2 c = record { fits = omega (arith, three c, two (c .before), one (c .before .before)) }
 
-counts-requires-4 : tie.Need-counts-requires-4
-counts-requires-4 c κs = search needs
-
 add-value-3 : tie.Need-add-value-3
 add-value-3 c = record { fits = omega (arith, four c, three (c .before), two (c .before .before), one (c .before .before .before)) }
-
-cast-t18 : tie.Need-cast-t18
-cast-t18 c = search needs
 
 returns : tie.Need-returns
 returns c = rw (toZ-pos w64 {n = c .before .before .before .counts .result + c .before .before .counts2 .result + c .before .counts3 .result + c .counts4 .result} (omega (arith, four c, three (c .before), two (c .before .before), one (c .before .before .before))), c .counts4 .ensures, c .before .counts3 .ensures, c .before .before .counts2 .ensures, c .before .before .before .counts .ensures)
@@ -52,12 +37,12 @@ pub three-spec : {M : Type 1} → statement M
 three-spec =
     tie.close
     (tie.spec
-    counts-requires
-    counts-requires-2
+    (λ c κs. search needs)
+    (λ c κs. search needs)
     add-value
-    counts-requires-3
+    (λ c κs. search needs)
     add-value-2
-    counts-requires-4
+    (λ c κs. search needs)
     add-value-3
-    cast-t18
+    (λ c. search needs)
     returns)

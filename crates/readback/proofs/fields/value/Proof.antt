@@ -5,42 +5,6 @@ use mathlib.Core.Path.{_∙_, ap}
 use Rattle.readback.proofs.fields.value.Statement.{statement}
 use Rattle.readback.proofs.fields.value.Tie as tie
 
-enum-told : tie.Need-enum-told
-enum-told c = search needs
-
-line-requires : tie.Need-line-requires
-line-requires c κs = search needs
-
-enum-told-2 : tie.Need-enum-told-2
-enum-told-2 c = search needs
-
-read-requires : tie.Need-read-requires
-read-requires c κs = search needs
-
-within-requires : tie.Need-within-requires
-within-requires c κs = search needs
-
-enum-told-3 : tie.Need-enum-told-3
-enum-told-3 c = search needs
-
-read-requires-2 : tie.Need-read-requires-2
-read-requires-2 c κs = search needs
-
-within-requires-2 : tie.Need-within-requires-2
-within-requires-2 c κs = search needs
-
-enum-told-4 : tie.Need-enum-told-4
-enum-told-4 c = search needs
-
-pressed-requires : tie.Need-pressed-requires
-pressed-requires c κs = search needs
-
-enum-told-5 : tie.Need-enum-told-5
-enum-told-5 c = search needs
-
-over-requires : tie.Need-over-requires
-over-requires c κs = search needs
-
 returns : tie.Need-returns
 unfolding valueIn
 returns c = rw (c .before .enum-told .given .1) (c .line .ensures)
@@ -65,18 +29,18 @@ pub value-spec : {M : Type 1} → statement M
 value-spec =
     tie.close
     (tie.spec
-    enum-told
-    line-requires
-    enum-told-2
-    read-requires
-    within-requires
-    enum-told-3
-    read-requires-2
-    within-requires-2
-    enum-told-4
-    pressed-requires
-    enum-told-5
-    over-requires
+    (λ c. search needs)
+    (λ c κs. search needs)
+    (λ c. search needs)
+    (λ c κs. search needs)
+    (λ c κs. search needs)
+    (λ c. search needs)
+    (λ c κs. search needs)
+    (λ c κs. search needs)
+    (λ c. search needs)
+    (λ c κs. search needs)
+    (λ c. search needs)
+    (λ c κs. search needs)
     returns
     returns-2
     returns-3

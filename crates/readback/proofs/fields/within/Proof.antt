@@ -6,18 +6,6 @@ use mir.Val.{toZ, ofZ}
 use Rattle.readback.proofs.fields.within.Statement.{statement}
 use Rattle.readback.proofs.fields.within.Tie as tie
 
-enum-told : tie.Need-enum-told
-enum-told c = search needs
-
-none-requires : tie.Need-none-requires
-none-requires c κs = search needs
-
-enum-known-number : tie.Need-enum-known-number
-enum-known-number c = search needs
-
-returns : tie.Need-returns
-returns c = search needs
-
 returns-2 : tie.Need-returns-2
 returns-2 c = let x = c .before .number .given .0 .0 in
     let a = c .before .before .before .args in
@@ -27,4 +15,4 @@ returns-2 c = let x = c .before .number .given .0 .0 in
     rw (is, from, to, c .before .number .given .1)
 
 pub within-spec : {M : Type 1} → statement M
-within-spec = tie.close (tie.spec enum-told none-requires enum-known-number returns returns-2)
+within-spec = tie.close (tie.spec (λ c. search needs) (λ c κs. search needs) (λ c. search needs) (λ c. search needs) returns-2)

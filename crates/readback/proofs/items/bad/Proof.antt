@@ -10,14 +10,8 @@ use Rattle.readback.proofs.Values.{took-bound, over-yes, bad-yes, bad-n
 use Rattle.readback.proofs.items.bad.Statement.{statement}
 use Rattle.readback.proofs.items.bad.Tie as tie
 
-field-requires : tie.Need-field-requires
-field-requires c κs = search needs
-
 returns : tie.Need-returns
 returns c = over-yes _ (c .before .before .before .before .before .args .line .now) (c .before .before .before .field .result) (c .before .before .before .field .ensures) (c .if1 .taken)
-
-field-requires-2 : tie.Need-field-requires-2
-field-requires-2 c κs = search needs
 
 cast-t10 : tie.Need-cast-t10
 cast-t10 c = let n = c .before .before .before .before .before .field2 .result in
@@ -35,4 +29,4 @@ returns-3 c = bad-no _ (c .before .before .before .before .before .before .befor
 
 pub bad-spec : {M : Type 1} → statement M
 bad-spec =
-    tie.close (tie.spec field-requires returns field-requires-2 cast-t10 returns-2 returns-3)
+    tie.close (tie.spec (λ c κs. search needs) returns (λ c κs. search needs) cast-t10 returns-2 returns-3)

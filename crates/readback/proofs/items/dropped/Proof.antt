@@ -11,12 +11,6 @@ use Rattle.readback.proofs.Values.{took-bound, dropped-yes, dropped-no}
 use Rattle.readback.proofs.items.dropped.Statement.{statement}
 use Rattle.readback.proofs.items.dropped.Tie as tie
 
-field-requires : tie.Need-field-requires
-field-requires c κs = search needs
-
-field-requires-2 : tie.Need-field-requires-2
-field-requires-2 c κs = search needs
-
 cast-t12 : tie.Need-cast-t12
 cast-t12 c = let n = c .before .before .before .before .before .before .before .before .before .field .result in
     let is : toZ w64 (ofZ w64 (n .value)) ≡ n .value = search needs in
@@ -44,4 +38,4 @@ returns-2 c = let k = c .before .before .before .before .before .before .field2 
 
 pub dropped-spec : {M : Type 1} → statement M
 dropped-spec =
-    tie.close (tie.spec field-requires field-requires-2 cast-t12 cast-t13 returns returns-2)
+    tie.close (tie.spec (λ c κs. search needs) (λ c κs. search needs) cast-t12 cast-t13 returns returns-2)

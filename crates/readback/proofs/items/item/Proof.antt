@@ -7,21 +7,6 @@ use Rattle.readback.proofs.items.item.Tie as tie
 returns : tie.Need-returns
 returns c = no-item _ (c .before .before .args .line .now) (c .if1 .taken)
 
-shared-slice-read-match : tie.Need-shared-slice-read-match
-shared-slice-read-match c = search needs
-
-dropped-requires : tie.Need-dropped-requires
-dropped-requires c κs = search needs
-
-report-requires : tie.Need-report-requires
-report-requires c κs = search needs
-
-kept-requires : tie.Need-kept-requires
-kept-requires c κs = search needs
-
-bad-requires : tie.Need-bad-requires
-bad-requires c κs = search needs
-
 returns-2 : tie.Need-returns-2
 returns-2 c = item-d _ (c .before .before .before .before .before .args .line .now) (c .before .before .before .if1 .left) (c .before .match .keys1) (c .dropped .ensures)
 
@@ -42,11 +27,11 @@ item-spec =
     tie.close
     (tie.spec
     returns
-    shared-slice-read-match
-    dropped-requires
-    report-requires
-    kept-requires
-    bad-requires
+    (λ c. search needs)
+    (λ c κs. search needs)
+    (λ c κs. search needs)
+    (λ c κs. search needs)
+    (λ c κs. search needs)
     returns-2
     returns-3
     returns-4

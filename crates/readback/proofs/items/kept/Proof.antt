@@ -10,9 +10,6 @@ use Rattle.readback.proofs.Values.{took-bound, kept-yes, kept-no}
 use Rattle.readback.proofs.items.kept.Statement.{statement}
 use Rattle.readback.proofs.items.kept.Tie as tie
 
-field-requires : tie.Need-field-requires
-field-requires c κs = search needs
-
 cast-t8 : tie.Need-cast-t8
 cast-t8 c = let k = c .before .before .before .before .before .field .result in
     let is : toZ w64 (ofZ w64 (k .value)) ≡ k .value = search needs in
@@ -28,4 +25,4 @@ returns-2 : tie.Need-returns-2
 returns-2 c = kept-no _ (c .before .before .before .before .before .args .line .now) (c .before .before .before .field .result) (c .before .before .before .field .ensures) (c .if1 .left)
 
 pub kept-spec : {M : Type 1} → statement M
-kept-spec = tie.close (tie.spec field-requires cast-t8 returns returns-2)
+kept-spec = tie.close (tie.spec (λ c κs. search needs) cast-t8 returns returns-2)

@@ -15,17 +15,8 @@ pressed-is : (c : tie.After-pressed-number) → toZ w32 (c .pressed-number .resu
 pressed-is c = let b = c .before .before .item .given .0 .1 .0 in
     rw (c .pressed-number .ensures) (toZ-pos w32 {n = pressedNumber b} (omega (arith, counted-most (b .left) 4, middle-most (b .middle), counted-most (b .right) 1)))
 
-enum-known-item : tie.Need-enum-known-item
-enum-known-item c = search needs
-
 cast-five : tie.Need-cast-five
 cast-five c = let h = rw (c .before .item .given .1) at (c .before .before .before .pre) in record { sfits = omega (arith, h .0) }
-
-pressed-number-requires : tie.Need-pressed-number-requires
-pressed-number-requires c κs = search needs
-
-cast-five-2 : tie.Need-cast-five-2
-cast-five-2 c = search needs
 
 cast-five-3 : tie.Need-cast-five-3
 cast-five-3 c = let x = c .before .before .item .given .0 .1 .1 .0 in
@@ -37,44 +28,11 @@ cast-five-4 c = let x = c .before .before .item .given .0 .1 .1 .1 .0 in
     let is : toZ w64 (ofZ w64 x) ≡ x = search needs in
     rw is (sixteen-fits x ((rw (c .before .before .item .given .1) at (c .before .before .before .before .pre)) .2))
 
-five-requires : tie.Need-five-requires
-five-requires c κs = search needs
-
-enum-known-item-2 : tie.Need-enum-known-item-2
-enum-known-item-2 c = search needs
-
 cast-five-5 : tie.Need-cast-five-5
 cast-five-5 c = let h = rw (c .before .item2 .given .1) at (c .before .before .before .pre) in record { sfits = omega (arith, h .0) }
 
-cast-five-6 : tie.Need-cast-five-6
-cast-five-6 c = search needs
-
-five-requires-2 : tie.Need-five-requires-2
-five-requires-2 c κs = search needs
-
-enum-known-item-3 : tie.Need-enum-known-item-3
-enum-known-item-3 c = search needs
-
-cast-five-7 : tie.Need-cast-five-7
-cast-five-7 c = search needs
-
-five-requires-3 : tie.Need-five-requires-3
-five-requires-3 c κs = search needs
-
-enum-known-item-4 : tie.Need-enum-known-item-4
-enum-known-item-4 c = search needs
-
 cast-five-8 : tie.Need-cast-five-8
 cast-five-8 c = let h = rw (c .before .item4 .given .1) at (c .before .before .before .pre) in record { sfits = omega (arith, h) }
-
-five-requires-4 : tie.Need-five-requires-4
-five-requires-4 c κs = search needs
-
-enum-told : tie.Need-enum-told
-enum-told c = search needs
-
-five-requires-5 : tie.Need-five-requires-5
-five-requires-5 c κs = search needs
 
 returns : tie.Need-returns
 returns c = let g = c .before .before .before .item .given in
@@ -108,25 +66,25 @@ pub numbers-spec : {M : Type 1} → statement M
 numbers-spec =
     tie.close
     (tie.spec
-    enum-known-item
+    (λ c. search needs)
     cast-five
-    pressed-number-requires
-    cast-five-2
+    (λ c κs. search needs)
+    (λ c. search needs)
     cast-five-3
     cast-five-4
-    five-requires
-    enum-known-item-2
+    (λ c κs. search needs)
+    (λ c. search needs)
     cast-five-5
-    cast-five-6
-    five-requires-2
-    enum-known-item-3
-    cast-five-7
-    five-requires-3
-    enum-known-item-4
+    (λ c. search needs)
+    (λ c κs. search needs)
+    (λ c. search needs)
+    (λ c. search needs)
+    (λ c κs. search needs)
+    (λ c. search needs)
     cast-five-8
-    five-requires-4
-    enum-told
-    five-requires-5
+    (λ c κs. search needs)
+    (λ c. search needs)
+    (λ c κs. search needs)
     returns
     returns-2
     returns-3

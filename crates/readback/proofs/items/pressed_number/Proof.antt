@@ -15,31 +15,19 @@ second c = rw (c .middle-number .ensures) (middle-most (c .before .before .args 
 third : (c : tie.After-counted2) → c .counted2 .result ≤ 1
 third c = rw (c .counted2 .ensures) (counted-most (c .before .before .before .args .buttons .right) 1)
 
-counted-requires : tie.Need-counted-requires
-counted-requires c κs = search needs
-
-middle-number-requires : tie.Need-middle-number-requires
-middle-number-requires c κs = search needs
-
 add-result : tie.Need-add-result
 add-result c = record { fits = omega (arith, first (c .before), second c) }
 
-counted-requires-2 : tie.Need-counted-requires-2
-counted-requires-2 c κs = search needs
-
 add-result-2 : tie.Need-add-result-2
 add-result-2 c = record { fits = omega (arith, first (c .before .before), second (c .before), third c) }
-
-returns : tie.Need-returns
-returns c = search needs
 
 pub pressed-number-spec : {M : Type 1} → statement M
 pressed-number-spec =
     tie.close
     (tie.spec
-    counted-requires
-    middle-number-requires
+    (λ c κs. search needs)
+    (λ c κs. search needs)
     add-result
-    counted-requires-2
+    (λ c κs. search needs)
     add-result-2
-    returns)
+    (λ c. search needs))

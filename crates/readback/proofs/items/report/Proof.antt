@@ -10,18 +10,6 @@ use Rattle.readback.proofs.Values.{took-bound, report-yes, report-no}
 use Rattle.readback.proofs.items.report.Statement.{statement}
 use Rattle.readback.proofs.items.report.Tie as tie
 
-field-requires : tie.Need-field-requires
-field-requires c κs = search needs
-
-field-requires-2 : tie.Need-field-requires-2
-field-requires-2 c κs = search needs
-
-field-requires-3 : tie.Need-field-requires-3
-field-requires-3 c κs = search needs
-
-field-requires-4 : tie.Need-field-requires-4
-field-requires-4 c κs = search needs
-
 cast-t14 : tie.Need-cast-t14
 cast-t14 c = let n = c .before .before .before .before .before .before .before .before .before .before .before .field .result in
     let is : toZ w64 (ofZ w64 (n .value)) ≡ n .value = search needs in
@@ -34,9 +22,6 @@ cast-buttons-at c = let n = c .before .before .before .before .before .before .b
     let is : toZ w64 (ofZ w64 (p .value)) ≡ p .value = search needs in
     let b = took-bound _ kind.Pressed (c .before .before .before .before .before .before .before .before .before .before .before .before .before .before .before .args .line .now) (n .end) (c .before .before .before .before .before .before .before .before .before .before .before .before .field2 .ensures) (left (p .good) _ (right (n .good) _ (c .before .before .before .before .if1 .taken))) in
     rw (is, b .0) (tt, record { fits = omega (arith, b .1) })
-
-buttons-at-requires : tie.Need-buttons-at-requires
-buttons-at-requires c κs = search needs
 
 returns : tie.Need-returns
 returns c = let n = c .before .before .before .before .before .before .before .before .before .before .before .before .before .before .before .before .field .result in
@@ -57,12 +42,12 @@ pub report-spec : {M : Type 1} → statement M
 report-spec =
     tie.close
     (tie.spec
-    field-requires
-    field-requires-2
-    field-requires-3
-    field-requires-4
+    (λ c κs. search needs)
+    (λ c κs. search needs)
+    (λ c κs. search needs)
+    (λ c κs. search needs)
     cast-t14
     cast-buttons-at
-    buttons-at-requires
+    (λ c κs. search needs)
     returns
     returns-2)

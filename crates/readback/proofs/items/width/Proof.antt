@@ -16,12 +16,6 @@ use Rattle.readback.proofs.items.width.Tie as tie
 returns : tie.Need-returns
 returns c = no-width (c .before .before .args .line .now) (c .if1 .taken)
 
-shared-slice-read-letter : tie.Need-shared-slice-read-letter
-shared-slice-read-letter c = search needs
-
-field-requires : tie.Need-field-requires
-field-requires c κs = search needs
-
 cast-result : tie.Need-cast-result
 cast-result c = let w = c .before .before .before .before .before .field .result in
     let is : toZ w64 (ofZ w64 (w .value)) ≡ w .value = search needs in
@@ -40,4 +34,4 @@ returns-3 c = other-width (c .before .before .before .before .before .before .be
 pub width-spec : {M : Type 1} → statement M
 width-spec =
     tie.close
-    (tie.spec returns shared-slice-read-letter field-requires cast-result returns-2 returns-3)
+    (tie.spec returns (λ c. search needs) (λ c κs. search needs) cast-result returns-2 returns-3)

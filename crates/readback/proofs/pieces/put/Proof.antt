@@ -10,12 +10,6 @@ use mir.Val.{toZ, ofZ}
 use Rattle.readback.proofs.pieces.put.Statement.{statement}
 use Rattle.readback.proofs.pieces.put.Tie as tie
 
-numbers-requires : tie.Need-numbers-requires
-numbers-requires c κs = search needs
-
-slice-set-from-kind : tie.Need-slice-set-from-kind
-slice-set-from-kind c = search needs
-
 slice-set-from-line : tie.Need-slice-set-from-line
 slice-set-from-line c = simp length-set (omega arith)
 
@@ -24,12 +18,6 @@ slice-set-from-a c = simp length-set (omega arith)
 
 slice-set-from-b : tie.Need-slice-set-from-b
 slice-set-from-b c = simp length-set (omega arith)
-
-slice-set-from-c : tie.Need-slice-set-from-c
-slice-set-from-c c = search needs
-
-same-length : tie.Need-same-length
-same-length c = search needs
 
 returns : tie.Need-returns
 returns c = let s = c .before .before .before .before .before .before in
@@ -45,11 +33,11 @@ pub put-spec : {M : Type 1} → statement M
 put-spec =
     tie.close
     (tie.spec
-    numbers-requires
-    slice-set-from-kind
+    (λ c κs. search needs)
+    (λ c. search needs)
     slice-set-from-line
     slice-set-from-a
     slice-set-from-b
-    slice-set-from-c
-    same-length
+    (λ c. search needs)
+    (λ c. search needs)
     returns)

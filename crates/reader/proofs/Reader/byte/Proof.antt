@@ -8,29 +8,14 @@ use Rattle.reader.proofs.Word.{strays-as-lost}
 use Rattle.reader.proofs.Reader.byte.Statement.{statement}
 use Rattle.reader.proofs.Reader.byte.Tie as tie
 
-answered-requires : tie.Need-answered-requires
-answered-requires c κs = search needs
-
 returns : tie.Need-returns
 unfolding byteOf
 returns c = simp (c .before .if1 .taken) (c .answered .ensures)
-
-fits-requires : tie.Need-fits-requires
-fits-requires c κs = search needs
-
-keep-requires : tie.Need-keep-requires
-keep-requires c κs = search needs
 
 returns-2 : tie.Need-returns-2
 unfolding byteOf
 returns-2 c = let b = c .before in
     simp (b .before .before .if1 .left, sym (b .before .fits2 .ensures) ∙ b .if2 .taken) (c .keep .ensures)
-
-starts-requires : tie.Need-starts-requires
-starts-requires c κs = search needs
-
-start-requires : tie.Need-start-requires
-start-requires c κs = search needs
 
 returns-3 : tie.Need-returns-3
 unfolding byteOf
@@ -54,13 +39,13 @@ pub byte-spec : {M : Type 1} → statement M
 byte-spec =
     tie.close
     (tie.spec
-    answered-requires
+    (λ c κs. search needs)
     returns
-    fits-requires
-    keep-requires
+    (λ c κs. search needs)
+    (λ c κs. search needs)
     returns-2
-    starts-requires
-    start-requires
+    (λ c κs. search needs)
+    (λ c κs. search needs)
     returns-3
     lose-requires
     returns-4)

@@ -10,9 +10,6 @@ use Rattle.reader.proofs.Reader.counted.Tie as tie
 returns : tie.Need-returns
 returns c = rw (c .reading .ensures, ne-eqb _ _ (c .before .if1 .taken))
 
-enum-told : tie.Need-enum-told
-enum-told c = search needs
-
 returns-2 : tie.Need-returns-2
 returns-2 c = rw (c .reading4 .ensures, c .before .before .before .before .before .before .if1 .left, c .before .before .before .answer2 .given .1, lt-leb _ _ (c .before .if2 .taken))
 
@@ -32,7 +29,7 @@ counted-spec =
     (tie.spec
     (λ c κs. search needs)
     returns
-    enum-told
+    (λ c. search needs)
     (λ c κs. search needs)
     (λ c. search needs)
     (λ c. search needs)

@@ -8,23 +8,8 @@ use Rattle.wire.proofs.Letters.{at-most-five}
 use Rattle.reader.proofs.Reader.keep.Statement.{statement}
 use Rattle.reader.proofs.Reader.keep.Tie as tie
 
-cast-at : tie.Need-cast-at
-cast-at c = search needs
-
 element-write-self : tie.Need-element-write-self
 element-write-self c = omega (arith, at-most-five (c .args .t1 .format))
-
-add-if1 : tie.Need-add-if1
-add-if1 c = search needs
-
-report-of-requires : tie.Need-report-of-requires
-report-of-requires c κs = search needs
-
-no-bytes-requires : tie.Need-no-bytes-requires
-no-bytes-requires c κs = search needs
-
-answered-requires : tie.Need-answered-requires
-answered-requires c κs = search needs
 
 returns : tie.Need-returns
 unfolding keep
@@ -35,9 +20,6 @@ returns c = let b = c .before .before .before .before in
 add-self : tie.Need-add-self
 add-self c = omega (arith, at-most-five (c .before .args .t1 .format))
 
-answered-requires-2 : tie.Need-answered-requires-2
-answered-requires-2 c κs = search needs
-
 returns-2 : tie.Need-returns-2
 unfolding keep
 returns-2 c = let b = c .before in
@@ -47,13 +29,13 @@ pub keep-spec : {M : Type 1} → statement M
 keep-spec =
     tie.close
     (tie.spec
-    cast-at
+    (λ c. search needs)
     element-write-self
-    add-if1
-    report-of-requires
-    no-bytes-requires
-    answered-requires
+    (λ c. search needs)
+    (λ c κs. search needs)
+    (λ c κs. search needs)
+    (λ c κs. search needs)
     returns
     add-self
-    answered-requires-2
+    (λ c κs. search needs)
     returns-2)

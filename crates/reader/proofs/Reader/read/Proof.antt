@@ -7,18 +7,9 @@ use Rattle.reader.proofs.Parts.{sized}
 use Rattle.reader.proofs.Reader.read.Statement.{statement}
 use Rattle.reader.proofs.Reader.read.Tie as tie
 
-good-requires : tie.Need-good-requires
-good-requires c κs = search needs
-
 returns : tie.Need-returns
 unfolding call
 returns c = simp (sym (c .before .good2 .ensures) ∙ not-true _ (c .if1 .taken))
-
-size-requires : tie.Need-size-requires
-size-requires c κs = search needs
-
-marked-requires : tie.Need-marked-requires
-marked-requires c κs = search needs
 
 line-requires : tie.Need-line-requires
 line-requires c κs = let m = c .before in
@@ -27,13 +18,10 @@ line-requires c κs = let m = c .before in
     let sound = sym (g .before .good2 .ensures) ∙ not-false _ (g .if1 .left) in
     sized (g .before .before .before .args .self) sound (z .size .ensures) (m .marked .ensures)
 
-same-length : tie.Need-same-length
-same-length c = search needs
-
 returns-2 : tie.Need-returns-2
 unfolding call
 returns-2 c = let b = c .before .before .before .before .before in
     simp (sym (b .before .good2 .ensures) ∙ not-false _ (b .if1 .left)) (c .before .line .ensures)
 
 pub read-spec : {M : Type 1} → statement M
-read-spec = tie.close (tie.spec good-requires returns size-requires marked-requires line-requires same-length returns-2)
+read-spec = tie.close (tie.spec (λ c κs. search needs) returns (λ c κs. search needs) (λ c κs. search needs) line-requires (λ c. search needs) returns-2)

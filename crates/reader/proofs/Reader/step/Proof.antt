@@ -6,12 +6,6 @@ use Rattle.reader.specs.Promises.{outcome, stepOf}
 use Rattle.reader.proofs.Reader.step.Statement.{statement}
 use Rattle.reader.proofs.Reader.step.Tie as tie
 
-good-requires : tie.Need-good-requires
-good-requires c κs = search needs
-
-refusing-requires : tie.Need-refusing-requires
-refusing-requires c κs = search needs
-
 returns : tie.Need-returns
 unfolding stepOf
 returns c = simp (sym (c .before .before .good2 .ensures) ∙ not-true _ (c .before .if1 .taken)) (ap outcome (c .refusing .ensures))
@@ -25,4 +19,4 @@ returns-2 c = let g = c .before in
     simp (sym (g .before .good2 .ensures) ∙ not-false _ (g .if1 .left)) (ap outcome (c .heard .ensures))
 
 pub step-spec : {M : Type 1} → statement M
-step-spec = tie.close (tie.spec good-requires refusing-requires returns heard-requires returns-2)
+step-spec = tie.close (tie.spec (λ c κs. search needs) (λ c κs. search needs) returns heard-requires returns-2)

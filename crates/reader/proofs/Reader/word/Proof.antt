@@ -6,27 +6,9 @@ use Rattle.reader.specs.Rules.{breakOf, silenceOf, wordOf}
 use Rattle.reader.proofs.Reader.word.Statement.{statement}
 use Rattle.reader.proofs.Reader.word.Tie as tie
 
-cast-entered : tie.Need-cast-entered
-cast-entered c = search needs
-
-entered-requires : tie.Need-entered-requires
-entered-requires c κs = search needs
-
-byte-requires : tie.Need-byte-requires
-byte-requires c κs = search needs
-
 returns : tie.Need-returns
 unfolding wordOf
 returns c = simp (le-leb _ _ (c .before .before .if1 .taken)) (rw (c .before .entered .ensures, c .before .before .before .pre .0) at (c .byte .ensures))
-
-pause-requires : tie.Need-pause-requires
-pause-requires c κs = search needs
-
-pause-requires-2 : tie.Need-pause-requires-2
-pause-requires-2 c κs = search needs
-
-refusing-requires : tie.Need-refusing-requires
-refusing-requires c κs = search needs
 
 returns-2 : tie.Need-returns-2
 unfolding wordOf breakOf
@@ -45,13 +27,13 @@ pub word-spec : {M : Type 1} → statement M
 word-spec =
     tie.close
     (tie.spec
-    cast-entered
-    entered-requires
-    byte-requires
+    (λ c. search needs)
+    (λ c κs. search needs)
+    (λ c κs. search needs)
     returns
-    pause-requires
-    pause-requires-2
-    refusing-requires
+    (λ c κs. search needs)
+    (λ c κs. search needs)
+    (λ c κs. search needs)
     returns-2
     returns-3
     returns-4)

@@ -3,14 +3,8 @@ use borrow.Author.Needs.{needs}
 use Rattle.reader.proofs.whole.fits.Statement.{statement}
 use Rattle.reader.proofs.whole.fits.Tie as tie
 
-byte-of-requires : tie.Need-byte-of-requires
-byte-of-requires c κs = search needs
-
-fits-requires : tie.Need-fits-requires
-fits-requires c κs = search needs
-
 returns : tie.Need-returns
 returns c = rw (c .fits2 .ensures, c .before .byte-of .ensures)
 
 pub fits-spec : {M : Type 1} → statement M
-fits-spec = tie.close (tie.spec byte-of-requires fits-requires returns)
+fits-spec = tie.close (tie.spec (λ c κs. search needs) (λ c κs. search needs) returns)

@@ -8,20 +8,11 @@ use Rattle.reader.proofs.whole.front.Tie as tie
 shared-slice-read-byte-of : tie.Need-shared-slice-read-byte-of
 shared-slice-read-byte-of c = let s = c .before .before in omega (arith, three-or-more (s .pre .0), s .pre .1)
 
-byte-of-requires : tie.Need-byte-of-requires
-byte-of-requires c κs = search needs
-
 shared-slice-read-byte-of-2 : tie.Need-shared-slice-read-byte-of-2
 shared-slice-read-byte-of-2 c = let s = c .before .before .before .before in omega (arith, three-or-more (s .pre .0), s .pre .1)
 
-byte-of-requires-2 : tie.Need-byte-of-requires-2
-byte-of-requires-2 c κs = search needs
-
 shared-slice-read-byte-of-3 : tie.Need-shared-slice-read-byte-of-3
 shared-slice-read-byte-of-3 c = let s = c .before .before .before .before .before .before in omega (arith, three-or-more (s .pre .0), s .pre .1)
-
-byte-of-requires-3 : tie.Need-byte-of-requires-3
-byte-of-requires-3 c κs = search needs
 
 returns : tie.Need-returns
 returns c = rw (c .if1 .taken, c .before .before .before .before .before .byte-of .ensures, c .before .before .before .byte-of2 .ensures, c .before .byte-of3 .ensures)
@@ -29,14 +20,8 @@ returns c = rw (c .if1 .taken, c .before .before .before .before .before .byte-o
 shared-slice-read-byte-of-4 : tie.Need-shared-slice-read-byte-of-4
 shared-slice-read-byte-of-4 c = let s = c .before .before .before .before .before .before .before .before .before in omega (arith, or-five (s .pre .0) (c .before .if1 .left), s .pre .1)
 
-byte-of-requires-4 : tie.Need-byte-of-requires-4
-byte-of-requires-4 c κs = search needs
-
 shared-slice-read-byte-of-5 : tie.Need-shared-slice-read-byte-of-5
 shared-slice-read-byte-of-5 c = let s = c .before .before .before .before .before .before .before .before .before .before .before in omega (arith, or-five (s .pre .0) (c .before .before .before .if1 .left), s .pre .1)
-
-byte-of-requires-5 : tie.Need-byte-of-requires-5
-byte-of-requires-5 c κs = search needs
 
 returns-2 : tie.Need-returns-2
 returns-2 c = let s = c .before .before .before .before .before .before .before .before .before .before .before .before in
@@ -47,14 +32,14 @@ front-spec =
     tie.close
     (tie.spec
     shared-slice-read-byte-of
-    byte-of-requires
+    (λ c κs. search needs)
     shared-slice-read-byte-of-2
-    byte-of-requires-2
+    (λ c κs. search needs)
     shared-slice-read-byte-of-3
-    byte-of-requires-3
+    (λ c κs. search needs)
     returns
     shared-slice-read-byte-of-4
-    byte-of-requires-4
+    (λ c κs. search needs)
     shared-slice-read-byte-of-5
-    byte-of-requires-5
+    (λ c κs. search needs)
     returns-2)

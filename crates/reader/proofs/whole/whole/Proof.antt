@@ -29,9 +29,6 @@ module _ (letter size : ℕ) (words : List ℕ) where
 shared-slice-read-fits : tie.Need-shared-slice-read-fits
 shared-slice-read-fits c = let s = c .before .before in omega (arith, three-or-more (s .pre .0), s .pre .1)
 
-fits-requires : tie.Need-fits-requires
-fits-requires c κs = search needs
-
 returns : tie.Need-returns
 returns c = let s = c .before .before .before .before in
     none (s .args .letter) (s .args .size) (now (s .args .words)) (s .pre .0) (sym (c .before .fits2 .ensures) ∙ not-true _ (c .if1 .taken))
@@ -39,14 +36,8 @@ returns c = let s = c .before .before .before .before in
 shared-slice-read-fits-2 : tie.Need-shared-slice-read-fits-2
 shared-slice-read-fits-2 c = let s = c .before .before .before .before .before in omega (arith, three-or-more (s .pre .0), s .pre .1)
 
-fits-requires-2 : tie.Need-fits-requires-2
-fits-requires-2 c κs = search needs
-
 shared-slice-read-fits-3 : tie.Need-shared-slice-read-fits-3
 shared-slice-read-fits-3 c = let s = c .before .before .before .before .before .before .before in omega (arith, three-or-more (s .pre .0), s .pre .1)
-
-fits-requires-3 : tie.Need-fits-requires-3
-fits-requires-3 c κs = search needs
 
 returns-2 : tie.Need-returns-2
 returns-2 c = let s = c .before .before .before .before .before .before .before .before .before in
@@ -56,14 +47,8 @@ returns-2 c = let s = c .before .before .before .before .before .before .before 
 shared-slice-read-fits-4 : tie.Need-shared-slice-read-fits-4
 shared-slice-read-fits-4 c = let s = c .before .before .before .before .before .before .before .before .before .before in omega (arith, or-five (s .pre .0) (c .before .if2 .left), s .pre .1)
 
-fits-requires-4 : tie.Need-fits-requires-4
-fits-requires-4 c κs = search needs
-
 shared-slice-read-fits-5 : tie.Need-shared-slice-read-fits-5
 shared-slice-read-fits-5 c = let s = c .before .before .before .before .before .before .before .before .before .before .before .before in omega (arith, or-five (s .pre .0) (c .before .before .before .if2 .left), s .pre .1)
-
-fits-requires-5 : tie.Need-fits-requires-5
-fits-requires-5 c κs = search needs
 
 returns-3 : tie.Need-returns-3
 returns-3 c = let s = c .before .before .before .before .before .before .before .before .before .before .before .before .before in
@@ -75,15 +60,15 @@ whole-spec =
     tie.close
     (tie.spec
     shared-slice-read-fits
-    fits-requires
+    (λ c κs. search needs)
     returns
     shared-slice-read-fits-2
-    fits-requires-2
+    (λ c κs. search needs)
     shared-slice-read-fits-3
-    fits-requires-3
+    (λ c κs. search needs)
     returns-2
     shared-slice-read-fits-4
-    fits-requires-4
+    (λ c κs. search needs)
     shared-slice-read-fits-5
-    fits-requires-5
+    (λ c κs. search needs)
     returns-3)

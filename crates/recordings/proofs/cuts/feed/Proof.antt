@@ -7,28 +7,13 @@ use Rattle.listing.proofs.Calls.{feed-within}
 use Rattle.recordings.proofs.cuts.feed.Statement.{statement}
 use Rattle.recordings.proofs.cuts.feed.Tie as tie
 
-least-requires : tie.Need-least-requires
-least-requires c κs = search needs
-
-least-requires-2 : tie.Need-least-requires-2
-least-requires-2 c κs = search needs
-
 slice-aggregate-feed : tie.Need-slice-aggregate-feed
 slice-aggregate-feed c =
     sym (length-take-le (c .before .before .least .result) (c .before .before .before .before .before .args .input .now) (search needs))
 
-slice-relend-prefix-feed : tie.Need-slice-relend-prefix-feed
-slice-relend-prefix-feed c = search needs
-
 slice-aggregate-feed-2 : tie.Need-slice-aggregate-feed-2
 slice-aggregate-feed-2 c =
     sym (length-take-le (c .before .before .least2 .result) (c .before .before .before .before .before .before .args .out .now) (search needs))
-
-feed-requires : tie.Need-feed-requires
-feed-requires c κs = search needs
-
-same-length : tie.Need-same-length
-same-length c = search needs
 
 returns : tie.Need-returns
 returns c =
@@ -42,11 +27,11 @@ pub feed-spec : {M : Type 1} → statement M
 feed-spec =
     tie.close
     (tie.spec
-    least-requires
-    least-requires-2
+    (λ c κs. search needs)
+    (λ c κs. search needs)
     slice-aggregate-feed
-    slice-relend-prefix-feed
+    (λ c. search needs)
     slice-aggregate-feed-2
-    feed-requires
-    same-length
+    (λ c κs. search needs)
+    (λ c. search needs)
     returns)

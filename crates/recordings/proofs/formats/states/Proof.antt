@@ -13,27 +13,6 @@ Inv-loop out₀ letter x1 y1 x2 y2 n₀ buttons₀ out n buttons = (length out �
 abbrev μ-loop : tie.MeasureT-loop
 μ-loop out₀ letter x1 y1 x2 y2 n₀ buttons₀ out n buttons = 8 - buttons
 
-opening-requires : tie.Need-opening-requires Inv-loop μ-loop
-opening-requires c κs = search needs
-
-loop-holds : tie.Need-loop-holds Inv-loop μ-loop
-loop-holds c = search needs
-
-report-requires : tie.Need-report-requires Inv-loop μ-loop
-report-requires c κs = search needs
-
-add-buttons : tie.Need-add-buttons Inv-loop μ-loop
-add-buttons c = search needs
-
-loop-less : tie.Need-loop-less Inv-loop μ-loop
-loop-less c = search needs
-
-loop-again : tie.Need-loop-again Inv-loop μ-loop
-loop-again c = search needs
-
-same-length : tie.Need-same-length Inv-loop μ-loop
-same-length c = search needs
-
 returns : tie.Need-returns Inv-loop μ-loop
 returns c = counts _ _ (search needs)
 
@@ -43,11 +22,11 @@ states-spec =
     (tie.spec
     Inv-loop
     μ-loop
-    opening-requires
-    loop-holds
-    report-requires
-    add-buttons
-    loop-less
-    loop-again
-    same-length
+    (λ c κs. search needs)
+    (λ c. search needs)
+    (λ c κs. search needs)
+    (λ c. search needs)
+    (λ c. search needs)
+    (λ c. search needs)
+    (λ c. search needs)
     returns)

@@ -3,11 +3,8 @@ use borrow.Author.Needs.{needs}
 use Rattle.replies.proofs.Awaited.below.Statement.{statement}
 use Rattle.replies.proofs.Awaited.below.Tie as tie
 
-size-requires : tie.Need-size-requires
-size-requires c κs = search needs
-
 returns : tie.Need-returns
 returns c = rw (c .before .size .ensures)
 
 pub below-spec : {M : Type 1} → statement M
-below-spec = tie.close (tie.spec size-requires returns)
+below-spec = tie.close (tie.spec (λ c κs. search needs) returns)

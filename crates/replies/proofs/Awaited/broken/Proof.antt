@@ -5,9 +5,6 @@ use Rattle.replies.specs.Replying.{broken}
 use Rattle.replies.proofs.Awaited.broken.Statement.{statement}
 use Rattle.replies.proofs.Awaited.broken.Tie as tie
 
-is-none-requires : tie.Need-is-none-requires
-is-none-requires c κs = search needs
-
 returns : tie.Need-returns
 unfolding broken
 returns c = simp (sym (c .before .is-none .ensures) ∙ c .if1 .taken)
@@ -17,4 +14,4 @@ unfolding broken
 returns-2 c = simp (sym (c .before .is-none .ensures) ∙ c .if1 .left)
 
 pub broken-spec : {M : Type 1} → statement M
-broken-spec = tie.close (tie.spec is-none-requires returns returns-2)
+broken-spec = tie.close (tie.spec (λ c κs. search needs) returns returns-2)

@@ -5,9 +5,6 @@ use Rattle.replies.specs.Replying.{placed}
 use Rattle.replies.proofs.Awaited.holds.Statement.{statement}
 use Rattle.replies.proofs.Awaited.holds.Tie as tie
 
-fits-requires : tie.Need-fits-requires
-fits-requires c κs = search needs
-
 returns : tie.Need-returns
 unfolding placed
 returns c = simp (lt-ltb _ _ (c .before .if1 .taken)) (c .fits2 .ensures)
@@ -17,4 +14,4 @@ unfolding placed
 returns-2 c = simp (le-ltb _ _ (c .if1 .left))
 
 pub holds-spec : {M : Type 1} → statement M
-holds-spec = tie.close (tie.spec fits-requires returns returns-2)
+holds-spec = tie.close (tie.spec (λ c κs. search needs) returns returns-2)

@@ -21,39 +21,9 @@ abbrev μ-loop : tie.MeasureT-loop
 loop-holds : tie.Need-loop-holds Inv-loop μ-loop
 loop-holds c = (rw (zero-add (frontOf (c .before .args .self) (c .before .args .words .now) .taken)), omega arith)
 
-mul-word : tie.Need-mul-word Inv-loop μ-loop
-mul-word c = omega arith
-
-shared-slice-read-word : tie.Need-shared-slice-read-word Inv-loop μ-loop
-shared-slice-read-word c = omega arith
-
-continues-requires : tie.Need-continues-requires Inv-loop μ-loop
-continues-requires c κs = search needs
-
-at-front-requires : tie.Need-at-front-requires Inv-loop μ-loop
-at-front-requires c κs = search needs
-
 returns : tie.Need-returns Inv-loop μ-loop
 returns c = let l = c .before .before .before .before .before .loop in
     rw (c .at-front .ensures) (sym (l .inv .0 ∙ not-its (l .awaited) (c .before .before .before .before .before .before .before .args .words .now) (l .at) (omega arith) (sym (c .before .before .continues .ensures) ∙ not-true _ (c .before .if1 .taken))))
-
-cast-byte : tie.Need-cast-byte Inv-loop μ-loop
-cast-byte c = search needs
-
-add-at : tie.Need-add-at Inv-loop μ-loop
-add-at c = omega arith
-
-finishes-requires : tie.Need-finishes-requires Inv-loop μ-loop
-finishes-requires c κs = search needs
-
-nothing-requires : tie.Need-nothing-requires Inv-loop μ-loop
-nothing-requires c κs = search needs
-
-told-requires : tie.Need-told-requires Inv-loop μ-loop
-told-requires c κs = search needs
-
-at-front-requires-2 : tie.Need-at-front-requires-2 Inv-loop μ-loop
-at-front-requires-2 c κs = search needs
 
 returns-2 : tie.Need-returns-2 Inv-loop μ-loop
 returns-2 c = let l = c .before .before .before .before .before .before .before .before .before .loop in
@@ -61,19 +31,10 @@ returns-2 c = let l = c .before .before .before .before .before .before .before 
     rw (c .at-front2 .ensures, c .before .told .ensures, c .before .before .nothing .ensures, byte-same (l .awaited) _ e)
     (sym (l .inv .0 ∙ its-last (l .awaited) (c .before .before .before .before .before .before .before .before .before .before .before .args .words .now) (l .at) (omega arith) e (sym (c .before .before .before .before .finishes .ensures) ∙ c .before .before .before .if2 .taken)))
 
-more-requires : tie.Need-more-requires Inv-loop μ-loop
-more-requires c κs = search needs
-
-loop-less : tie.Need-loop-less Inv-loop μ-loop
-loop-less c = omega arith
-
 loop-again : tie.Need-loop-again Inv-loop μ-loop
 loop-again c = let l = c .before .before .before .before .before .before .before .loop in
     let e = sym (c .before .before .before .before .continues .ensures) ∙ not-false _ (c .before .before .before .if1 .left) in
     (rw (c .more .ensures, byte-same (l .awaited) _ e) (l .inv .0 ∙ its-next (l .awaited) (c .before .before .before .before .before .before .before .before .before .args .words .now) (l .at) (omega arith) e (sym (c .before .before .finishes .ensures) ∙ c .before .if2 .left)), omega arith)
-
-at-front-requires-3 : tie.Need-at-front-requires-3 Inv-loop μ-loop
-at-front-requires-3 c κs = search needs
 
 returns-3 : tie.Need-returns-3 Inv-loop μ-loop
 returns-3 c = let l = c .before .before .loop in
@@ -86,20 +47,20 @@ over-spec =
     Inv-loop
     μ-loop
     loop-holds
-    mul-word
-    shared-slice-read-word
-    continues-requires
-    at-front-requires
+    (λ c. omega arith)
+    (λ c. omega arith)
+    (λ c κs. search needs)
+    (λ c κs. search needs)
     returns
-    cast-byte
-    add-at
-    finishes-requires
-    nothing-requires
-    told-requires
-    at-front-requires-2
+    (λ c. search needs)
+    (λ c. omega arith)
+    (λ c κs. search needs)
+    (λ c κs. search needs)
+    (λ c κs. search needs)
+    (λ c κs. search needs)
     returns-2
-    more-requires
-    loop-less
+    (λ c κs. search needs)
+    (λ c. omega arith)
     loop-again
-    at-front-requires-3
+    (λ c κs. search needs)
     returns-3)

@@ -9,18 +9,6 @@ returns : tie.Need-returns
 unfolding closed
 returns c = rw (c .if1 .taken)
 
-nothing-requires : tie.Need-nothing-requires
-nothing-requires c κs = search needs
-
-broken-requires : tie.Need-broken-requires
-broken-requires c κs = search needs
-
-or-else-requires : tie.Need-or-else-requires
-or-else-requires c κs = search needs
-
-at-front-requires : tie.Need-at-front-requires
-at-front-requires c κs = search needs
-
 returns-2 : tie.Need-returns-2
 unfolding closed
 returns-2 c = simp (ne-eqb _ 0 (c .before .before .before .before .if1 .left)) (rw (c .before .or-else .ensures, c .before .before .broken .ensures, c .before .before .before .nothing .ensures) at (c .at-front .ensures))
@@ -30,8 +18,8 @@ closed-spec =
     tie.close
     (tie.spec
     returns
-    nothing-requires
-    broken-requires
-    or-else-requires
-    at-front-requires
+    (λ c κs. search needs)
+    (λ c κs. search needs)
+    (λ c κs. search needs)
+    (λ c κs. search needs)
     returns-2)

@@ -12,9 +12,6 @@ use Rattle.replies.proofs.Lines.{assembled, line-front}
 use Rattle.replies.proofs.ToldReader.line.Statement.{statement}
 use Rattle.replies.proofs.ToldReader.line.Tie as tie
 
-over-requires : tie.Need-over-requires
-over-requires c κs = search needs
-
 mul-read : tie.Need-mul-read
 mul-read c = let a = c .before .before .before .before in
     let short : c .over .result .taken ≤ length (a .args .words .now) = rw (c .over .ensures) (front-within (a .args .words .now) (a .args .self .awaited)) in
@@ -26,15 +23,6 @@ sub-read c = rw (c .over .ensures) (front-within (c .before .before .before .bef
 part-read-start : tie.Need-part-read-start
 part-read-start c = rw (c .over .ensures) (front-within (c .before .before .before .before .args .words .now) (c .before .before .before .before .args .self .awaited))
 
-part-read-end : tie.Need-part-read-end
-part-read-end c = search needs
-
-read-requires : tie.Need-read-requires
-read-requires c κs = search needs
-
-closed-requires : tie.Need-closed-requires
-closed-requires c κs = search needs
-
 add-t13 : tie.Need-add-t13
 add-t13 c = let a = c .before .before .before .before .before .before .before .before .before .before .before .before in
     let o = c .before .before .before .before .before .before .before .before .over in
@@ -42,9 +30,6 @@ add-t13 c = let a = c .before .before .before .before .before .before .before .b
     let r = c .before .before .before .before .before .read in
     let some = rw (rest-is (a .args .words .now) (o .result .taken), length-drop) at (within _ _ _ _ _ (r .ensures) .some) in
     omega (arith, short, some, a .good .1 .0 .1)
-
-same-length : tie.Need-same-length
-same-length c = search needs
 
 returns : tie.Need-returns
 returns c = let a = c .before .before .before .before .before .before .before .before .before .before .before .before in
@@ -59,13 +44,13 @@ pub line-spec : {M : Type 1} → statement M
 line-spec =
     tie.close
     (tie.spec
-    over-requires
+    (λ c κs. search needs)
     mul-read
     sub-read
     part-read-start
-    part-read-end
-    read-requires
-    closed-requires
+    (λ c. search needs)
+    (λ c κs. search needs)
+    (λ c κs. search needs)
     add-t13
-    same-length
+    (λ c. search needs)
     returns)

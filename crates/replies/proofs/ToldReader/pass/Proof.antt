@@ -6,27 +6,12 @@ use Rattle.replies.specs.Rules.{pass}
 use Rattle.replies.proofs.ToldReader.pass.Statement.{statement}
 use Rattle.replies.proofs.ToldReader.pass.Tie as tie
 
-step-requires : tie.Need-step-requires
-step-requires c κs = search needs
-
-refusing-requires : tie.Need-refusing-requires
-refusing-requires c κs = search needs
-
 returns : tie.Need-returns
 unfolding pass
 returns c = let s = c .before .before .before in
     let a = s .before .before .args in
     let i = step-is (a .self .reader) (a .word) (s .step .result) (s .step .ensures) in
     rw (← i) (simp (ne-eqb _ 0 (c .before .if1 .taken)) (c .refusing .ensures))
-
-nothing-requires : tie.Need-nothing-requires
-nothing-requires c κs = search needs
-
-broken-requires : tie.Need-broken-requires
-broken-requires c κs = search needs
-
-heard-requires : tie.Need-heard-requires
-heard-requires c κs = search needs
 
 returns-2 : tie.Need-returns-2
 unfolding pass
@@ -39,10 +24,10 @@ pub pass-spec : {M : Type 1} → statement M
 pass-spec =
     tie.close
     (tie.spec
-    step-requires
-    refusing-requires
+    (λ c κs. search needs)
+    (λ c κs. search needs)
     returns
-    nothing-requires
-    broken-requires
-    heard-requires
+    (λ c κs. search needs)
+    (λ c κs. search needs)
+    (λ c κs. search needs)
     returns-2)

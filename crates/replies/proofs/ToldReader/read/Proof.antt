@@ -11,9 +11,6 @@ use Rattle.fold.specs.Calls.{call}
 use Rattle.replies.proofs.ToldReader.read.Statement.{statement}
 use Rattle.replies.proofs.ToldReader.read.Tie as tie
 
-good-requires : tie.Need-good-requires
-good-requires c κs = search needs
-
 returns : tie.Need-returns
 unfolding call
 returns c = simp (sym (c .before .good2 .ensures) ∙ not-true _ (c .if1 .taken))
@@ -23,13 +20,10 @@ unfolding good
 line-requires c κs = let s = c .before .before .before .before .args .self in
     left (readers.good (s .reader)) (replying.good (s .awaited)) (sym (c .before .before .good2 .ensures) ∙ not-false _ (c .before .if1 .left))
 
-same-length : tie.Need-same-length
-same-length c = search needs
-
 returns-2 : tie.Need-returns-2
 unfolding call
 returns-2 c = let b = c .before .before .before in
     simp (sym (b .before .good2 .ensures) ∙ not-false _ (b .if1 .left)) (ap promises.left (c .before .line .ensures))
 
 pub read-spec : {M : Type 1} → statement M
-read-spec = tie.close (tie.spec good-requires returns line-requires same-length returns-2)
+read-spec = tie.close (tie.spec (λ c κs. search needs) returns line-requires (λ c. search needs) returns-2)

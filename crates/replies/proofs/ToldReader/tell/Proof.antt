@@ -6,21 +6,9 @@ use Rattle.replies.specs.Promises.{tellOf}
 use Rattle.replies.proofs.ToldReader.tell.Statement.{statement}
 use Rattle.replies.proofs.ToldReader.tell.Tie as tie
 
-kind-of-requires : tie.Need-kind-of-requires
-kind-of-requires c κs = search needs
-
-awaiting-requires : tie.Need-awaiting-requires
-awaiting-requires c κs = search needs
-
-good-requires : tie.Need-good-requires
-good-requires c κs = search needs
-
 returns : tie.Need-returns
 unfolding tellOf
 returns c = simp (sym (c .before .good2 .ensures) ∙ not-true _ (c .if1 .taken))
-
-is-none-requires : tie.Need-is-none-requires
-is-none-requires c κs = search needs
 
 returns-2 : tie.Need-returns-2
 unfolding tellOf
@@ -37,10 +25,10 @@ pub tell-spec : {M : Type 1} → statement M
 tell-spec =
     tie.close
     (tie.spec
-    kind-of-requires
-    awaiting-requires
-    good-requires
+    (λ c κs. search needs)
+    (λ c κs. search needs)
+    (λ c κs. search needs)
     returns
-    is-none-requires
+    (λ c κs. search needs)
     returns-2
     returns-3)

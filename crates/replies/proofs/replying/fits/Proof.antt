@@ -4,27 +4,6 @@ use Rattle.replies.specs.Replying.{fits}
 use Rattle.replies.proofs.replying.fits.Statement.{statement}
 use Rattle.replies.proofs.replying.fits.Tie as tie
 
-enum-told : tie.Need-enum-told
-enum-told c = search needs
-
-enum-told-2 : tie.Need-enum-told-2
-enum-told-2 c = search needs
-
-enum-told-3 : tie.Need-enum-told-3
-enum-told-3 c = search needs
-
-letter-of-code-requires : tie.Need-letter-of-code-requires
-letter-of-code-requires c κs = search needs
-
-enum-told-4 : tie.Need-enum-told-4
-enum-told-4 c = search needs
-
-letter-fits-requires : tie.Need-letter-fits-requires
-letter-fits-requires c κs = search needs
-
-enum-told-5 : tie.Need-enum-told-5
-enum-told-5 c = search needs
-
 returns : tie.Need-returns
 unfolding fits
 returns c = rw (c .enum-told .given .1)
@@ -49,13 +28,13 @@ pub fits-spec : {M : Type 1} → statement M
 fits-spec =
     tie.close
     (tie.spec
-    enum-told
-    enum-told-2
-    enum-told-3
-    letter-of-code-requires
-    enum-told-4
-    letter-fits-requires
-    enum-told-5
+    (λ c. search needs)
+    (λ c. search needs)
+    (λ c. search needs)
+    (λ c κs. search needs)
+    (λ c. search needs)
+    (λ c κs. search needs)
+    (λ c. search needs)
     returns
     returns-2
     returns-3

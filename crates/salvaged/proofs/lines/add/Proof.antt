@@ -16,12 +16,6 @@ use Rattle.salvaged.proofs.lines.add.Tie as tie
 returns : tie.Need-returns
 returns c = let a = c .before .before .before .args in text-behind (a .told) (a .out .now) (a .line) (not-true _ (c .if1 .taken))
 
-put-requires : tie.Need-put-requires
-put-requires c κs = search needs
-
-same-length : tie.Need-same-length
-same-length c = search needs
-
 returns-2 : tie.Need-returns-2
 returns-2 c =
     let a = c .before .before .before .before .before .before .before .before .args in
@@ -35,9 +29,6 @@ add-t9 c =
     let f : fitsAt (a .line) (a .told .written) (a .out .now) ≡ true = sym (c .before .before .before .before .put .ensures .0) ∙ not-false _ (c .before .if2 .left) in
     omega (arith, leb-true (a .told .written + a .line .len) (length (a .out .now)) (right (leb (a .line .len) 40) (leb (a .told .written + a .line .len) (length (a .out .now))) f))
 
-same-length-2 : tie.Need-same-length-2
-same-length-2 c = search needs
-
 returns-3 : tie.Need-returns-3
 returns-3 c =
     let a = c .before .before .before .before .before .before .before .before .before .args in
@@ -46,4 +37,4 @@ returns-3 c =
 
 pub add-spec : {M : Type 1} → statement M
 add-spec =
-    tie.close (tie.spec returns put-requires same-length returns-2 add-t9 same-length-2 returns-3)
+    tie.close (tie.spec returns (λ c κs. search needs) (λ c. search needs) returns-2 add-t9 (λ c. search needs) returns-3)

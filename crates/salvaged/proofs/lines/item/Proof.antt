@@ -7,15 +7,6 @@ use borrow.Author.Needs.{needs}
 use Rattle.salvaged.proofs.lines.item.Statement.{statement}
 use Rattle.salvaged.proofs.lines.item.Tie as tie
 
-line-requires : tie.Need-line-requires
-line-requires c κs = search needs
-
-add-requires : tie.Need-add-requires
-add-requires c κs = search needs
-
-same-length : tie.Need-same-length
-same-length c = search needs
-
 returns : tie.Need-returns
 returns c =
     let s = c .before .before .before .before .before .before in
@@ -23,4 +14,4 @@ returns c =
     c .before .before .add .ensures (lineOf width (formOf i)) (c .before .before .before .before .line .ensures) (omega (arith, few-form (formOf i) (s .pre), most-item i))
 
 pub item-spec : {M : Type 1} → statement M
-item-spec = tie.close (tie.spec line-requires add-requires same-length returns)
+item-spec = tie.close (tie.spec (λ c κs. search needs) (λ c κs. search needs) (λ c. search needs) returns)

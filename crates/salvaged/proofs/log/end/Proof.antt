@@ -4,20 +4,11 @@ use borrow.Author.Needs.{needs}
 use Rattle.salvaged.proofs.log.end.Statement.{statement}
 use Rattle.salvaged.proofs.log.end.Tie as tie
 
-closed-requires : tie.Need-closed-requires
-closed-requires c κs = search needs
-
 hear-requires : tie.Need-hear-requires
 hear-requires c κs = (c .before .before .before .pre, rw (c .before .closed .ensures) (closed-numbered (c .before .before .before .args .scanner)))
 
-end-requires : tie.Need-end-requires
-end-requires c κs = search needs
-
 hear-requires-2 : tie.Need-hear-requires-2
 hear-requires-2 c κs = (c .before .before .before .before .before .hear .ensures .fine, rw (c .before .end .ensures) (end-numbered _))
-
-same-length : tie.Need-same-length
-same-length c = search needs
 
 returns : tie.Need-returns
 returns c =
@@ -29,4 +20,4 @@ returns c =
 pub end-spec : {M : Type 1} → statement M
 end-spec =
     tie.close
-    (tie.spec closed-requires hear-requires end-requires hear-requires-2 same-length returns)
+    (tie.spec (λ c κs. search needs) hear-requires (λ c κs. search needs) hear-requires-2 (λ c. search needs) returns)

@@ -5,9 +5,6 @@ use borrow.Author.Needs.{needs}
 use Rattle.salvaged.proofs.log.marked.Statement.{statement}
 use Rattle.salvaged.proofs.log.marked.Tie as tie
 
-marked-requires : tie.Need-marked-requires
-marked-requires c κs = search needs
-
 returns : tie.Need-returns
 unfolding marked
 returns c = rw (sym (c .before .marked .ensures) ∙ c .if1 .taken)
@@ -17,4 +14,4 @@ unfolding marked
 returns-2 c = rw (sym (c .before .marked .ensures) ∙ c .if1 .left)
 
 pub marked-spec : {M : Type 1} → statement M
-marked-spec = tie.close (tie.spec marked-requires returns returns-2)
+marked-spec = tie.close (tie.spec (λ c κs. search needs) returns returns-2)

@@ -4,39 +4,6 @@ use borrow.Author.Needs.{needs}
 use Rattle.salvaged.proofs.log.news.Statement.{statement}
 use Rattle.salvaged.proofs.log.news.Tie as tie
 
-enum-told : tie.Need-enum-told
-enum-told c = search needs
-
-enum-known-found : tie.Need-enum-known-found
-enum-known-found c = search needs
-
-marked-requires : tie.Need-marked-requires
-marked-requires c κs = search needs
-
-made-requires : tie.Need-made-requires
-made-requires c κs = search needs
-
-enum-known-found-2 : tie.Need-enum-known-found-2
-enum-known-found-2 c = search needs
-
-word-requires : tie.Need-word-requires
-word-requires c κs = search needs
-
-enum-known-found-3 : tie.Need-enum-known-found-3
-enum-known-found-3 c = search needs
-
-made-requires-2 : tie.Need-made-requires-2
-made-requires-2 c κs = search needs
-
-enum-told-2 : tie.Need-enum-told-2
-enum-told-2 c = search needs
-
-made-requires-3 : tie.Need-made-requires-3
-made-requires-3 c κs = search needs
-
-enum-told-3 : tie.Need-enum-told-3
-enum-told-3 c = search needs
-
 returns : tie.Need-returns
 returns c = rw (c .enum-told .given .1) (as-it-was (c .before .before .before .pre .0))
 
@@ -44,9 +11,6 @@ returns-2 : tie.Need-returns-2
 returns-2 c =
     rw (c .before .before .before .found .given .1, c .made .ensures, c .before .marked .ensures)
     (beside (c .before .before .before .before .before .before .pre .0) _ _ (marked-short _))
-
-same-length : tie.Need-same-length
-same-length c = search needs
 
 returns-3 : tie.Need-returns-3
 returns-3 c = rw (c .before .before .before .before .before .found2 .given .1) (c .before .before .word .ensures)
@@ -66,20 +30,20 @@ pub news-spec : {M : Type 1} → statement M
 news-spec =
     tie.close
     (tie.spec
-    enum-told
-    enum-known-found
-    marked-requires
-    made-requires
-    enum-known-found-2
-    word-requires
-    enum-known-found-3
-    made-requires-2
-    enum-told-2
-    made-requires-3
-    enum-told-3
+    (λ c. search needs)
+    (λ c. search needs)
+    (λ c κs. search needs)
+    (λ c κs. search needs)
+    (λ c. search needs)
+    (λ c κs. search needs)
+    (λ c. search needs)
+    (λ c κs. search needs)
+    (λ c. search needs)
+    (λ c κs. search needs)
+    (λ c. search needs)
     returns
     returns-2
-    same-length
+    (λ c. search needs)
     returns-3
     returns-4
     returns-5

@@ -20,28 +20,13 @@ Inv-loop input words₀ scanner₀ log₀ at₀ words scanner log at =
 abbrev μ-loop : tie.MeasureT-loop
 μ-loop input words₀ scanner₀ log₀ at₀ words scanner log at = length input - at
 
-made-requires : tie.Need-made-requires Inv-loop μ-loop
-made-requires c κs = search needs
-
 loop-holds : tie.Need-loop-holds Inv-loop μ-loop
 loop-holds c = rw (c .made .ensures) (record { few = omega arith; long = c .before .before .before .pre; short = tt }, refl)
-
-shared-slice-read-byte : tie.Need-shared-slice-read-byte Inv-loop μ-loop
-shared-slice-read-byte c = search needs
-
-byte-requires : tie.Need-byte-requires Inv-loop μ-loop
-byte-requires c κs = search needs
 
 hear-requires : tie.Need-hear-requires Inv-loop μ-loop
 hear-requires c κs =
     let l = c .before .before .before .before .loop in
     (l .inv .0, rw (c .before .byte .ensures) (byte-numbered (l .scanner) _))
-
-add-at : tie.Need-add-at Inv-loop μ-loop
-add-at c = search needs
-
-loop-less : tie.Need-loop-less Inv-loop μ-loop
-loop-less c = search needs
 
 loop-again : tie.Need-loop-again Inv-loop μ-loop
 loop-again c =
@@ -53,9 +38,6 @@ loop-again c =
 
 end-requires : tie.Need-end-requires Inv-loop μ-loop
 end-requires c κs = c .before .before .loop .inv .0
-
-same-length : tie.Need-same-length Inv-loop μ-loop
-same-length c = search needs
 
 returns : tie.Need-returns Inv-loop μ-loop
 returns c =
@@ -71,14 +53,14 @@ read-spec =
     (tie.spec
     Inv-loop
     μ-loop
-    made-requires
+    (λ c κs. search needs)
     loop-holds
-    shared-slice-read-byte
-    byte-requires
+    (λ c. search needs)
+    (λ c κs. search needs)
     hear-requires
-    add-at
-    loop-less
+    (λ c. search needs)
+    (λ c. search needs)
     loop-again
     end-requires
-    same-length
+    (λ c. search needs)
     returns)

@@ -5,34 +5,13 @@ use borrow.Author.Needs.{needs}
 use Rattle.salvaged.proofs.walk.items.Statement.{statement}
 use Rattle.salvaged.proofs.walk.items.Tie as tie
 
-enum-told : tie.Need-enum-told
-enum-told c = search needs
-
-size-requires : tie.Need-size-requires
-size-requires c κs = search needs
-
-walk-requires : tie.Need-walk-requires
-walk-requires c κs = search needs
-
-item-requires : tie.Need-item-requires
-item-requires c κs = search needs
-
-enum-known-alone : tie.Need-enum-known-alone
-enum-known-alone c = search needs
-
 item-requires-2 : tie.Need-item-requires-2
 item-requires-2 c κs = rw (c .before .before .alone .given .1) at (c .before .before .before .before .before .before .pre .1)
-
-same-length : tie.Need-same-length
-same-length c = search needs
 
 returns : tie.Need-returns
 returns c =
     let a = c .before .before .before .before .before .before .before .before .before .before .before .before .before .args in
     rw (c .before .before .before .before .before .before .before .before .before .enum-told .given .1, items-lines (a .letter) (a .words .now)) (adds-both (c .before .before .before .before .before .before .walk .ensures) (c .before .before .item .ensures))
-
-same-length-2 : tie.Need-same-length-2
-same-length-2 c = search needs
 
 returns-2 : tie.Need-returns-2
 returns-2 c = rw (c .before .before .before .before .before .alone .given .1) (c .before .before .item2 .ensures)
@@ -41,13 +20,13 @@ pub items-spec : {M : Type 1} → statement M
 items-spec =
     tie.close
     (tie.spec
-    enum-told
-    size-requires
-    walk-requires
-    item-requires
-    enum-known-alone
+    (λ c. search needs)
+    (λ c κs. search needs)
+    (λ c κs. search needs)
+    (λ c κs. search needs)
+    (λ c. search needs)
     item-requires-2
-    same-length
+    (λ c. search needs)
     returns
-    same-length-2
+    (λ c. search needs)
     returns-2)

@@ -8,18 +8,6 @@ use borrow.Author.Needs.{needs}
 use Rattle.salvaged.proofs.walk.print.Statement.{statement}
 use Rattle.salvaged.proofs.walk.print.Tie as tie
 
-salvage-opening-requires : tie.Need-salvage-opening-requires
-salvage-opening-requires c κs = search needs
-
-add-requires : tie.Need-add-requires
-add-requires c κs = search needs
-
-items-requires : tie.Need-items-requires
-items-requires c κs = search needs
-
-same-length : tie.Need-same-length
-same-length c = search needs
-
 returns : tie.Need-returns
 returns c =
     let before = c .before .before .before .before .before .before .before .before .before .before .before .args .out .now in
@@ -28,4 +16,4 @@ returns c =
 
 pub print-spec : {M : Type 1} → statement M
 print-spec =
-    tie.close (tie.spec salvage-opening-requires add-requires items-requires same-length returns)
+    tie.close (tie.spec (λ c κs. search needs) (λ c κs. search needs) (λ c κs. search needs) (λ c. search needs) returns)

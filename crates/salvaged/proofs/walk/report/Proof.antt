@@ -7,18 +7,6 @@ use borrow.Author.Needs.{needs}
 use Rattle.salvaged.proofs.walk.report.Statement.{statement}
 use Rattle.salvaged.proofs.walk.report.Tie as tie
 
-mul-five : tie.Need-mul-five
-mul-five c = search needs
-
-sub-five : tie.Need-sub-five
-sub-five c = search needs
-
-part-five-start : tie.Need-part-five-start
-part-five-start c = search needs
-
-part-five-end : tie.Need-part-five-end
-part-five-end c = search needs
-
 five-requires : tie.Need-five-requires
 five-requires c κs =
     let s = c .before .before in
@@ -37,12 +25,6 @@ cast-reported : tie.Need-cast-reported
 cast-reported c = let s = c .before .before .before in
     omega (arith, s .pre .0 .sized, s .pre .0 .few, within (s .args .letter) (s .args .words .now) (s .args .at) (s .pre .1) (s .pre .2))
 
-report-of-requires : tie.Need-report-of-requires
-report-of-requires c κs = search needs
-
-reported-requires : tie.Need-reported-requires
-reported-requires c κs = search needs
-
 returns : tie.Need-returns
 unfolding itemOf
 returns c =
@@ -54,14 +36,14 @@ pub report-spec : {M : Type 1} → statement M
 report-spec =
     tie.close
     (tie.spec
-    mul-five
-    sub-five
-    part-five-start
-    part-five-end
+    (λ c. search needs)
+    (λ c. search needs)
+    (λ c. search needs)
+    (λ c. search needs)
     five-requires
     add-line
     add-line-2
     cast-reported
-    report-of-requires
-    reported-requires
+    (λ c κs. search needs)
+    (λ c κs. search needs)
     returns)

@@ -15,9 +15,6 @@ Inv-loop letter size words out₀ s₀ out s = Walking letter words (s₀ .told)
 abbrev μ-loop : tie.MeasureT-loop
 μ-loop letter size words out₀ s₀ out s = length words - s .at
 
-reached-requires : tie.Need-reached-requires Inv-loop μ-loop
-reached-requires c κs = search needs
-
 loop-holds : tie.Need-loop-holds Inv-loop μ-loop
 loop-holds c = rw (c .reached .ensures) (begins, refl)
 
@@ -40,9 +37,6 @@ left-out-requires c κs =
     let w = c .before .before .before .before .loop .inv .0 in
     (w .small, omega (arith, w .within, c .before .before .before .before .before .before .before .before .pre .few))
 
-same-length : tie.Need-same-length Inv-loop μ-loop
-same-length c = search needs
-
 returns : tie.Need-returns Inv-loop μ-loop
 returns c =
     let l = c .before .before .before .before .before .before .before .loop in
@@ -55,11 +49,11 @@ walk-spec =
     (tie.spec
     Inv-loop
     μ-loop
-    reached-requires
+    (λ c κs. search needs)
     loop-holds
     step-requires
     loop-less
     loop-again
     left-out-requires
-    same-length
+    (λ c. search needs)
     returns)

@@ -26,26 +26,8 @@ abbrev μ-loop : tie.MeasureT-loop
 loop-holds : tie.Need-loop-holds Inv-loop μ-loop
 loop-holds c = (from-none (c .args .self) (buttonsAmong (c .args .numbers .now)), omega arith, omega arith, omega arith, omega arith)
 
-sub-loop : tie.Need-sub-loop Inv-loop μ-loop
-sub-loop c = omega arith
-
-mul-low-three : tie.Need-mul-low-three Inv-loop μ-loop
-mul-low-three c = omega arith
-
-shared-slice-copy-out-low-three : tie.Need-shared-slice-copy-out-low-three Inv-loop μ-loop
-shared-slice-copy-out-low-three c = omega arith
-
-low-three-requires : tie.Need-low-three-requires Inv-loop μ-loop
-low-three-requires c κs = search needs
-
 with-requires : tie.Need-with-requires Inv-loop μ-loop
 with-requires c κs = (omega arith, omega arith, omega arith)
-
-add-at : tie.Need-add-at Inv-loop μ-loop
-add-at c = omega arith
-
-loop-less : tie.Need-loop-less Inv-loop μ-loop
-loop-less c = omega arith
 
 loop-again : tie.Need-loop-again Inv-loop μ-loop
 loop-again c = let l = c .before .before .before .before .loop in
@@ -76,12 +58,12 @@ line-spec =
     Inv-loop
     μ-loop
     loop-holds
-    sub-loop
-    mul-low-three
-    shared-slice-copy-out-low-three
-    low-three-requires
+    (λ c. omega arith)
+    (λ c. omega arith)
+    (λ c. omega arith)
+    (λ c κs. search needs)
     with-requires
-    add-at
-    loop-less
+    (λ c. omega arith)
+    (λ c. omega arith)
     loop-again
     returns)

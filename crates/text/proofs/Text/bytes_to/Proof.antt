@@ -20,17 +20,8 @@ abbrev μ-loop : tie.MeasureT-loop
 loop-holds : tie.Need-loop-holds Inv-loop μ-loop
 loop-holds c = (refl, omega arith, refl)
 
-shared-slice-read-byte-to : tie.Need-shared-slice-read-byte-to Inv-loop μ-loop
-shared-slice-read-byte-to c = omega arith
-
 byte-to-requires : tie.Need-byte-to-requires Inv-loop μ-loop
 byte-to-requires c κs = tt
-
-add-i : tie.Need-add-i Inv-loop μ-loop
-add-i c = omega arith
-
-loop-less : tie.Need-loop-less Inv-loop μ-loop
-loop-less c = omega arith
 
 loop-again : tie.Need-loop-again Inv-loop μ-loop
 loop-again c =
@@ -64,10 +55,10 @@ bytes-to-spec =
     Inv-loop
     μ-loop
     loop-holds
-    shared-slice-read-byte-to
+    (λ c. omega arith)
     byte-to-requires
-    add-i
-    loop-less
+    (λ c. omega arith)
+    (λ c. omega arith)
     loop-again
     same-length
     returns)

@@ -25,9 +25,6 @@ loop-holds c = (omega (arith, size-more (c .before .before .args .n) (c .before 
 add-k : tie.Need-add-k Inv-loop μ-loop
 add-k c = let l = c .before .loop in record { fits = omega (arith, l .inv .1) }
 
-loop-less : tie.Need-loop-less Inv-loop μ-loop
-loop-less c = omega arith
-
 loop-again : tie.Need-loop-again Inv-loop μ-loop
 loop-again c = let l = c .before .loop in (omega (arith, l .inv .0, size-more (l .v) (c .loop-test .taken)), omega (arith, l .inv .1))
 
@@ -35,4 +32,4 @@ returns-3 : tie.Need-returns-3 Inv-loop μ-loop
 returns-3 c = let l = c .before .loop in omega (arith, l .inv .0, size-one (l .v) (c .loop-test .left))
 
 pub size-spec : {M : Type 1} → statement M
-size-spec = tie.close (tie.spec Inv-loop μ-loop returns returns-2 loop-holds add-k loop-less loop-again returns-3)
+size-spec = tie.close (tie.spec Inv-loop μ-loop returns returns-2 loop-holds add-k (λ c. omega arith) loop-again returns-3)

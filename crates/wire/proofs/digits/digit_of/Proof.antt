@@ -6,12 +6,6 @@ use Rattle.wire.specs.Digits.{digit}
 use Rattle.wire.proofs.digits.digit_of.Statement.{statement}
 use Rattle.wire.proofs.digits.digit_of.Tie as tie
 
-add-result : tie.Need-add-result
-add-result c = search needs
-
-add-result-2 : tie.Need-add-result-2
-add-result-2 c = search needs
-
 returns : tie.Need-returns
 unfolding digit
 returns c = simp (lt-ltb (c .before .args .n) 10 (omega arith))
@@ -21,4 +15,4 @@ unfolding digit
 returns-2 c = simp (le-ltb (c .before .args .n) 10 (omega arith))
 
 pub digit-of-spec : {M : Type 1} → statement M
-digit-of-spec = tie.close (tie.spec add-result add-result-2 returns returns-2)
+digit-of-spec = tie.close (tie.spec (λ c. search needs) (λ c. search needs) returns returns-2)

@@ -35,9 +35,6 @@ above b h =
     let m : 65 ≤ b = omega arith in
     simp (le-leb 48 b l, lt-leb b 57 k, le-leb 65 b m, lt-leb b 70 h)
 
-add-result : tie.Need-add-result
-add-result c = search needs
-
 returns : tie.Need-returns
 returns c = decimal (c .before .before .args .b) (omega arith) (omega arith)
 
@@ -54,4 +51,4 @@ returns-5 : tie.Need-returns-5
 returns-5 c = above (c .before .before .before .before .args .b) (omega arith)
 
 pub number-of-spec : {M : Type 1} → statement M
-number-of-spec = tie.close (tie.spec add-result returns returns-2 returns-3 returns-4 returns-5)
+number-of-spec = tie.close (tie.spec (λ c. search needs) returns returns-2 returns-3 returns-4 returns-5)

@@ -30,20 +30,11 @@ one-more before bytes i h k =
 loop-holds : tie.Need-loop-holds Inv-loop μ-loop
 loop-holds c = (omega arith, paste-zero (c .args .buffer .now) 0 (c .args .t2))
 
-array-read-buffer : tie.Need-array-read-buffer Inv-loop μ-loop
-array-read-buffer c = omega arith
-
 slice-write-buffer : tie.Need-slice-write-buffer Inv-loop μ-loop
 slice-write-buffer c =
     let s = c .before .before in
     rw (c .before .loop .inv .1)
     (rw (same (s .args .buffer .now) (s .args .t2) (c .before .loop .i) (omega (arith, five-long s)) (omega arith)) (omega arith))
-
-add-i : tie.Need-add-i Inv-loop μ-loop
-add-i c = omega arith
-
-loop-less : tie.Need-loop-less Inv-loop μ-loop
-loop-less c = omega arith
 
 loop-again : tie.Need-loop-again Inv-loop μ-loop
 loop-again c =
@@ -73,10 +64,10 @@ put-spec =
     Inv-loop
     μ-loop
     loop-holds
-    array-read-buffer
+    (λ c. omega arith)
     slice-write-buffer
-    add-i
-    loop-less
+    (λ c. omega arith)
+    (λ c. omega arith)
     loop-again
     same-length
     returns)

@@ -5,20 +5,11 @@ use Rattle.wire.proofs.Front.{size-small, front}
 use Rattle.wire.proofs.encoder.write.Statement.{statement}
 use Rattle.wire.proofs.encoder.write.Tie as tie
 
-size-of-requires : tie.Need-size-of-requires
-size-of-requires c κs = search needs
-
 returns : tie.Need-returns
 returns c = simp (lt-ltb _ _ (rw (c .before .size-of .ensures) at (c .if1 .taken)))
 
-bytes-of-requires : tie.Need-bytes-of-requires
-bytes-of-requires c κs = search needs
-
 put-requires : tie.Need-put-requires
 put-requires c κs = (rw (c .before .before .before .size-of .ensures) (size-small (c .before .before .before .before .before .args .f)), c .before .before .if1 .left)
-
-same-length : tie.Need-same-length
-same-length c = search needs
 
 returns-2 : tie.Need-returns-2
 returns-2 c = let a = c .before .before .before .before .before .before .before .before .args in
@@ -28,4 +19,4 @@ returns-2 c = let a = c .before .before .before .before .before .before .before 
 pub write-spec : {M : Type 1} → statement M
 write-spec =
     tie.close
-    (tie.spec size-of-requires returns bytes-of-requires put-requires same-length returns-2)
+    (tie.spec (λ c κs. search needs) returns (λ c κs. search needs) put-requires (λ c. search needs) returns-2)

@@ -8,27 +8,6 @@ use Rattle.wire.specs.Holds.{within, xRange, yRange, secondRange}
 use Rattle.wire.proofs.holds.unheld.Statement.{statement}
 use Rattle.wire.proofs.holds.unheld.Tie as tie
 
-second-range-requires : tie.Need-second-range-requires
-second-range-requires c κs = search needs
-
-x-range-requires : tie.Need-x-range-requires
-x-range-requires c κs = search needs
-
-has-requires : tie.Need-has-requires
-has-requires c κs = search needs
-
-y-range-requires : tie.Need-y-range-requires
-y-range-requires c κs = search needs
-
-has-requires-2 : tie.Need-has-requires-2
-has-requires-2 c κs = search needs
-
-has-requires-3 : tie.Need-has-requires-3
-has-requires-3 c κs = search needs
-
-has-requires-4 : tie.Need-has-requires-4
-has-requires-4 c κs = search needs
-
 -- what the tests say
 x1-test : (c : tie.After-has4) → c .before .before .before .before .before .before .before .has .result ≡ within (xRange (c .before .before .before .before .before .before .before .before .before .before .before .args .f)) (c .before .before .before .before .before .before .before .before .before .before .before .args .report .x1)
 x1-test c = let e : toZ w16 (ofZ w16 (c .before .before .before .before .before .before .before .before .before .before .before .args .report .x1)) ≡ c .before .before .before .before .before .before .before .before .before .before .before .args .report .x1 = search needs in c .before .before .before .before .before .before .before .has .ensures ∙ simp (c .before .before .before .before .before .before .before .before .before .x-range .ensures, e)
@@ -61,13 +40,13 @@ pub unheld-spec : {M : Type 1} → statement M
 unheld-spec =
     tie.close
     (tie.spec
-    second-range-requires
-    x-range-requires
-    has-requires
-    y-range-requires
-    has-requires-2
-    has-requires-3
-    has-requires-4
+    (λ c κs. search needs)
+    (λ c κs. search needs)
+    (λ c κs. search needs)
+    (λ c κs. search needs)
+    (λ c κs. search needs)
+    (λ c κs. search needs)
+    (λ c κs. search needs)
     returns
     returns-2
     returns-3

@@ -5,12 +5,6 @@ use Rattle.numbers.specs.Parity.{evened}
 use Rattle.wire.proofs.parity.with_parity.Statement.{statement}
 use Rattle.wire.proofs.parity.with_parity.Tie as tie
 
-is-even-requires : tie.Need-is-even-requires
-is-even-requires c κs = search needs
-
-add-result : tie.Need-add-result
-add-result c = search needs
-
 returns : tie.Need-returns
 unfolding evened
 returns c = simp (sym (c .before .is-even .ensures) ∙ c .if1 .taken)
@@ -20,4 +14,4 @@ unfolding evened
 returns-2 c = simp (sym (c .before .is-even .ensures) ∙ c .if1 .left)
 
 pub with-parity-spec : {M : Type 1} → statement M
-with-parity-spec = tie.close (tie.spec is-even-requires add-result returns returns-2)
+with-parity-spec = tie.close (tie.spec (λ c κs. search needs) (λ c. search needs) returns returns-2)

@@ -12,33 +12,6 @@ use Rattle.wire.proofs.places.fits_first.Tie as tie
 chosen : (f : Format) {g : Format} (b : ℕ) → b < 256 → g ≡ f → firstTest f b ≡ fitsFirst g b
 chosen f b h e = first-tested f b h ∙ ap (λ (k : Format). fitsFirst k b) (sym e)
 
-enum-told : tie.Need-enum-told
-enum-told c = search needs
-
-enum-told-2 : tie.Need-enum-told-2
-enum-told-2 c = search needs
-
-enum-told-3 : tie.Need-enum-told-3
-enum-told-3 c = search needs
-
-is-even-requires : tie.Need-is-even-requires
-is-even-requires c κs = search needs
-
-enum-told-4 : tie.Need-enum-told-4
-enum-told-4 c = search needs
-
-is-even-requires-2 : tie.Need-is-even-requires-2
-is-even-requires-2 c κs = search needs
-
-enum-told-5 : tie.Need-enum-told-5
-enum-told-5 c = search needs
-
-enum-told-6 : tie.Need-enum-told-6
-enum-told-6 c = search needs
-
-enum-told-7 : tie.Need-enum-told-7
-enum-told-7 c = search needs
-
 returns : tie.Need-returns
 returns c = chosen Mm (c .before .before .args .b) (c .before .before .fits .b .fits) (c .enum-told .given .1)
 
@@ -64,15 +37,15 @@ pub fits-first-spec : {M : Type 1} → statement M
 fits-first-spec =
     tie.close
     (tie.spec
-    enum-told
-    enum-told-2
-    enum-told-3
-    is-even-requires
-    enum-told-4
-    is-even-requires-2
-    enum-told-5
-    enum-told-6
-    enum-told-7
+    (λ c. search needs)
+    (λ c. search needs)
+    (λ c. search needs)
+    (λ c κs. search needs)
+    (λ c. search needs)
+    (λ c κs. search needs)
+    (λ c. search needs)
+    (λ c. search needs)
+    (λ c. search needs)
     returns
     returns-2
     returns-3

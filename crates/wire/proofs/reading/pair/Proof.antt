@@ -13,14 +13,8 @@ low c = undigit-below (c .args .low) (c .fits .low .fits)
 high : (c : tie.Start) → undigit (c .args .high) < 16
 high c = undigit-below (c .args .high) (c .fits .high .fits)
 
-number-of-requires : tie.Need-number-of-requires
-number-of-requires c κs = search needs
-
 mul-result : tie.Need-mul-result
 mul-result c = record { fits = rw (c .number-of .ensures) (omega (arith, high (c .before))) }
-
-number-of-requires-2 : tie.Need-number-of-requires-2
-number-of-requires-2 c κs = search needs
 
 add-result : tie.Need-add-result
 add-result c = record { fits = rw (c .before .number-of .ensures, c .number-of2 .ensures) (omega (arith, high (c .before .before), low (c .before .before))) }
@@ -31,4 +25,4 @@ returns c = let s = c .before .before in
 
 pub pair-spec : {M : Type 1} → statement M
 pair-spec =
-    tie.close (tie.spec number-of-requires mul-result number-of-requires-2 add-result returns)
+    tie.close (tie.spec (λ c κs. search needs) mul-result (λ c κs. search needs) add-result returns)

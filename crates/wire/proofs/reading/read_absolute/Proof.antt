@@ -15,20 +15,11 @@ use Rattle.wire.proofs.reading.read_absolute.Tie as tie
 plain : (low high : ℕ) → toZ w16 (twelve low high) ≡ pos (twelve low high)
 plain low high = toZ-pos w16 (omega (arith, twelve-below low high))
 
-twelve-requires : tie.Need-twelve-requires
-twelve-requires c κs = search needs
-
 cast-report : tie.Need-cast-report
 cast-report c = record { sfits = rw (c .twelve .ensures) (omega (arith, twelve-below (c .before .args .b2) (c .before .args .b3))) }
 
-twelve-requires-2 : tie.Need-twelve-requires-2
-twelve-requires-2 c κs = search needs
-
 cast-report-2 : tie.Need-cast-report-2
 cast-report-2 c = record { sfits = rw (c .twelve2 .ensures) (omega (arith, twelve-below (c .before .before .args .b4) (c .before .before .args .b5))) }
-
-report-requires : tie.Need-report-requires
-report-requires c κs = search needs
 
 returns : tie.Need-returns
 unfolding readA
@@ -39,4 +30,4 @@ returns c = let s = c .before .before .before in
 pub read-absolute-spec : {M : Type 1} → statement M
 read-absolute-spec =
     tie.close
-    (tie.spec twelve-requires cast-report twelve-requires-2 cast-report-2 report-requires returns)
+    (tie.spec (λ c κs. search needs) cast-report (λ c κs. search needs) cast-report-2 (λ c κs. search needs) returns)

@@ -7,21 +7,6 @@ use Rattle.wire.specs.Reading.{readU}
 use Rattle.wire.proofs.reading.read_five.Statement.{statement}
 use Rattle.wire.proofs.reading.read_five.Tie as tie
 
-sub-t7 : tie.Need-sub-t7
-sub-t7 c = search needs
-
-unwrapped-byte-requires : tie.Need-unwrapped-byte-requires
-unwrapped-byte-requires c κs = search needs
-
-unwrapped-byte-requires-2 : tie.Need-unwrapped-byte-requires-2
-unwrapped-byte-requires-2 c κs = search needs
-
-unwrapped-byte-requires-3 : tie.Need-unwrapped-byte-requires-3
-unwrapped-byte-requires-3 c κs = search needs
-
-unwrapped-byte-requires-4 : tie.Need-unwrapped-byte-requires-4
-unwrapped-byte-requires-4 c κs = search needs
-
 returns : tie.Need-returns
 unfolding readU
 returns c = simp (kept w16 (c .before .before .before .unwrapped-byte .ok) (c .before .before .before .unwrapped-byte .ensures), kept w16 (c .before .before .unwrapped-byte2 .ok) (c .before .before .unwrapped-byte2 .ensures), kept w16 (c .before .unwrapped-byte3 .ok) (c .before .unwrapped-byte3 .ensures), kept w16 (c .unwrapped-byte4 .ok) (c .unwrapped-byte4 .ensures), buttons-U (c .before .before .before .before .args .b1))
@@ -29,4 +14,4 @@ returns c = simp (kept w16 (c .before .before .before .unwrapped-byte .ok) (c .b
 pub read-five-spec : {M : Type 1} → statement M
 read-five-spec =
     tie.close
-    (tie.spec sub-t7 unwrapped-byte-requires unwrapped-byte-requires-2 unwrapped-byte-requires-3 unwrapped-byte-requires-4 returns)
+    (tie.spec (λ c. search needs) (λ c κs. search needs) (λ c κs. search needs) (λ c κs. search needs) (λ c κs. search needs) returns)

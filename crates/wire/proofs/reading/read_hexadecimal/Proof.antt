@@ -7,24 +7,6 @@ use Rattle.wire.specs.Reading.{readW}
 use Rattle.wire.proofs.reading.read_hexadecimal.Statement.{statement}
 use Rattle.wire.proofs.reading.read_hexadecimal.Tie as tie
 
-number-of-requires : tie.Need-number-of-requires
-number-of-requires c κs = search needs
-
-pair-requires : tie.Need-pair-requires
-pair-requires c κs = search needs
-
-unwrapped-byte-requires : tie.Need-unwrapped-byte-requires
-unwrapped-byte-requires c κs = search needs
-
-pair-requires-2 : tie.Need-pair-requires-2
-pair-requires-2 c κs = search needs
-
-unwrapped-byte-requires-2 : tie.Need-unwrapped-byte-requires-2
-unwrapped-byte-requires-2 c κs = search needs
-
-report-requires : tie.Need-report-requires
-report-requires c κs = search needs
-
 returns : tie.Need-returns
 unfolding readW
 returns c = c .report .ensures ∙ simp (c .before .before .before .before .before .number-of .ensures, kept w16 (c .before .before .before .unwrapped-byte .ok) (c .before .before .before .unwrapped-byte .ensures), kept w16 (c .before .unwrapped-byte2 .ok) (c .before .unwrapped-byte2 .ensures), c .before .before .before .before .pair .ensures, c .before .before .pair2 .ensures)
@@ -33,10 +15,10 @@ pub read-hexadecimal-spec : {M : Type 1} → statement M
 read-hexadecimal-spec =
     tie.close
     (tie.spec
-    number-of-requires
-    pair-requires
-    unwrapped-byte-requires
-    pair-requires-2
-    unwrapped-byte-requires-2
-    report-requires
+    (λ c κs. search needs)
+    (λ c κs. search needs)
+    (λ c κs. search needs)
+    (λ c κs. search needs)
+    (λ c κs. search needs)
+    (λ c κs. search needs)
     returns)

@@ -31,29 +31,8 @@ north c =
     let e : toZ w16 (ofZ w16 (c .unwrapped-byte2 .result)) ≡ c .unwrapped-byte2 .result = kept w16 (c .unwrapped-byte2 .ok) refl in
     rw e (minus-kept w16 (c .unwrapped-byte2 .result) (omega (arith, near c)) ∙ ap negℤ (wire-y c))
 
-add-unwrapped-byte : tie.Need-add-unwrapped-byte
-add-unwrapped-byte c = search needs
-
-unwrapped-byte-requires : tie.Need-unwrapped-byte-requires
-unwrapped-byte-requires c κs = search needs
-
-add-unwrapped-byte-2 : tie.Need-add-unwrapped-byte-2
-add-unwrapped-byte-2 c = search needs
-
-unwrapped-byte-requires-2 : tie.Need-unwrapped-byte-requires-2
-unwrapped-byte-requires-2 c κs = search needs
-
-mul-report : tie.Need-mul-report
-mul-report c = search needs
-
-add-report : tie.Need-add-report
-add-report c = search needs
-
 sub-report : tie.Need-sub-report
 sub-report c = rw (kept w16 (c .unwrapped-byte2 .ok) refl) (minus-fits w16 (c .unwrapped-byte2 .result) (omega (arith, near c)))
-
-report-requires : tie.Need-report-requires
-report-requires c κs = search needs
 
 returns : tie.Need-returns
 unfolding readV
@@ -65,12 +44,12 @@ pub read-microsoft-spec : {M : Type 1} → statement M
 read-microsoft-spec =
     tie.close
     (tie.spec
-    add-unwrapped-byte
-    unwrapped-byte-requires
-    add-unwrapped-byte-2
-    unwrapped-byte-requires-2
-    mul-report
-    add-report
+    (λ c. search needs)
+    (λ c κs. search needs)
+    (λ c. search needs)
+    (λ c κs. search needs)
+    (λ c. search needs)
+    (λ c. search needs)
     sub-report
-    report-requires
+    (λ c κs. search needs)
     returns)

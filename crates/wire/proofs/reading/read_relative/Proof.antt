@@ -9,20 +9,11 @@ use Rattle.wire.specs.Reading.{readB}
 use Rattle.wire.proofs.reading.read_relative.Statement.{statement}
 use Rattle.wire.proofs.reading.read_relative.Tie as tie
 
-twelve-requires : tie.Need-twelve-requires
-twelve-requires c κs = search needs
-
 unwrapped-requires : tie.Need-unwrapped-requires
 unwrapped-requires c κs = (rw (c .twelve .ensures) (twelve-below (c .before .args .b2) (c .before .args .b3)), inr refl)
 
-twelve-requires-2 : tie.Need-twelve-requires-2
-twelve-requires-2 c κs = search needs
-
 unwrapped-requires-2 : tie.Need-unwrapped-requires-2
 unwrapped-requires-2 c κs = (rw (c .twelve2 .ensures) (twelve-below (c .before .before .before .args .b4) (c .before .before .before .args .b5)), inr refl)
-
-report-requires : tie.Need-report-requires
-report-requires c κs = search needs
 
 returns : tie.Need-returns
 unfolding readB
@@ -32,9 +23,9 @@ pub read-relative-spec : {M : Type 1} → statement M
 read-relative-spec =
     tie.close
     (tie.spec
-    twelve-requires
+    (λ c κs. search needs)
     unwrapped-requires
-    twelve-requires-2
+    (λ c κs. search needs)
     unwrapped-requires-2
-    report-requires
+    (λ c κs. search needs)
     returns)

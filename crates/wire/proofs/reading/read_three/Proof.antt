@@ -8,18 +8,9 @@ use Rattle.wire.specs.Reading.{readT}
 use Rattle.wire.proofs.reading.read_three.Statement.{statement}
 use Rattle.wire.proofs.reading.read_three.Tie as tie
 
-unwrapped-byte-requires : tie.Need-unwrapped-byte-requires
-unwrapped-byte-requires c κs = search needs
-
-unwrapped-byte-requires-2 : tie.Need-unwrapped-byte-requires-2
-unwrapped-byte-requires-2 c κs = search needs
-
-report-requires : tie.Need-report-requires
-report-requires c κs = search needs
-
 returns : tie.Need-returns
 unfolding readT
 returns c = c .report .ensures ∙ simp (kept w16 (c .before .before .unwrapped-byte .ok) (c .before .before .unwrapped-byte .ensures), kept w16 (c .before .unwrapped-byte2 .ok) (c .before .unwrapped-byte2 .ensures), number-low)
 
 pub read-three-spec : {M : Type 1} → statement M
-read-three-spec = tie.close (tie.spec unwrapped-byte-requires unwrapped-byte-requires-2 report-requires returns)
+read-three-spec = tie.close (tie.spec (λ c κs. search needs) (λ c κs. search needs) (λ c κs. search needs) returns)

@@ -9,8 +9,5 @@ use Rattle.wire.proofs.reading.unwrapped_byte.Tie as tie
 unwrapped-requires : tie.Need-unwrapped-requires
 unwrapped-requires c κs = (omega arith, inl refl)
 
-returns : tie.Need-returns
-returns c = search needs
-
 pub unwrapped-byte-spec : {M : Type 1} → statement M
-unwrapped-byte-spec = tie.close (tie.spec unwrapped-requires returns)
+unwrapped-byte-spec = tie.close (tie.spec unwrapped-requires (λ c. search needs))

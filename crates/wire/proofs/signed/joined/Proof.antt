@@ -14,9 +14,6 @@ use Rattle.wire.proofs.signed.joined.Tie as tie
 plain : (c : tie.Start) → toZ w16 (c .args .magnitude) ≡ pos (c .args .magnitude)
 plain c = toZ-pos w16 (omega arith)
 
-cast-m : tie.Need-cast-m
-cast-m c = search needs
-
 sub-result : tie.Need-sub-result
 sub-result c = rw (plain (c .before)) (minus-fits w16 (pos (c .before .args .magnitude)) (omega arith))
 
@@ -29,4 +26,4 @@ unfolding signed
 returns-2 c = simp (c .if1 .left) (rw (plain (c .before)) (minus-kept w16 (pos (c .before .args .magnitude)) (omega arith)))
 
 pub joined-spec : {M : Type 1} → statement M
-joined-spec = tie.close (tie.spec cast-m sub-result returns returns-2)
+joined-spec = tie.close (tie.spec (λ c. search needs) sub-result returns returns-2)

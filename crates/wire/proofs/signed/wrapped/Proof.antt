@@ -11,9 +11,6 @@ use Rattle.wire.proofs.signed.wrapped.Tie as tie
 size : (c : tie.After-magnitude) → c .magnitude .result ≡ natAbs (c .before .before .args .v)
 size c = rw (toZ-ofZ (c .before .before .fits .v)) at (c .magnitude .ensures)
 
-add-result : tie.Need-add-result
-add-result c = search needs
-
 magnitude-requires : tie.Need-magnitude-requires
 magnitude-requires c κs = rw (toZ-ofZ (c .before .fits .v)) (omega arith)
 
@@ -32,4 +29,4 @@ returns-2 c = rw (toZ-ofZ (c .before .before .fits .v)) at (c .magnitude2 .ensur
 pub wrapped-spec : {M : Type 1} → statement M
 wrapped-spec =
     tie.close
-    (tie.spec add-result magnitude-requires sub-result magnitude-requires-2 returns returns-2)
+    (tie.spec (λ c. search needs) magnitude-requires sub-result magnitude-requires-2 returns returns-2)

@@ -37,14 +37,8 @@ minus-y : (c : tie.Start) → Parts Microsoft (c .args .r) → toZ w16 (ofZ w16 
 minus-y c p =
     rw (y-is c) (minus-kept w16 (c .args .r .y1) (omega (arith, near-neg (c .args .r .y1), south 126 (c .args .r .y1) (p .moved .y))))
 
-enum-told : tie.Need-enum-told
-enum-told c = search needs
-
 rows-s-requires : tie.Need-rows-s-requires
 rows-s-requires c κs = let s = c .before .before .before .before in let p = of Mm s (c .enum-told .given .1) in (omega arith, rw (x-is s) (magnitude 126 (s .args .r .x1) (p .moved .x)), rw (y-is s) (magnitude 126 (s .args .r .y1) (p .moved .y)))
-
-enum-told-2 : tie.Need-enum-told-2
-enum-told-2 c = search needs
 
 sub-south : tie.Need-sub-south
 sub-south c = let s = c .before .before .before .before in let p = of Microsoft s (c .enum-told2 .given .1) in rw (y-is s) (minus-fits w16 (s .args .r .y1) (omega (arith, near-neg (s .args .r .y1), south 126 (s .args .r .y1) (p .moved .y))))
@@ -58,9 +52,6 @@ wrapped-byte-requires-2 c κs = let s = c .before .before .before .before .befor
 rows-v-requires : tie.Need-rows-v-requires
 rows-v-requires c κs = let s = c .before .before .before .before .before .before in let p = of Microsoft s (c .before .before .enum-told2 .given .1) in omega arith
 
-enum-told-3 : tie.Need-enum-told-3
-enum-told-3 c = search needs
-
 magnitude-requires : tie.Need-magnitude-requires
 magnitude-requires c κs = let s = c .before .before .before .before in let p = of Absolute s (c .enum-told3 .given .1) in rw (x-is s) (omega (arith, mag-magnitude (s .args .r .x1), at-most 4095 (s .args .r .x1) (p .moved .x)))
 
@@ -70,9 +61,6 @@ magnitude-requires-2 c κs = let s = c .before .before .before .before .before i
 rows-a-requires : tie.Need-rows-a-requires
 rows-a-requires c κs = let s = c .before .before .before .before .before .before in let p = of Absolute s (c .before .before .enum-told3 .given .1) in
     (omega arith, rw (c .before .magnitude .ensures, x-is s) (omega (arith, at-most 4095 (s .args .r .x1) (p .moved .x))), rw (c .magnitude2 .ensures, y-is s) (omega (arith, at-most 4095 (s .args .r .y1) (p .moved .y))))
-
-enum-told-4 : tie.Need-enum-told-4
-enum-told-4 c = search needs
 
 wrapped-requires : tie.Need-wrapped-requires
 wrapped-requires c κs = let s = c .before .before .before .before in let p = of Relative s (c .enum-told4 .given .1) in (rw (x-is s) (within-near 2047 (s .args .r .x1) (p .moved .x)), omega arith)
@@ -84,14 +72,8 @@ rows-a-requires-2 : tie.Need-rows-a-requires-2
 rows-a-requires-2 c κs = let s = c .before .before .before .before .before .before in let p = of Relative s (c .before .before .enum-told4 .given .1) in
     (omega arith, rw (c .before .wrapped .ensures, x-is s) (twos-below 2048 (s .args .r .x1) (within-near 2047 (s .args .r .x1) (p .moved .x))), rw (c .wrapped2 .ensures, y-is s) (twos-below 2048 (s .args .r .y1) (within-near 2047 (s .args .r .y1) (p .moved .y))))
 
-enum-told-5 : tie.Need-enum-told-5
-enum-told-5 c = search needs
-
 sub-t14 : tie.Need-sub-t14
 sub-t14 c = let s = c .before .before .before .before in let p = of FiveByte s (c .enum-told5 .given .1) in omega arith
-
-add-t15 : tie.Need-add-t15
-add-t15 c = search needs
 
 wrapped-byte-requires-3 : tie.Need-wrapped-byte-requires-3
 wrapped-byte-requires-3 c κs = let s = c .before .before .before .before in let p = of FiveByte s (c .enum-told5 .given .1) in rw (x-is s) (within-near 127 (s .args .r .x1) (p .moved .x))
@@ -105,17 +87,11 @@ wrapped-byte-requires-5 c κs = let s = c .before .before .before .before .befor
 wrapped-byte-requires-6 : tie.Need-wrapped-byte-requires-6
 wrapped-byte-requires-6 c κs = let s = c .before .before .before .before .before .before .before .before .before in let p = of FiveByte s (c .before .before .before .before .before .enum-told5 .given .1) in rw (second-y-is s) (within-near 127 (s .args .r .y2) (p .moved .second-y))
 
-enum-told-6 : tie.Need-enum-told-6
-enum-told-6 c = search needs
-
 wrapped-byte-requires-7 : tie.Need-wrapped-byte-requires-7
 wrapped-byte-requires-7 c κs = let s = c .before .before .before .before in let p = of ThreeByte s (c .enum-told6 .given .1) in rw (x-is s) (within-near 127 (s .args .r .x1) (p .moved .x))
 
 wrapped-byte-requires-8 : tie.Need-wrapped-byte-requires-8
 wrapped-byte-requires-8 c κs = let s = c .before .before .before .before .before in let p = of ThreeByte s (c .before .enum-told6 .given .1) in rw (y-is s) (within-near 127 (s .args .r .y1) (p .moved .y))
-
-enum-told-7 : tie.Need-enum-told-7
-enum-told-7 c = search needs
 
 wrapped-byte-requires-9 : tie.Need-wrapped-byte-requires-9
 wrapped-byte-requires-9 c κs = let s = c .before .before .before .before in let p = of Hexadecimal s (c .enum-told7 .given .1) in rw (x-is s) (within-near 127 (s .args .r .x1) (p .moved .x))
@@ -174,32 +150,32 @@ pub bytes-of-spec : {M : Type 1} → statement M
 bytes-of-spec =
     tie.close
     (tie.spec
-    enum-told
+    (λ c. search needs)
     rows-s-requires
-    enum-told-2
+    (λ c. search needs)
     sub-south
     wrapped-byte-requires
     wrapped-byte-requires-2
     rows-v-requires
-    enum-told-3
+    (λ c. search needs)
     magnitude-requires
     magnitude-requires-2
     rows-a-requires
-    enum-told-4
+    (λ c. search needs)
     wrapped-requires
     wrapped-requires-2
     rows-a-requires-2
-    enum-told-5
+    (λ c. search needs)
     sub-t14
-    add-t15
+    (λ c. search needs)
     wrapped-byte-requires-3
     wrapped-byte-requires-4
     wrapped-byte-requires-5
     wrapped-byte-requires-6
-    enum-told-6
+    (λ c. search needs)
     wrapped-byte-requires-7
     wrapped-byte-requires-8
-    enum-told-7
+    (λ c. search needs)
     wrapped-byte-requires-9
     wrapped-byte-requires-10
     rows-w-requires

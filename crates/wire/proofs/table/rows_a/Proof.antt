@@ -17,36 +17,6 @@ use Rattle.wire.proofs.table.rows_a.Tie as tie
 bits-of : {n : ℕ} (row : List Bool) → n ≡ number row → length row ≡ 7 → evened n ≡ number (withParity row)
 bits-of row e l = ap evened e ∙ sym (number-parity row l)
 
-add-with-parity : tie.Need-add-with-parity
-add-with-parity c = search needs
-
-with-parity-requires : tie.Need-with-parity-requires
-with-parity-requires c κs = search needs
-
-cast-with-parity : tie.Need-cast-with-parity
-cast-with-parity c = search needs
-
-with-parity-requires-2 : tie.Need-with-parity-requires-2
-with-parity-requires-2 c κs = search needs
-
-cast-with-parity-2 : tie.Need-cast-with-parity-2
-cast-with-parity-2 c = search needs
-
-with-parity-requires-3 : tie.Need-with-parity-requires-3
-with-parity-requires-3 c κs = search needs
-
-cast-with-parity-3 : tie.Need-cast-with-parity-3
-cast-with-parity-3 c = search needs
-
-with-parity-requires-4 : tie.Need-with-parity-requires-4
-with-parity-requires-4 c κs = search needs
-
-cast-with-parity-4 : tie.Need-cast-with-parity-4
-cast-with-parity-4 c = search needs
-
-with-parity-requires-5 : tie.Need-with-parity-requires-5
-with-parity-requires-5 c κs = search needs
-
 returns : tie.Need-returns
 unfolding bits rowsA
 returns c = let s = c .before .before .before .before .before .before in
@@ -57,14 +27,14 @@ pub rows-a-spec : {M : Type 1} → statement M
 rows-a-spec =
     tie.close
     (tie.spec
-    add-with-parity
-    with-parity-requires
-    cast-with-parity
-    with-parity-requires-2
-    cast-with-parity-2
-    with-parity-requires-3
-    cast-with-parity-3
-    with-parity-requires-4
-    cast-with-parity-4
-    with-parity-requires-5
+    (λ c. search needs)
+    (λ c κs. search needs)
+    (λ c. search needs)
+    (λ c κs. search needs)
+    (λ c. search needs)
+    (λ c κs. search needs)
+    (λ c. search needs)
+    (λ c κs. search needs)
+    (λ c. search needs)
+    (λ c κs. search needs)
     returns)

@@ -32,14 +32,8 @@ far-x c = rw (toZ-ofZ (c .before .before .before .fits .x)) at (c .magnitude .en
 far-y : (c : tie.After-magnitude2) → c .magnitude2 .result ≡ natAbs (c .before .before .before .before .args .y)
 far-y c = rw (toZ-ofZ (c .before .before .before .before .fits .y)) at (c .magnitude2 .ensures)
 
-sign-bit-requires : tie.Need-sign-bit-requires
-sign-bit-requires c κs = search needs
-
 add-first : tie.Need-add-first
 add-first c = record { fits = omega (arith, sign-x c) }
-
-sign-bit-requires-2 : tie.Need-sign-bit-requires-2
-sign-bit-requires-2 c κs = search needs
 
 add-first-2 : tie.Need-add-first-2
 add-first-2 c = record { fits = omega (arith, sign-x (c .before), sign-y c) }
@@ -69,9 +63,9 @@ pub rows-s-spec : {M : Type 1} → statement M
 rows-s-spec =
     tie.close
     (tie.spec
-    sign-bit-requires
+    (λ c κs. search needs)
     add-first
-    sign-bit-requires-2
+    (λ c κs. search needs)
     add-first-2
     add-first-3
     magnitude-requires

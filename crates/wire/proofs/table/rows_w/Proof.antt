@@ -5,21 +5,6 @@ use Rattle.wire.specs.Table.{rowsW}
 use Rattle.wire.proofs.table.rows_w.Statement.{statement}
 use Rattle.wire.proofs.table.rows_w.Tie as tie
 
-digit-of-requires : tie.Need-digit-of-requires
-digit-of-requires c κs = search needs
-
-digit-of-requires-2 : tie.Need-digit-of-requires-2
-digit-of-requires-2 c κs = search needs
-
-digit-of-requires-3 : tie.Need-digit-of-requires-3
-digit-of-requires-3 c κs = search needs
-
-digit-of-requires-4 : tie.Need-digit-of-requires-4
-digit-of-requires-4 c κs = search needs
-
-digit-of-requires-5 : tie.Need-digit-of-requires-5
-digit-of-requires-5 c κs = search needs
-
 returns : tie.Need-returns
 unfolding rowsW
 returns c = let s = c .before .before .before .before .before in
@@ -30,9 +15,9 @@ pub rows-w-spec : {M : Type 1} → statement M
 rows-w-spec =
     tie.close
     (tie.spec
-    digit-of-requires
-    digit-of-requires-2
-    digit-of-requires-3
-    digit-of-requires-4
-    digit-of-requires-5
+    (λ c κs. search needs)
+    (λ c κs. search needs)
+    (λ c κs. search needs)
+    (λ c κs. search needs)
+    (λ c κs. search needs)
     returns)

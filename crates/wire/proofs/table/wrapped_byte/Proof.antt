@@ -10,9 +10,6 @@ use Rattle.wire.proofs.table.wrapped_byte.Tie as tie
 wire : (c : tie.After-wrapped) → c .wrapped .result ≡ twos 128 (c .before .args .v)
 wire c = rw (toZ-ofZ (c .before .fits .v)) at (c .wrapped .ensures)
 
-wrapped-requires : tie.Need-wrapped-requires
-wrapped-requires c κs = search needs
-
 cast-result : tie.Need-cast-result
 cast-result c = record { fits = rw (wire c) (twos-below 128 (c .before .args .v) (c .before .pre)) }
 
@@ -20,4 +17,4 @@ returns : tie.Need-returns
 returns c = wire c
 
 pub wrapped-byte-spec : {M : Type 1} → statement M
-wrapped-byte-spec = tie.close (tie.spec wrapped-requires cast-result returns)
+wrapped-byte-spec = tie.close (tie.spec (λ c κs. search needs) cast-result returns)

@@ -3,11 +3,8 @@ use borrow.Author.Needs.{needs}
 use Rattle.yard.proofs.Yard.broken.Statement.{statement}
 use Rattle.yard.proofs.Yard.broken.Tie as tie
 
-none-gone-requires : tie.Need-none-gone-requires
-none-gone-requires c κs = search needs
-
 returns : tie.Need-returns
 returns c = rw (c .none-gone .ensures)
 
 pub broken-spec : {M : Type 1} → statement M
-broken-spec = tie.close (tie.spec none-gone-requires returns)
+broken-spec = tie.close (tie.spec (λ c κs. search needs) returns)

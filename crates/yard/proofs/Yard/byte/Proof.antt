@@ -6,40 +6,13 @@ use Rattle.yard.specs.Rules.{byteCan}
 use Rattle.yard.proofs.Yard.byte.Statement.{statement}
 use Rattle.yard.proofs.Yard.byte.Tie as tie
 
-stands-requires : tie.Need-stands-requires
-stands-requires c κs = search needs
-
-cannot-requires : tie.Need-cannot-requires
-cannot-requires c κs = search needs
-
 returns : tie.Need-returns
 unfolding byteCan
 returns c = simp (sym (c .before .before .stands .ensures) ∙ not-true _ (c .before .if1 .taken)) (c .cannot .ensures)
 
-cast-gone : tie.Need-cast-gone
-cast-gone c = search needs
-
-add-if2 : tie.Need-add-if2
-add-if2 c = search needs
-
-size-requires : tie.Need-size-requires
-size-requires c κs = search needs
-
-none-gone-requires : tie.Need-none-gone-requires
-none-gone-requires c κs = search needs
-
-can-requires : tie.Need-can-requires
-can-requires c κs = search needs
-
 returns-2 : tie.Need-returns-2
 unfolding byteCan
 returns-2 c = simp (sym (c .before .before .before .before .before .before .stands .ensures) ∙ not-false _ (c .before .before .before .before .before .if1 .left), eq-eqb _ _ (c .before .before .if2 .taken ∙ c .before .before .before .size .ensures)) (rw (c .before .none-gone .ensures) at (c .can .ensures))
-
-one-more-requires : tie.Need-one-more-requires
-one-more-requires c κs = search needs
-
-can-requires-2 : tie.Need-can-requires-2
-can-requires-2 c κs = search needs
 
 returns-3 : tie.Need-returns-3
 unfolding byteCan
@@ -49,15 +22,15 @@ pub byte-spec : {M : Type 1} → statement M
 byte-spec =
     tie.close
     (tie.spec
-    stands-requires
-    cannot-requires
+    (λ c κs. search needs)
+    (λ c κs. search needs)
     returns
-    cast-gone
-    add-if2
-    size-requires
-    none-gone-requires
-    can-requires
+    (λ c. search needs)
+    (λ c. search needs)
+    (λ c κs. search needs)
+    (λ c κs. search needs)
+    (λ c κs. search needs)
     returns-2
-    one-more-requires
-    can-requires-2
+    (λ c κs. search needs)
+    (λ c κs. search needs)
     returns-3)

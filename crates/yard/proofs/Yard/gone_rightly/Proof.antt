@@ -5,18 +5,9 @@ use Rattle.yard.specs.Good.{goneRightly}
 use Rattle.yard.proofs.Yard.gone_rightly.Statement.{statement}
 use Rattle.yard.proofs.Yard.gone_rightly.Tie as tie
 
-stands-requires : tie.Need-stands-requires
-stands-requires c κs = search needs
-
 returns : tie.Need-returns
 unfolding goneRightly
 returns c = simp (eq-eqb _ _ (c .before .if1 .taken), c .before .before .before .stands .ensures)
-
-sub-stands : tie.Need-sub-stands
-sub-stands c = search needs
-
-stands-requires-2 : tie.Need-stands-requires-2
-stands-requires-2 c κs = search needs
 
 returns-2 : tie.Need-returns-2
 unfolding goneRightly
@@ -24,4 +15,4 @@ returns-2 c = simp (ne-eqb _ _ (c .before .before .if1 .left), c .before .before
 
 pub gone-rightly-spec : {M : Type 1} → statement M
 gone-rightly-spec =
-    tie.close (tie.spec stands-requires returns sub-stands stands-requires-2 returns-2)
+    tie.close (tie.spec (λ c κs. search needs) returns (λ c. search needs) (λ c κs. search needs) returns-2)

@@ -6,19 +6,10 @@ use Rattle.yard.specs.Good.{good}
 use Rattle.yard.proofs.Yard.good.Statement.{statement}
 use Rattle.yard.proofs.Yard.good.Tie as tie
 
-cast-below : tie.Need-cast-below
-cast-below c = search needs
-
-size-requires : tie.Need-size-requires
-size-requires c κs = search needs
-
 returns : tie.Need-returns
 unfolding good
 returns c = let z = c .before .before .before .before .before in
     simp (known-below (z .before .before .args .self .format) (z .before .before .args .self .count), eq-eqb _ _ (c .before .before .if1 .taken), z .size .ensures)
-
-gone-rightly-requires : tie.Need-gone-rightly-requires
-gone-rightly-requires c κs = search needs
 
 returns-2 : tie.Need-returns-2
 unfolding good
@@ -26,4 +17,4 @@ returns-2 c = let z = c .before .before .before .before .before in
     simp (known-below (z .before .before .args .self .format) (z .before .before .args .self .count), ne-eqb _ _ (c .before .before .if1 .left), z .size .ensures, c .gone-rightly .ensures)
 
 pub good-spec : {M : Type 1} → statement M
-good-spec = tie.close (tie.spec cast-below size-requires returns gone-rightly-requires returns-2)
+good-spec = tie.close (tie.spec (λ c. search needs) (λ c κs. search needs) returns (λ c κs. search needs) returns-2)

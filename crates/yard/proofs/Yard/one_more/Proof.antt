@@ -6,9 +6,6 @@ use Rattle.yard.specs.Rules.{oneMore}
 use Rattle.yard.proofs.Yard.one_more.Statement.{statement}
 use Rattle.yard.proofs.Yard.one_more.Tie as tie
 
-first-with-requires : tie.Need-first-with-requires
-first-with-requires c κs = search needs
-
 add-t4 : tie.Need-add-t4
 add-t4 c = omega (arith, at-most-five (c .before .before .args .self .format))
 
@@ -17,4 +14,4 @@ unfolding oneMore
 returns c = rw (c .before .first-with .ensures)
 
 pub one-more-spec : {M : Type 1} → statement M
-one-more-spec = tie.close (tie.spec first-with-requires add-t4 returns)
+one-more-spec = tie.close (tie.spec (λ c κs. search needs) add-t4 returns)

@@ -7,12 +7,6 @@ use Rattle.yard.proofs.Keeps.{below-size}
 use Rattle.yard.proofs.Yard.step.Statement.{statement}
 use Rattle.yard.proofs.Yard.step.Tie as tie
 
-good-requires : tie.Need-good-requires
-good-requires c κs = search needs
-
-refusing-requires : tie.Need-refusing-requires
-refusing-requires c κs = search needs
-
 returns : tie.Need-returns
 unfolding stepOf
 returns c = simp (sym (c .before .before .good2 .ensures) ∙ not-true _ (c .before .if1 .taken)) (c .refusing .ensures)
@@ -25,4 +19,4 @@ unfolding stepOf
 returns-2 c = simp (sym (c .before .before .good2 .ensures) ∙ not-false _ (c .before .if1 .left)) (c .word .ensures)
 
 pub step-spec : {M : Type 1} → statement M
-step-spec = tie.close (tie.spec good-requires refusing-requires returns word-requires returns-2)
+step-spec = tie.close (tie.spec (λ c κs. search needs) (λ c κs. search needs) returns word-requires returns-2)

@@ -5,39 +5,21 @@ use Rattle.yard.specs.Rules.{wordOf}
 use Rattle.yard.proofs.Yard.word.Statement.{statement}
 use Rattle.yard.proofs.Yard.word.Tie as tie
 
-refusing-requires : tie.Need-refusing-requires
-refusing-requires c κs = search needs
-
 returns : tie.Need-returns
 unfolding wordOf
 returns c = simp (lt-leb _ _ (c .before .if1 .taken)) (c .refusing .ensures)
-
-cannot-requires : tie.Need-cannot-requires
-cannot-requires c κs = search needs
 
 returns-2 : tie.Need-returns-2
 unfolding wordOf
 returns-2 c = simp (le-leb _ _ (c .before .before .before .if1 .left), eq-eqb _ _ (c .before .if2 .taken)) (c .cannot .ensures)
 
-cast-byte : tie.Need-cast-byte
-cast-byte c = search needs
-
-byte-requires : tie.Need-byte-requires
-byte-requires c κs = search needs
-
 returns-3 : tie.Need-returns-3
 unfolding wordOf
 returns-3 c = simp (le-leb _ _ (c .before .before .before .before .if1 .left), ne-eqb _ _ (c .before .before .if2 .left), le-leb _ _ (c .before .if3 .taken)) (c .byte .ensures)
 
-broken-requires : tie.Need-broken-requires
-broken-requires c κs = search needs
-
 returns-4 : tie.Need-returns-4
 unfolding wordOf
 returns-4 c = simp (le-leb _ _ (c .before .before .before .before .before .if1 .left), ne-eqb _ _ (c .before .before .before .if2 .left), lt-leb _ _ (c .before .before .if3 .left), eq-eqb _ _ (c .before .if4 .taken)) (c .broken .ensures)
-
-silence-requires : tie.Need-silence-requires
-silence-requires c κs = search needs
 
 returns-5 : tie.Need-returns-5
 unfolding wordOf
@@ -47,14 +29,14 @@ pub word-spec : {M : Type 1} → statement M
 word-spec =
     tie.close
     (tie.spec
-    refusing-requires
+    (λ c κs. search needs)
     returns
-    cannot-requires
+    (λ c κs. search needs)
     returns-2
-    cast-byte
-    byte-requires
+    (λ c. search needs)
+    (λ c κs. search needs)
     returns-3
-    broken-requires
+    (λ c κs. search needs)
     returns-4
-    silence-requires
+    (λ c κs. search needs)
     returns-5)

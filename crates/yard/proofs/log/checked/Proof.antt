@@ -40,17 +40,8 @@ abbrev μ-loop : tie.MeasureT-loop
 loop-holds : tie.Need-loop-holds Inv-loop μ-loop
 loop-holds c = (rest-start _ _, c .before .pre, omega arith, omega arith)
 
-mul-word : tie.Need-mul-word Inv-loop μ-loop
-mul-word c = omega arith
-
-shared-slice-read-word : tie.Need-shared-slice-read-word Inv-loop μ-loop
-shared-slice-read-word c = omega arith
-
 word-requires : tie.Need-word-requires Inv-loop μ-loop
 word-requires c κs = let l = c .before .before .loop in below-size (l .y) (l .inv .1)
-
-refused-requires : tie.Need-refused-requires Inv-loop μ-loop
-refused-requires c κs = search needs
 
 returns : tie.Need-returns Inv-loop μ-loop
 returns c = let l = c .before .before .before .before .before .before .loop in
@@ -59,18 +50,9 @@ returns c = let l = c .before .before .before .before .before .before .loop in
     let k = no-word (l .y) w (λ e. c .before .if1 .taken (ap (λ (j : Judged). j .refusal) (c .before .before .before .word .ensures) ∙ e)) in
     c .refused .ensures ∙ sym (here (a .yard) (l .y) (l .at) _ (l .sendable) (a .words .now) (omega arith) (l .inv .0) ∙ rest-bad (l .y) (l .sendable) _ w _ k)
 
-cast-sendable : tie.Need-cast-sendable Inv-loop μ-loop
-cast-sendable c = search needs
-
 add-sendable : tie.Need-add-sendable Inv-loop μ-loop
 add-sendable c = let l = c .before .before .before .before .before .before .before .loop in
     omega (arith, l .inv .2)
-
-add-at : tie.Need-add-at Inv-loop μ-loop
-add-at c = omega arith
-
-loop-less : tie.Need-loop-less Inv-loop μ-loop
-loop-less c = omega arith
 
 loop-again : tie.Need-loop-again Inv-loop μ-loop
 loop-again c = let l = c .before .before .before .before .before .before .before .loop in
@@ -86,9 +68,6 @@ loop-again c = let l = c .before .before .before .before .before .before .before
       omega arith,
     )
 
-cast-t13 : tie.Need-cast-t13 Inv-loop μ-loop
-cast-t13 c = search needs
-
 returns-2 : tie.Need-returns-2 Inv-loop μ-loop
 returns-2 c = let l = c .before .loop in
     let a = c .before .before .before .args in
@@ -103,15 +82,15 @@ checked-spec =
     Inv-loop
     μ-loop
     loop-holds
-    mul-word
-    shared-slice-read-word
+    (λ c. omega arith)
+    (λ c. omega arith)
     word-requires
-    refused-requires
+    (λ c κs. search needs)
     returns
-    cast-sendable
+    (λ c. search needs)
     add-sendable
-    add-at
-    loop-less
+    (λ c. omega arith)
+    (λ c. omega arith)
     loop-again
-    cast-t13
+    (λ c. search needs)
     returns-2)

@@ -11,21 +11,6 @@ use Rattle.yard.specs.Stands.{barred, barredBy}
 use Rattle.yard.proofs.stands.barred.Statement.{statement}
 use Rattle.yard.proofs.stands.barred.Tie as tie
 
-minus-zero-requires : tie.Need-minus-zero-requires
-minus-zero-requires c κs = search needs
-
-least-v-requires : tie.Need-least-v-requires
-least-v-requires c κs = search needs
-
-least-requires : tie.Need-least-requires
-least-requires c κs = search needs
-
-least-requires-2 : tie.Need-least-requires-2
-least-requires-2 c κs = search needs
-
-least-w-requires : tie.Need-least-w-requires
-least-w-requires c κs = search needs
-
 returns : tie.Need-returns
 unfolding barredBy barred namedBy
 returns c = rw (c .before .match .keys1) (c .minus-zero .ensures)
@@ -58,11 +43,11 @@ pub barred-spec : {M : Type 1} → statement M
 barred-spec =
     tie.close
     (tie.spec
-    minus-zero-requires
-    least-v-requires
-    least-requires
-    least-requires-2
-    least-w-requires
+    (λ c κs. search needs)
+    (λ c κs. search needs)
+    (λ c κs. search needs)
+    (λ c κs. search needs)
+    (λ c κs. search needs)
     returns
     returns-2
     returns-3

@@ -10,21 +10,9 @@ use Rattle.yard.specs.Stands.{leastV}
 use Rattle.yard.proofs.stands.least_v.Statement.{statement}
 use Rattle.yard.proofs.stands.least_v.Tie as tie
 
-mul-x : tie.Need-mul-x
-mul-x c = search needs
-
-add-x : tie.Need-add-x
-add-x c = search needs
-
-mul-y : tie.Need-mul-y
-mul-y c = search needs
-
-add-y : tie.Need-add-y
-add-y c = search needs
-
 returns : tie.Need-returns
 unfolding leastV
 returns c = let a = c .args in let x : a .first % 4 * 64 + a .byte % 64 ≡ number (bits 2 0 (a .first) ++ bits 6 0 (a .byte)) = omega (arith, byte-X (a .first) (a .byte)) in let y : a .first / 4 % 4 * 64 + a .byte % 64 ≡ number (bits 2 2 (a .first) ++ bits 6 0 (a .byte)) = omega (arith, byte-Y (a .first) (a .byte)) in rw (x, y)
 
 pub least-v-spec : {M : Type 1} → statement M
-least-v-spec = tie.close (tie.spec mul-x add-x mul-y add-y returns)
+least-v-spec = tie.close (tie.spec (λ c. search needs) (λ c. search needs) (λ c. search needs) (λ c. search needs) returns)
