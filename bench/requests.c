@@ -726,8 +726,8 @@ static void check_puck_state(uint16_t word, size_t place) {
 static void check_yard_state(uint16_t word, size_t place) {
     istrolf_yard y = {(uint8_t)(drawn(32) == 0 ? drawn(256) : (uint8_t)letters[drawn(7)]), 0, 0, (uint8_t)drawn(6), (uint8_t)(drawn(8) == 0 ? drawn(3) : 0)}, ours;
     uint8_t bytes[5] = {0, 0, 0, 0, 0};
-    istrolf_encode(y.format, any_report(y.format), bytes, 5);
-    if (y.count > 0) y.first = bytes[0], y.last = bytes[(y.count - 1) % 5];
+    size_t length = istrolf_encode(y.format, any_report(y.format), bytes, 5).length; /* 0 of a letter that is none */
+    if (y.count > 0 && length > 0) y.first = bytes[0], y.last = bytes[(y.count - 1) % 5];
     if (drawn(4) == 0) y.first = (uint8_t)drawn(256);
     if (drawn(4) == 0) y.last = (uint8_t)(drawn(2) == 0 ? drawn(256) : (uint8_t)"\0\x80\x30\x38"[drawn(4)]);
     ours = y;
