@@ -1,5 +1,5 @@
 /* An event loop with poll: each press of the middle button saves once, beside whatever else the program waits for. Standard
- * input is a tty that was set already; docs/PORT.md has its settings, and serial.c sets them.
+ * input is a tty that was set already; docs/PORT-OTHER.md has its settings, and serial.c sets them.
  *
  *     loop LETTER MS < TTY     MS: how long nothing must come for a silence
  *

@@ -7,7 +7,7 @@
  *
  * Build: cc -std=c99 -I c c/examples/serial.c target/staticlib/libistrolf.a -o serial
  * Status: 0 ended by Ctrl-C or by the end of the events; 1 the line hung up or something failed; 2 called wrongly,
- * or the port is not to be had with these settings; 3 the recording is full. docs/PORT.md tells the rest. */
+ * or the port is not to be had with these settings; 3 the recording is full. docs/PORT-OTHER.md tells the rest. */
 #ifndef _GNU_SOURCE
 #define _GNU_SOURCE /* ppoll */
 #endif
