@@ -1,4 +1,6 @@
 // The ball box: counts, buttons and host bytes in, line words out. Here stand its parts, its letters and numbers, and what a user calls.
+#![tactic(auto)]
+
 ghost use Rattle.std.specs.Prelude.{◌≡◌};
 ghost use Rattle.ballbox.specs.Box.{nothing, refused};
 ghost use Rattle.ballbox.specs.Promises.{stepped, FreshPromise, StepPromise};
@@ -43,6 +45,7 @@ pub(crate) const MOST_BUTTONS: u8 = 7;
 // A movement or a place, x and y.
 #[repr(C)]
 #[derive(Drop)]
+#[derive(Clone, Copy)]
 pub struct Pair {
     pub x: i16,
     pub y: i16,
@@ -51,6 +54,7 @@ pub struct Pair {
 // What is set: the format's letter, the mode's letter, and the buttons as 4L+2M+R.
 #[repr(C)]
 #[derive(Drop)]
+#[derive(Clone, Copy)]
 pub struct Settings {
     pub format: u8,
     pub mode: u8,
@@ -60,6 +64,7 @@ pub struct Settings {
 // What is counted: the counters, the position, and the position last reported.
 #[repr(C)]
 #[derive(Drop)]
+#[derive(Clone, Copy)]
 pub struct Track {
     pub counter: Pair,
     pub position: Pair,
@@ -69,6 +74,7 @@ pub struct Track {
 // What is going: the bytes of a report or a reply, how many they are, and how many of them are sent.
 #[repr(C)]
 #[derive(Drop)]
+#[derive(Clone, Copy)]
 pub struct Going {
     pub length: u8,
     pub sent: u8,
@@ -79,6 +85,7 @@ pub struct Going {
 // shows the first, 0 or 1.
 #[repr(C)]
 #[derive(Drop)]
+#[derive(Clone, Copy)]
 pub struct Memory {
     pub states: [u8; 8],
     pub count: u8,
@@ -87,6 +94,7 @@ pub struct Memory {
 
 // A number held between two ends, and the excess, with its sign.
 #[derive(Drop)]
+#[derive(Clone, Copy)]
 pub struct Bounded {
     pub value: i16,
     pub excess: i64,
@@ -95,6 +103,7 @@ pub struct Bounded {
 // An excess, or a sum of excesses, x and y.
 #[repr(C)]
 #[derive(Drop)]
+#[derive(Clone, Copy)]
 pub struct Excess {
     pub x: i64,
     pub y: i64,
@@ -102,6 +111,7 @@ pub struct Excess {
 
 // Two numbers held, and the excess of either.
 #[derive(Drop)]
+#[derive(Clone, Copy)]
 pub struct BoundedPair {
     pub value: Pair,
     pub excess: Excess,
@@ -110,6 +120,7 @@ pub struct BoundedPair {
 // What was thrown away, added up: over the report's limit, and over the counter's 16 bits.
 #[repr(C)]
 #[derive(Drop)]
+#[derive(Clone, Copy)]
 pub struct Sums {
     pub limit: Excess,
     pub counter: Excess,
@@ -118,6 +129,7 @@ pub struct Sums {
 // What is set, counted, going, remembered and thrown away; whether a report is due, and whether the box is dormant: 0 or 1.
 #[repr(C)]
 #[derive(Drop)]
+#[derive(Clone, Copy)]
 pub struct BallBox {
     pub settings: Settings,
     pub track: Track,
@@ -132,6 +144,7 @@ pub struct BallBox {
 // character)", "Latch, which does the latching when nothing is going and sends no word, and Send, which sends the next byte".
 // Buttons are 4L+2M+R.
 #[derive(Drop)]
+#[derive(Clone, Copy)]
 pub enum Event {
     Motion(i16, i16),
     Buttons(u8),
@@ -145,6 +158,7 @@ pub enum Event {
 // there is none; 0; and the box.
 #[repr(C)]
 #[derive(Drop)]
+#[derive(Clone, Copy)]
 pub struct Stepped {
     pub refusal: u8,
     pub sent: u8,
@@ -155,6 +169,7 @@ pub struct Stepped {
 
 // What a byte of the host's asks for.
 #[derive(Drop)]
+#[derive(Clone, Copy)]
 pub enum Command {
     SetFormat(u8),
     SetStream(u8),

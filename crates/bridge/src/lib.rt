@@ -1,4 +1,6 @@
 // The bridge to recorders that know only V: line words of any format in, V bytes out. Here stand its parts, its numbers, and what a user calls.
+#![tactic(auto)]
+
 ghost use Rattle.bridge.specs.Promises.{FreshPromise, GoodPromise, ConvertPromise};
 
 use crate::line::converted;
@@ -11,6 +13,7 @@ mod splitting;
 
 // The position of the last report of A, where there was one.
 #[derive(Drop)]
+#[derive(Clone, Copy)]
 pub struct Base {
     pub set: bool,
     pub x: i16,
@@ -19,6 +22,7 @@ pub struct Base {
 
 // What is remembered of the reports so far: the base, whether the middle button was down in the last, and how often it was pressed.
 #[derive(Drop)]
+#[derive(Clone, Copy)]
 pub struct Past {
     pub base: Base,
     pub middle: bool,
@@ -27,6 +31,7 @@ pub struct Past {
 
 // The reader of the format that comes in, and what is remembered of its reports.
 #[derive(Drop)]
+#[derive(Clone, Copy)]
 pub struct Bridge {
     pub reader: Reader,
     pub past: Past,
@@ -34,6 +39,7 @@ pub struct Bridge {
 
 // A movement on both axes, north positive.
 #[derive(Drop)]
+#[derive(Clone, Copy)]
 pub struct Move {
     pub x: i32,
     pub y: i32,
@@ -41,6 +47,7 @@ pub struct Move {
 
 // A new bridge, or why there is none of this letter.
 #[derive(Drop)]
+#[derive(Clone, Copy)]
 pub struct NewBridge {
     pub refusal: u8,
     pub bridge: Bridge,
@@ -48,6 +55,7 @@ pub struct NewBridge {
 
 // What a long call gives back: also the words taken, the reports that came in, the V reports written and the bytes dropped.
 #[derive(Drop)]
+#[derive(Clone, Copy)]
 pub struct Converted {
     pub refusal: u8,
     pub next: Bridge,

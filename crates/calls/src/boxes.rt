@@ -4,6 +4,7 @@ use ballbox::{BallBox, Event, Excess, Going, Memory, Pair, Settings, Sums, Track
 
 // The sum so far, and the box that came back.
 #[derive(Drop)]
+#[derive(Clone, Copy)]
 pub(crate) struct Stand {
     pub sum: u64,
     pub next: BallBox,

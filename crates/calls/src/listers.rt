@@ -6,6 +6,7 @@ use listing::{Listed, Lister, Scanner};
 
 // The sum so far, the lister that came back, and how far in the text it is.
 #[derive(Drop)]
+#[derive(Clone, Copy)]
 pub(crate) struct Stand {
     pub sum: u64,
     pub next: Lister,

@@ -1,6 +1,8 @@
 // calls: calls of the functions below those for C, with states, words and rooms that look random, wrong ones too: long
 // reads, steps of the box, pieces for the lister and ends. The C program of the same name hands the same to the C
 // functions and must write the same: of each one number over all that the calls gave back.
+#![tactic(auto)]
+
 mod boxes;
 mod draws;
 mod listers;

@@ -4,6 +4,7 @@ use reader::{Reader, Reading};
 
 // The sum so far, and the reader that came back.
 #[derive(Drop)]
+#[derive(Clone, Copy)]
 pub(crate) struct Stand {
     pub sum: u64,
     pub next: Reader,

@@ -1,5 +1,7 @@
 // A box to try: lines of events in, the lines of a recording out. What a line says (lines), what it does to the box and what is recorded of it (driving), the lines
 // of a recording (recorded), and a driver that is fed its input in pieces of any size (feeding).
+#![tactic(auto)]
+
 use ballbox::{BallBox, Event};
 use text::Text;
 
@@ -13,6 +15,7 @@ pub(crate) const MOST_LINES: u32 = 999_999;
 
 // What a line says: nothing that a line may say; a format; an event; or so many slots, each a Latch and a Send.
 #[derive(Drop)]
+#[derive(Clone, Copy)]
 pub(crate) enum Order {
     Bad,
     Format(u8),
@@ -23,6 +26,7 @@ pub(crate) enum Order {
 // How far the events have come: the lines passed, whether it has ended, the bytes of the unfinished line, the slots of the last line that are still to come, and
 // the box.
 #[derive(Drop)]
+#[derive(Clone, Copy)]
 pub struct Driver {
     pub line: u32,
     pub ended: bool,
@@ -34,6 +38,7 @@ pub struct Driver {
 
 // What a call gives back: 0, or 6 for a driver that breaks its rules; the next driver; the bytes taken and written; and whether it has ended.
 #[derive(Drop)]
+#[derive(Clone, Copy)]
 pub struct Driven {
     pub refusal: u8,
     pub next: Driver,
@@ -44,6 +49,7 @@ pub struct Driven {
 
 // What is recorded: the format, a word, or how it ended: the number of a line that is bad or was refused, or a line too many.
 #[derive(Drop)]
+#[derive(Clone, Copy)]
 pub(crate) enum Record {
     Format(u8),
     Word(u16),
@@ -52,6 +58,7 @@ pub(crate) enum Record {
 }
 
 #[derive(Drop)]
+#[derive(Clone, Copy)]
 pub(crate) enum Given {
     Nothing,
     One(Record),
@@ -59,6 +66,7 @@ pub(crate) enum Given {
 
 // What a line leaves: the box, what is recorded, and whether it is the last.
 #[derive(Drop)]
+#[derive(Clone, Copy)]
 pub(crate) struct Done {
     pub next: BallBox,
     pub given: Given,
@@ -67,6 +75,7 @@ pub(crate) struct Done {
 
 // A driver, and the text that it writes.
 #[derive(Drop)]
+#[derive(Clone, Copy)]
 pub(crate) struct Turn {
     pub next: Driver,
     pub text: Text,
@@ -74,6 +83,7 @@ pub(crate) struct Turn {
 
 // The bytes of a piece that are taken together, one or none, and the turn that they make.
 #[derive(Drop)]
+#[derive(Clone, Copy)]
 pub(crate) struct Tick {
     pub taken: usize,
     pub turn: Turn,

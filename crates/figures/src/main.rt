@@ -1,4 +1,6 @@
 // figures: runs the figures of the paper, presses on a busy line, reports latched earlier than sent, what the limit threw away, the worked examples of the manuals, the VSXXX puck, and lines of reports in each format.
+#![tactic(auto)]
+
 mod apart;
 mod box_runs;
 mod lag;

@@ -5,6 +5,7 @@ use reader::{Reader, Reading};
 
 // How a line is handed over: at most so many words and so many places in a call.
 #[derive(Drop)]
+#[derive(Clone, Copy)]
 pub(crate) struct Cut {
     pub(crate) words: usize,
     pub(crate) places: usize,
@@ -12,6 +13,7 @@ pub(crate) struct Cut {
 
 // What the calls gave: how many they were, the words taken, the reports written and the bytes dropped.
 #[derive(Drop)]
+#[derive(Clone, Copy)]
 pub(crate) struct Pass {
     pub(crate) calls: usize,
     pub(crate) taken: usize,

@@ -8,6 +8,7 @@ use vsxxx::SelfTest;
 
 // A run of a puck: the puck, and the words that it gave.
 #[derive(Drop)]
+#[derive(Clone, Copy)]
 struct Run {
     puck: Puck,
     line: Line,

@@ -7,6 +7,7 @@ use wire::Report;
 
 // The values of a movement: the lowest, and how many there are.
 #[derive(Drop)]
+#[derive(Clone, Copy)]
 pub(crate) struct Values {
     pub(crate) low: i16,
     pub(crate) count: u16,
@@ -14,6 +15,7 @@ pub(crate) struct Values {
 
 // The values of x, of y, and of either number of the second pair.
 #[derive(Drop)]
+#[derive(Clone, Copy)]
 pub(crate) struct Ranges {
     pub(crate) x: Values,
     pub(crate) y: Values,
@@ -22,6 +24,7 @@ pub(crate) struct Ranges {
 
 // The bytes of a report, and how many they are.
 #[derive(Drop)]
+#[derive(Clone, Copy)]
 pub(crate) struct Coded {
     pub(crate) bytes: [u8; 5],
     pub(crate) length: usize,

@@ -63,6 +63,7 @@ const ROOM: usize = 32;
 
 // The words that a run gave, as many as there is room for.
 #[derive(Drop)]
+#[derive(Clone, Copy)]
 pub(crate) struct Line {
     pub(crate) words: [u16; ROOM],
     pub(crate) count: usize,
@@ -95,6 +96,7 @@ pub(crate) fn noted(line: Line, count: u8, word: u16) -> Line {
 
 // A run of the box: the box, and the words that it gave.
 #[derive(Drop)]
+#[derive(Clone, Copy)]
 pub(crate) struct Run {
     pub(crate) ball: BallBox,
     pub(crate) line: Line,

@@ -1,4 +1,6 @@
 // What the programs that listen to a serial line share: how they are called, and whether the line is gone.
+#![tactic(auto)]
+
 ghost use Rattle.std.specs.Prelude.{◌≡◌};
 ghost use Rattle.hearing.specs.Called.{letter_in, small_in, tenths_in};
 ghost use Rattle.hearing.specs.Clock.{turned_of};
@@ -48,6 +50,7 @@ pub fn tenths_in(word: &[u8]) -> u8
 
 // The reads in a row that brought nothing, and whether the line is gone.
 #[derive(Drop)]
+#[derive(Clone, Copy)]
 pub struct Clock {
     pub empty: u8,
     pub gone: bool,

@@ -25,6 +25,7 @@ const ROOM: usize = 40;
 
 // How many words were gathered, and the place behind their lines.
 #[derive(Drop)]
+#[derive(Clone, Copy)]
 struct Batch {
     count: usize,
     end: usize,
@@ -97,6 +98,7 @@ fn plain(number: i16) -> u16
 
 // The buttons, x and y of a report told at a place.
 #[derive(Drop)]
+#[derive(Clone, Copy)]
 struct Movement {
     buttons: Buttons,
     x: i64,
@@ -176,6 +178,7 @@ fn shown(line: u32, reader: Reader, words: &[u16], told: &[i16], out: &mut [u8],
 
 // What words left: whether all were taken, the reader behind them, and the place behind what they give.
 #[derive(Drop)]
+#[derive(Clone, Copy)]
 struct Printing {
     all: bool,
     next: Reader,
@@ -214,6 +217,7 @@ fn printed(
 
 // Lines of silences: how many, and the place behind them.
 #[derive(Drop)]
+#[derive(Clone, Copy)]
 struct Silences {
     count: u32,
     end: usize,

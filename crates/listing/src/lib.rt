@@ -1,5 +1,7 @@
 // The listing of a recording: a lister that is fed the input in pieces of any size. The scanner finds numbered words in the input (lines, scanning),
 // the reader makes items of them (items), and the items are printed (printing). Lines that lie whole in a piece are taken some at a time (batches, stamped).
+#![tactic(auto)]
+
 ghost use Rattle.listing.specs.Promises.{SalvagePromise};
 
 use reader::Reader;
@@ -19,6 +21,7 @@ pub(crate) const WIDTH: u8 = 6;
 
 // What a line says.
 #[derive(Drop)]
+#[derive(Clone, Copy)]
 pub(crate) enum Line {
     Bad,
     Format(u8),
@@ -27,6 +30,7 @@ pub(crate) enum Line {
 
 // How far a recording has been scanned: the lines passed, whether it has ended, and the bytes of the unfinished line.
 #[derive(Drop)]
+#[derive(Clone, Copy)]
 pub struct Scanner {
     pub line: u32,
     pub ended: bool,
@@ -36,6 +40,7 @@ pub struct Scanner {
 
 // What is found in a recording: its format; the number of a line and its word; the number of a bad line; a line too many; and its end.
 #[derive(Drop)]
+#[derive(Clone, Copy)]
 pub enum Found {
     Nothing,
     Format(u8),
@@ -47,6 +52,7 @@ pub enum Found {
 
 // A scanner, and what it found.
 #[derive(Drop)]
+#[derive(Clone, Copy)]
 pub struct Scan {
     pub next: Scanner,
     pub found: Found,
@@ -54,6 +60,7 @@ pub struct Scan {
 
 // The middle button, which is not known in V.
 #[derive(Drop)]
+#[derive(Clone, Copy)]
 pub enum Middle {
     Up,
     Down,
@@ -61,6 +68,7 @@ pub enum Middle {
 }
 
 #[derive(Drop)]
+#[derive(Clone, Copy)]
 pub struct Buttons {
     pub left: bool,
     pub middle: Middle,
@@ -70,6 +78,7 @@ pub struct Buttons {
 // What a line of the listing shows, by its letter: D, a line and the bytes dropped; R, a line, the buttons, x and y; H, the bytes kept; E, a bad
 // line or `over`.
 #[derive(Drop)]
+#[derive(Clone, Copy)]
 pub enum Item {
     D(u32, u16),
     R(u32, Buttons, i64, i64),
@@ -80,6 +89,7 @@ pub enum Item {
 
 // What is given: nothing, or an item.
 #[derive(Drop)]
+#[derive(Clone, Copy)]
 pub enum Given {
     Nothing,
     One(Item),
@@ -87,6 +97,7 @@ pub enum Given {
 
 // A reader, and what it gave.
 #[derive(Drop)]
+#[derive(Clone, Copy)]
 pub(crate) struct Gave {
     pub next: Reader,
     pub given: Given,
@@ -94,6 +105,7 @@ pub(crate) struct Gave {
 
 // A field of a line: the number of a line, a number, buttons, or `over`.
 #[derive(Drop)]
+#[derive(Clone, Copy)]
 pub enum Field {
     Line(u32),
     Number(i64),
@@ -103,6 +115,7 @@ pub enum Field {
 
 // The scanner, and the reader of what it finds.
 #[derive(Drop)]
+#[derive(Clone, Copy)]
 pub struct Lister {
     pub scanner: Scanner,
     pub reader: Reader,
@@ -110,6 +123,7 @@ pub struct Lister {
 
 // What a call gives back: 0, or 6 for a lister that breaks its rules; the next lister; the bytes taken and written; and whether it has ended.
 #[derive(Drop)]
+#[derive(Clone, Copy)]
 pub struct Listed {
     pub refusal: u8,
     pub next: Lister,
@@ -120,6 +134,7 @@ pub struct Listed {
 
 // A lister, and the text that it writes.
 #[derive(Drop)]
+#[derive(Clone, Copy)]
 pub(crate) struct Turn {
     pub next: Lister,
     pub text: Text,
@@ -127,6 +142,7 @@ pub(crate) struct Turn {
 
 // The bytes at the front of a piece that are taken together: the lister behind them, how many they are, and the places of their text.
 #[derive(Drop)]
+#[derive(Clone, Copy)]
 pub(crate) struct Front {
     pub next: Lister,
     pub taken: usize,
@@ -135,6 +151,7 @@ pub(crate) struct Front {
 
 // The bytes of a line with its newline, 0 where there is none, and its word.
 #[derive(Drop)]
+#[derive(Clone, Copy)]
 pub(crate) struct Told {
     pub taken: usize,
     pub word: u16,
@@ -142,6 +159,7 @@ pub(crate) struct Told {
 
 // The number of a line between tabs, but for its last digit, which stands beside.
 #[derive(Drop)]
+#[derive(Clone, Copy)]
 pub(crate) struct Stamp {
     pub bytes: [u8; 8],
     pub last: u8,

@@ -1,4 +1,6 @@
 // mbox: a box to try. Events on standard input, the recording of what the box puts on the line on standard output.
+#![tactic(auto)]
+
 ghost use Rattle.std.specs.Prelude.{◌≡◌, true, false, [], ◌++◌, ◌-◌, ◌≤◌, ◌<◌, length};
 ghost use Rattle.shell.specs.Outside.{Trace};
 ghost use Rattle.shell.specs.Standing.{Ends};
@@ -13,6 +15,7 @@ use driver::Driver;
 
 // Where the events stand: the driver, whether more is to be read, and whether each read and write went well.
 #[derive(Drop)]
+#[derive(Clone, Copy)]
 struct Went {
     next: Driver,
     on: bool,

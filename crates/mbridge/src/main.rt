@@ -1,4 +1,6 @@
 // mbridge: a recording of any format on standard input, a recording of V on standard output, for a recorder that knows only V.
+#![tactic(auto)]
+
 ghost use Rattle.std.specs.Prelude.{◌≡◌, true, List, [], ◌∷◌, ◌++◌, ℕ, ◌+◌, ◌*◌, ◌-◌, ◌≤◌, ◌<◌, length};
 ghost use Rattle.text.specs.Growth.{slice, filled_by};
 ghost use Rattle.listing.specs.Scanning.{passed, most_bytes};
@@ -18,6 +20,7 @@ const MOST: usize = 594;
 
 // The bridge, and the place behind the lines that were put.
 #[derive(Drop)]
+#[derive(Clone, Copy)]
 struct Put {
     next: Bridge,
     used: usize,
@@ -26,6 +29,7 @@ struct Put {
 // The scanner of the recording and the bridge of its format, the bytes that are to be shown, whether more is to be read, and whether each read and
 // write went well.
 #[derive(Drop)]
+#[derive(Clone, Copy)]
 struct Went {
     scanner: Scanner,
     bridge: Bridge,

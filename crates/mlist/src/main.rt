@@ -1,4 +1,6 @@
 // mlist: the listing of standard input, to standard output.
+#![tactic(auto)]
+
 ghost use Rattle.std.specs.Prelude.{◌≡◌, true, false, [], ◌++◌, ◌*◌, ◌-◌, ◌≤◌, ◌<◌, length};
 ghost use Rattle.shell.specs.Outside.{Trace};
 ghost use Rattle.shell.specs.Standing.{Stands, Ends, silent};
@@ -13,6 +15,7 @@ use listing::Lister;
 
 // Where the listing stands: the lister, whether more is to be read, and whether each read and write went well.
 #[derive(Drop)]
+#[derive(Clone, Copy)]
 struct Went {
     next: Lister,
     on: bool,

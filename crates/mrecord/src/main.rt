@@ -1,6 +1,8 @@
 // mrecord LETTER [TENTHS [Q]]: a recording of a serial line, to standard output. Standard input is a tty that answers an empty
 // read after a tenth of a second (stty .. parmrk inpck min 0 time 1); so many of them make a silence. With Q the recording
 // begins with a silence, where the one before it ended.
+#![tactic(auto)]
+
 ghost use Rattle.std.specs.Prelude.{ℕ, ◌*◌, ◌≤◌, ◌<◌, ◌≡◌, [], ◌∷◌, length};
 ghost use Rattle.text.specs.Growth.{slice, filled_by};
 ghost use Rattle.port.specs.Sessions.{step_of};
@@ -21,6 +23,7 @@ mod notes;
 
 // The port, how many lines are left, and the word of the last line.
 #[derive(Drop)]
+#[derive(Clone, Copy)]
 struct Tape {
     port: Port,
     left: u32,
@@ -29,6 +32,7 @@ struct Tape {
 
 // A tape, and the place behind its text in a slice.
 #[derive(Drop)]
+#[derive(Clone, Copy)]
 struct Taped {
     tape: Tape,
     at: usize,
@@ -36,6 +40,7 @@ struct Taped {
 
 // Where the recording stands: the tape, whether bytes came, whether it goes on, and whether each read and write went well.
 #[derive(Drop)]
+#[derive(Clone, Copy)]
 struct Went {
     tape: Tape,
     came: bool,

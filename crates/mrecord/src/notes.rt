@@ -8,6 +8,7 @@ const LAST: i64 = 253_402_300_799;
 
 // A day and its year, or its month.
 #[derive(Drop)]
+#[derive(Clone, Copy)]
 struct Day {
     of: u32,
     day: u32,

@@ -1,4 +1,6 @@
 // msalvage: the salvage of standard input, to standard output.
+#![tactic(auto)]
+
 ghost use Rattle.std.specs.Prelude.{◌≤◌, ◌<◌, ◌≡◌, true, false, [], length, take};
 ghost use Rattle.shell.specs.Outside.{Trace};
 ghost use Rattle.shell.specs.Standing.{Closes, Ends};
@@ -9,6 +11,7 @@ ghost use Rattle.msalvage.specs.Blocks.{Holds, Left};
 
 // The input so far: how many bytes, whether more is to be read, and whether each read went well.
 #[derive(Drop)]
+#[derive(Clone, Copy)]
 struct Went {
     count: usize,
     on: bool,

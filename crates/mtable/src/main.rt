@@ -1,5 +1,7 @@
 // mtable: a listing on standard input, as a table on standard output: comma separated, a head line, a first row that says
 // so where the listing is a salvage's, a row for each item, and a last row that tells the end or a fault and its line.
+#![tactic(auto)]
+
 ghost use Rattle.std.specs.Prelude.{ℕ, ◌+◌, ◌*◌, ◌≤◌, ◌<◌, ◌≡◌, true, false, List, [], length, take};
 ghost use Rattle.shell.specs.Outside.{Trace, Handed, Said};
 ghost use Rattle.shell.specs.Standing.{Stands, Closes, Ends};
@@ -21,6 +23,7 @@ use text::Text;
 // Where the table stands: the reader, the bytes of a line that is not whole yet, whether more is to be read, whether each read and write went well, and the
 // place of a faulty line.
 #[derive(Drop)]
+#[derive(Clone, Copy)]
 struct Went {
     next: Readback,
     held: usize,

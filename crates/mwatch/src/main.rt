@@ -1,6 +1,8 @@
 // mwatch LETTER [TENTHS]: what a serial line tells, as it comes, to standard output. Standard input is a tty that answers an empty
 // read after a tenth of a second. A line for each report, `R`, its number, the buttons, x and y; for each press, `P`, its
 // number and the button; and where bytes were dropped, `D`, how many so far and how many now.
+#![tactic(auto)]
+
 ghost use Rattle.std.specs.Prelude.{ℕ, ◌*◌, ◌≤◌, ◌<◌, ◌≡◌, [], ◌∷◌, ◌++◌, pos, ◌+ℤ◌, length};
 ghost use Rattle.text.specs.Decimals.{plain, decimal_of};
 ghost use Rattle.text.specs.Growth.{slice, filled_by};
@@ -23,6 +25,7 @@ use wire::Report;
 
 // A reader and a watch behind it, and how many reports, presses and dropped bytes there were.
 #[derive(Drop)]
+#[derive(Clone, Copy)]
 struct Look {
     reader: Reader,
     watch: Watch,
@@ -33,6 +36,7 @@ struct Look {
 
 // And the port before them.
 #[derive(Drop)]
+#[derive(Clone, Copy)]
 struct Sight {
     port: Port,
     look: Look,
@@ -40,12 +44,14 @@ struct Sight {
 
 // The same, and the place behind its text in a slice.
 #[derive(Drop)]
+#[derive(Clone, Copy)]
 struct Looked {
     look: Look,
     at: usize,
 }
 
 #[derive(Drop)]
+#[derive(Clone, Copy)]
 struct Seen {
     sight: Sight,
     at: usize,
@@ -53,6 +59,7 @@ struct Seen {
 
 // A count, and the place behind the text.
 #[derive(Drop)]
+#[derive(Clone, Copy)]
 struct Tally {
     count: u32,
     at: usize,
@@ -60,6 +67,7 @@ struct Tally {
 
 // Where the watching stands: whether bytes came, whether it goes on, and whether each read and write went well.
 #[derive(Drop)]
+#[derive(Clone, Copy)]
 struct Went {
     sight: Sight,
     came: bool,

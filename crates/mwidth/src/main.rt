@@ -1,5 +1,7 @@
 // mwidth: a listing on standard input, rewritten at the other width of line numbers to standard output; a line that is faulty, or whose number does not fit,
 // is told on standard error.
+#![tactic(auto)]
+
 ghost use Rattle.std.specs.Prelude.{ℕ, ◌*◌, ◌+◌, ◌-◌, ◌≤◌, ◌<◌, ◌≡◌, true, false, [], length, take};
 ghost use Rattle.shell.specs.Outside.{Trace, Said};
 ghost use Rattle.shell.specs.Standing.{Stands, Closes, Ends};
@@ -17,6 +19,7 @@ use text::Text;
 // Where the rewriting stands: the reader, the bytes of a line that is not whole yet, whether more is to be read, whether each read and write went well, and
 // what was refused, with its line.
 #[derive(Drop)]
+#[derive(Clone, Copy)]
 struct Went {
     next: Readback,
     held: usize,

@@ -1,4 +1,6 @@
 // myard: whether the recording on standard input is a line that a box of ours can send, to standard output.
+#![tactic(auto)]
+
 ghost use Rattle.std.specs.Prelude.{◌-◌, ◌<◌, ◌≡◌, true, false, [], length};
 ghost use Rattle.shell.specs.Outside.{Trace};
 ghost use Rattle.shell.specs.Standing.{Closes, Ends};
@@ -15,6 +17,7 @@ mod judging;
 
 // What is to be said: yes; no, with the line of the first word that cannot be sent; a bad line; a line too many.
 #[derive(Drop)]
+#[derive(Clone, Copy)]
 pub(crate) enum Verdict {
     Yes,
     No(u32),
@@ -24,6 +27,7 @@ pub(crate) enum Verdict {
 
 // How far a recording has been judged: the scanner, the check behind it, and what is to be said.
 #[derive(Drop)]
+#[derive(Clone, Copy)]
 pub(crate) struct Judge {
     pub scanner: Scanner,
     pub yard: Yard,
@@ -32,6 +36,7 @@ pub(crate) struct Judge {
 
 // How far the recording has been judged, whether more is to be read, and whether each read went well.
 #[derive(Drop)]
+#[derive(Clone, Copy)]
 struct Went {
     next: Judge,
     on: bool,

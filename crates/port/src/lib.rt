@@ -1,6 +1,8 @@
 // The port: what a tty hands over becomes line words. A byte of the line that is FF comes as FF FF, a break as FF 00 00,
 // and a damaged byte as FF 00 and that byte (PARMRK); a silence is told by the waits in which nothing came. Every state
 // is good, so nothing is refused.
+#![tactic(auto)]
+
 ghost use Rattle.port.specs.Promises.{FreshPromise, ClearingPromise, BytePromise, QuietPromise, LostPromise, BytesPromise};
 
 use crate::line::line;
@@ -13,6 +15,7 @@ mod marks;
 // must come for a silence, 0 for never; and how much of that is left, 0 once it was told.
 #[repr(C)]
 #[derive(Drop)]
+#[derive(Clone, Copy)]
 pub struct Port {
     pub held: u8,
     pub clears: u8,
@@ -22,6 +25,7 @@ pub struct Port {
 
 // What a byte, a wait or a loss tells: nothing, or a word.
 #[derive(Drop)]
+#[derive(Clone, Copy)]
 pub enum Given {
     Nothing,
     Word(u16),
@@ -29,6 +33,7 @@ pub enum Given {
 
 // What a byte, a wait or a loss gives back.
 #[derive(Drop)]
+#[derive(Clone, Copy)]
 pub struct Heard {
     pub next: Port,
     pub given: Given,
@@ -37,6 +42,7 @@ pub struct Heard {
 // What many bytes give back: how many were taken, and how many words were written.
 #[repr(C)]
 #[derive(Drop)]
+#[derive(Clone, Copy)]
 pub struct Words {
     pub next: Port,
     pub taken: usize,

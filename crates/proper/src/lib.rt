@@ -1,1 +1,2 @@
 // Definitions and laws alone: what a box can send, and that the yard check tells it.
+#![tactic(auto)]

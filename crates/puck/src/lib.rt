@@ -1,4 +1,6 @@
 // The Digital VSXXX puck: the ball box in S, with the commands R, D, P and T alone, and its self-test. Here stand its parts and what a user calls.
+#![tactic(auto)]
+
 ghost use Rattle.std.specs.Prelude.{◌≡◌};
 ghost use Rattle.puck.specs.Device.{refused};
 ghost use Rattle.puck.specs.Promises.{stepped, MadePromise, StepPromise};
@@ -12,6 +14,7 @@ mod rules;
 // The self-test that is going: how many of its four bytes are left to be sent, 0 where none is going, and the buttons as they were at its start.
 #[repr(C)]
 #[derive(Drop)]
+#[derive(Clone, Copy)]
 pub struct Testing {
     pub left: u8,
     pub buttons: u8,
@@ -20,6 +23,7 @@ pub struct Testing {
 // A box in S, and beside it the self-test, the firmware's revision and the maker's location.
 #[repr(C)]
 #[derive(Drop)]
+#[derive(Clone, Copy)]
 pub struct Puck {
     pub ball: BallBox,
     pub test: Testing,
@@ -30,6 +34,7 @@ pub struct Puck {
 // What a step hands back, as the box's: the number of the refusal, how many words are sent, the word, 0, and the device.
 #[repr(C)]
 #[derive(Drop)]
+#[derive(Clone, Copy)]
 pub struct PuckStepped {
     pub refusal: u8,
     pub sent: u8,

@@ -1,4 +1,6 @@
 // The reader of the VSXXX: line words in, movements and self-tests out. Here stand its parts, its words and numbers, and what a user calls.
+#![tactic(auto)]
+
 ghost use Rattle.puckreader.specs.Promises.{FreshPromise, StepPromise, ReadPromise};
 
 use crate::rules::{holding, refusing};
@@ -12,6 +14,7 @@ mod rules;
 // The bytes kept and how many.
 #[repr(C)]
 #[derive(Drop)]
+#[derive(Clone, Copy)]
 pub struct PuckReader {
     pub kept: [u8; 3],
     pub count: u8,
@@ -19,6 +22,7 @@ pub struct PuckReader {
 
 // What a word is answered by: nothing, a movement, a self-test, or a number of bytes dropped.
 #[derive(Drop)]
+#[derive(Clone, Copy)]
 pub enum PuckAnswer {
     Nothing,
     Movement(Report),
@@ -28,6 +32,7 @@ pub enum PuckAnswer {
 
 // What a step gives back.
 #[derive(Drop)]
+#[derive(Clone, Copy)]
 pub struct PuckRead {
     pub refusal: u8,
     pub next: PuckReader,
@@ -36,6 +41,7 @@ pub struct PuckRead {
 
 // What a long read gives back: also the words taken, the reports written and the bytes dropped.
 #[derive(Drop)]
+#[derive(Clone, Copy)]
 pub struct PuckReading {
     pub refusal: u8,
     pub next: PuckReader,

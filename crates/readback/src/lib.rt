@@ -1,5 +1,7 @@
 // The reader of listings: the bytes of a listing in, its items out, five numbers each. A line's fields are read by their kinds (fields), its letter and its
 // fields to an item (items), a line in its place among the others (steps), and the lines of a piece one after the other (pieces); and they are rewritten at the other width (rewriting).
+#![tactic(auto)]
+
 use listing::Given;
 
 mod fields;
@@ -10,6 +12,7 @@ mod steps;
 
 // The kinds of fields: the number of a line, a count, a number, buttons, and `over`.
 #[derive(Drop)]
+#[derive(Clone, Copy)]
 pub(crate) enum Kind {
     Line,
     Count,
@@ -20,6 +23,7 @@ pub(crate) enum Kind {
 
 // What the bytes of a field say: whether they are of its kind, and their value.
 #[derive(Drop)]
+#[derive(Clone, Copy)]
 pub(crate) struct Value {
     pub good: bool,
     pub value: i64,
@@ -27,6 +31,7 @@ pub(crate) struct Value {
 
 // A field of a line, behind its tab, and the place behind it.
 #[derive(Drop)]
+#[derive(Clone, Copy)]
 pub(crate) struct Took {
     pub good: bool,
     pub value: i64,
@@ -35,6 +40,7 @@ pub(crate) struct Took {
 
 // An item as five numbers: its kind (1 R, 2 D, 3 H, 4 E, 5 E over), its line, and three values.
 #[derive(Drop)]
+#[derive(Clone, Copy)]
 pub(crate) struct Five {
     pub kind: i32,
     pub line: i32,
@@ -47,6 +53,7 @@ pub(crate) struct Five {
 // come, and whether it is a salvage's, each 0 or 1; the last line number; and the lines passed.
 #[repr(C)]
 #[derive(Drop)]
+#[derive(Clone, Copy)]
 pub struct Readback {
     pub width: u8,
     pub ended: u8,
@@ -57,6 +64,7 @@ pub struct Readback {
 
 // What a line does: whether it may stand there, the next reader, and its item, if it has one.
 #[derive(Drop)]
+#[derive(Clone, Copy)]
 pub(crate) struct Step {
     pub good: bool,
     pub next: Readback,
@@ -67,6 +75,7 @@ pub(crate) struct Step {
 // the place of the line that was not rewritten among the lines, counted from 1, or 0.
 #[repr(C)]
 #[derive(Drop)]
+#[derive(Clone, Copy)]
 pub struct Rewritten {
     pub refusal: u8,
     pub line: u32,
@@ -79,6 +88,7 @@ pub struct Rewritten {
 // place of the faulty line among the lines, counted from 1, or 0.
 #[repr(C)]
 #[derive(Drop)]
+#[derive(Clone, Copy)]
 pub struct Back {
     pub refusal: u8,
     pub line: u32,

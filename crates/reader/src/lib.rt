@@ -1,4 +1,6 @@
 // The reader: line words in, reports out. Here stand its parts, its words and numbers, and what a user calls.
+#![tactic(auto)]
+
 ghost use Rattle.reader.specs.Promises.{FreshPromise, StepPromise, ReadPromise, AnswersPromise};
 
 use crate::rules::refusing;
@@ -15,6 +17,7 @@ mod whole;
 
 // A format by its letter, the bytes kept and how many, and whether it awaits a silence.
 #[derive(Drop)]
+#[derive(Clone, Copy)]
 pub struct Reader {
     pub format: u8,
     pub kept: [u8; 5],
@@ -24,6 +27,7 @@ pub struct Reader {
 
 // What a word is answered by: nothing, a report, or a number of bytes dropped.
 #[derive(Drop)]
+#[derive(Clone, Copy)]
 pub enum Answer {
     Nothing,
     Report(Report),
@@ -32,6 +36,7 @@ pub enum Answer {
 
 // A new reader, or why there is none of this letter.
 #[derive(Drop)]
+#[derive(Clone, Copy)]
 pub struct NewReader {
     pub refusal: u8,
     pub reader: Reader,
@@ -39,6 +44,7 @@ pub struct NewReader {
 
 // What a step gives back.
 #[derive(Drop)]
+#[derive(Clone, Copy)]
 pub struct Read {
     pub refusal: u8,
     pub next: Reader,
@@ -47,6 +53,7 @@ pub struct Read {
 
 // What a long read gives back: also the words taken, the reports written and the bytes dropped.
 #[derive(Drop)]
+#[derive(Clone, Copy)]
 pub struct Reading {
     pub refusal: u8,
     pub next: Reader,
@@ -57,6 +64,7 @@ pub struct Reading {
 
 // What a telling of answers gives back: the words taken, and the numbers written.
 #[derive(Drop)]
+#[derive(Clone, Copy)]
 pub struct Answers {
     pub refusal: u8,
     pub next: Reader,

@@ -13,6 +13,7 @@ use wire::SILENCE;
 
 // The words passed, and the places of their reports.
 #[derive(Drop)]
+#[derive(Clone, Copy)]
 pub(crate) struct Run {
     pub taken: usize,
     pub used: usize,

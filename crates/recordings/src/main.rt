@@ -1,4 +1,6 @@
 // recordings: recordings held here or made by loops, each listed in several cuts.
+#![tactic(auto)]
+
 ghost use Rattle.std.specs.Prelude.{◌≤◌};
 
 mod cases;

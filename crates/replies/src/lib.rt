@@ -1,5 +1,7 @@
 // A reader that is told the command just sent: it reads exactly that reply, and then hands over to the report reader. Here stand its parts, its numbers, and
 // what a user calls.
+#![tactic(auto)]
+
 ghost use Rattle.replies.specs.Promises.{FreshPromise, GoodPromise, TellPromise, StepPromise, ReadPromise};
 
 use crate::replying::{awaiting, nothing};
@@ -16,6 +18,7 @@ pub(crate) const NO_REPLY: u8 = 12;
 
 // What was just sent: a command, by its byte, or a byte of any kind that woke a dormant box.
 #[derive(Drop)]
+#[derive(Clone, Copy)]
 pub enum Asked {
     Command(u8),
     Waking,
@@ -23,6 +26,7 @@ pub enum Asked {
 
 // The reply that is awaited: none, or that to a space or a waking byte, to `f`, to `t` or to 05H.
 #[derive(Drop)]
+#[derive(Clone, Copy)]
 pub enum Kind {
     Nothing,
     Ack,
@@ -34,6 +38,7 @@ pub enum Kind {
 // The bytes of a reply that have come: how many, at most two, and 0 in the places behind them.
 #[repr(C)]
 #[derive(Drop)]
+#[derive(Clone, Copy)]
 pub struct Came {
     pub count: u8,
     pub first: u8,
@@ -42,6 +47,7 @@ pub struct Came {
 
 // A reply that is awaited, and what has come of it.
 #[derive(Drop)]
+#[derive(Clone, Copy)]
 pub struct Awaited {
     pub kind: Kind,
     pub came: Came,
@@ -49,6 +55,7 @@ pub struct Awaited {
 
 // The report reader, and the reply that is awaited before it is given a word.
 #[derive(Drop)]
+#[derive(Clone, Copy)]
 pub struct ToldReader {
     pub reader: Reader,
     pub awaited: Awaited,
@@ -56,6 +63,7 @@ pub struct ToldReader {
 
 // What became of a reply: nothing yet; it is whole, with the format, the format and the mode, or the buttons that it tells; it was broken, behind these bytes.
 #[derive(Drop)]
+#[derive(Clone, Copy)]
 pub enum Reply {
     Nothing,
     Ack,
@@ -67,6 +75,7 @@ pub enum Reply {
 
 // A new reader, or why there is none of this letter.
 #[derive(Drop)]
+#[derive(Clone, Copy)]
 pub struct NewToldReader {
     pub refusal: u8,
     pub reader: ToldReader,
@@ -74,6 +83,7 @@ pub struct NewToldReader {
 
 // What a telling gives back: also how many bytes of an unfinished reply it discards.
 #[derive(Drop)]
+#[derive(Clone, Copy)]
 pub struct Telling {
     pub refusal: u8,
     pub next: ToldReader,
@@ -82,6 +92,7 @@ pub struct Telling {
 
 // What a word gives back: what became of the reply, and the report reader's own answer.
 #[derive(Drop)]
+#[derive(Clone, Copy)]
 pub struct Heard {
     pub refusal: u8,
     pub next: ToldReader,
@@ -91,6 +102,7 @@ pub struct Heard {
 
 // What a long read gives back: also the words taken, the reports written, the bytes dropped, and what became of the reply, of which there is at most one.
 #[derive(Drop)]
+#[derive(Clone, Copy)]
 pub struct HeardLine {
     pub refusal: u8,
     pub next: ToldReader,
@@ -102,6 +114,7 @@ pub struct HeardLine {
 
 // The bytes of a reply at the front of a line: how many, what is awaited behind them, and the reply, where it is whole.
 #[derive(Drop)]
+#[derive(Clone, Copy)]
 pub(crate) struct Front {
     pub awaited: Awaited,
     pub taken: usize,

@@ -1,4 +1,6 @@
 // Salvage of a scarred log: the separate runs of neighbouring bytes, each a valid report, that leave out the fewest bytes.
+#![tactic(auto)]
+
 ghost use Rattle.std.specs.Prelude.{◌≡◌, cond, ◌<◌, ◌≤◌, length};
 ghost use Rattle.frames.specs.Words.{is_byte, line_words};
 ghost use Rattle.wire.specs.Line.{size_by};
@@ -13,6 +15,7 @@ pub const MOST: usize = 4096;
 // What is told of the runs picked: 0 or a refusal; the words taken; the runs; and the bytes left out of the words taken.
 #[repr(C)]
 #[derive(Drop)]
+#[derive(Clone, Copy)]
 pub struct Picked {
     pub refusal: u8,
     pub taken: usize,

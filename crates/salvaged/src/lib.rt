@@ -1,4 +1,6 @@
 // The salvage of a recording: its log is read (log), and what the log falls into is printed, line by line (lines, walk).
+#![tactic(auto)]
+
 ghost use Rattle.salvaged.specs.Promises.{ListPromise};
 
 use listing::Given;
@@ -9,6 +11,7 @@ mod walk;
 
 // What is told: the bytes written, and whether every line had room.
 #[derive(Drop)]
+#[derive(Clone, Copy)]
 pub struct Salvaged {
     pub written: usize,
     pub whole: bool,
@@ -16,6 +19,7 @@ pub struct Salvaged {
 
 // The format heard, how many words, and what stands alone, if anything.
 #[derive(Drop)]
+#[derive(Clone, Copy)]
 pub(crate) struct Heard {
     pub letter: u8,
     pub count: usize,
@@ -24,6 +28,7 @@ pub(crate) struct Heard {
 
 // How far a log has been printed: the place, the bytes left out right before it, and what is told so far.
 #[derive(Drop)]
+#[derive(Clone, Copy)]
 pub(crate) struct Step {
     pub at: usize,
     pub left: usize,

@@ -1,4 +1,6 @@
 // What a host makes of the buttons of the reports that it is handed: which went down, and which went up.
+#![tactic(auto)]
+
 ghost use Rattle.saves.specs.Promises.{FreshPromise, KnowingPromise, HeardPromise, OverPromise};
 
 use wire::Report;
@@ -10,6 +12,7 @@ mod rules;
 // higher bits of it are not looked at.
 #[repr(C)]
 #[derive(Drop)]
+#[derive(Clone, Copy)]
 pub struct Watch {
     pub known: u8,
     pub last: u8,
@@ -19,6 +22,7 @@ pub struct Watch {
 // the next.
 #[repr(C)]
 #[derive(Drop)]
+#[derive(Clone, Copy)]
 pub struct Told {
     pub next: Watch,
     pub down: u8,
@@ -28,6 +32,7 @@ pub struct Told {
 // What many reports tell: how often each button went down, and the watch for the next.
 #[repr(C)]
 #[derive(Drop)]
+#[derive(Clone, Copy)]
 pub struct Watched {
     pub next: Watch,
     pub left: usize,

@@ -1,5 +1,7 @@
 // What every program here does with the system: bytes from standard input, bytes to standard output, words to standard error.
 // A program holds the moment, a number that each of these moves on. What has passed at a moment is named in specs/Outside.
+#![tactic(auto)]
+
 ghost use Rattle.std.specs.Prelude.{◌≡◌, ◌≤◌, false, [], length};
 ghost use Rattle.shell.specs.Outside.{Trace, Brought, Listened, Handed, Said};
 ghost use Rattle.shell.specs.Buffer.{Behind, Moved};
@@ -8,6 +10,7 @@ use libc::{STDERR_FILENO, STDIN_FILENO, STDOUT_FILENO};
 
 // How many bytes a read brought, and whether it went well.
 #[derive(Drop)]
+#[derive(Clone, Copy)]
 pub struct Got {
     pub count: usize,
     pub well: bool,

@@ -1,4 +1,6 @@
 // Text by value: bytes one behind the other (growth), and numbers as decimals (decimals); and where a byte stands.
+#![tactic(auto)]
+
 ghost use Rattle.text.specs.Promises.{LengthToPromise};
 
 mod decimals;
@@ -9,6 +11,7 @@ pub const PLAIN: usize = 1;
 
 // The bytes of a text are its first len.
 #[derive(Drop)]
+#[derive(Clone, Copy)]
 pub struct Text {
     pub bytes: [u8; 40],
     pub len: usize,
@@ -16,6 +19,7 @@ pub struct Text {
 
 // The number of a decimal, if it is one.
 #[derive(Drop)]
+#[derive(Clone, Copy)]
 pub enum Number {
     None,
     Is(i64),

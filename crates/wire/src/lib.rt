@@ -1,4 +1,6 @@
 // The seven formats of the old mice: a report and its bytes.
+#![tactic(auto)]
+
 ghost use Rattle.wire.specs.Promises.{KnownPromise, SizePromise, MarkedPromise, FitsPromise, ReportPromise, EncodePromise};
 
 mod digits;
@@ -43,6 +45,7 @@ pub const BAD_STATE: u8 = 6;
 // A report: the buttons as 4L+2M+R, the movement, and the second pair, which is zero except in U. North is positive.
 #[repr(C)]
 #[derive(Drop)]
+#[derive(Clone, Copy)]
 pub struct Report {
     pub buttons: u8,
     pub x1: i16,
@@ -53,6 +56,7 @@ pub struct Report {
 
 // The formats of the letters S, V, A, B, U, T, W.
 #[derive(Drop)]
+#[derive(Clone, Copy)]
 pub enum Format {
     Mm,
     Microsoft,
@@ -65,6 +69,7 @@ pub enum Format {
 
 // What a letter names.
 #[derive(Drop)]
+#[derive(Clone, Copy)]
 pub enum Named {
     Known(Format),
     Unknown,
@@ -72,6 +77,7 @@ pub enum Named {
 
 // What the encoder answers: how many bytes it wrote, or why it refused.
 #[derive(Drop)]
+#[derive(Clone, Copy)]
 pub enum Encoded {
     Written(usize),
     NoSuchLetter,
@@ -85,6 +91,7 @@ pub enum Encoded {
 
 // The movements that a format holds, from low to high.
 #[derive(Drop)]
+#[derive(Clone, Copy)]
 pub struct Range {
     pub low: i16,
     pub high: i16,
@@ -92,6 +99,7 @@ pub struct Range {
 
 // Which movement of a report a format does not hold: none, or the first in this order.
 #[derive(Drop)]
+#[derive(Clone, Copy)]
 pub enum Unheld {
     None,
     FirstX,

@@ -1,5 +1,7 @@
 // The yard check: whether a box of ours, set to a format and then asked only for reports, can send the words of a log. Here stand its parts, its
 // numbers, and what a user calls.
+#![tactic(auto)]
+
 ghost use Rattle.yard.specs.Promises.{FreshPromise, StepPromise, CheckPromise};
 
 use crate::rules::{none_gone, refusing};
@@ -14,6 +16,7 @@ mod stands;
 // and how many have gone; and 1 where a word has come that no box could send, else 0.
 #[repr(C)]
 #[derive(Drop)]
+#[derive(Clone, Copy)]
 pub struct Yard {
     pub format: u8,
     pub first: u8,
@@ -25,6 +28,7 @@ pub struct Yard {
 // A new check, or why there is none of this letter.
 #[repr(C)]
 #[derive(Drop)]
+#[derive(Clone, Copy)]
 pub struct NewYard {
     pub refusal: u8,
     pub yard: Yard,
@@ -33,6 +37,7 @@ pub struct NewYard {
 // What a word gives back: 1 where a box can have sent it, with those before it, else 0.
 #[repr(C)]
 #[derive(Drop)]
+#[derive(Clone, Copy)]
 pub struct Judged {
     pub refusal: u8,
     pub can: u8,
@@ -42,6 +47,7 @@ pub struct Judged {
 // What a log gives back: 1 where a box can send all of it, else 0, and how many of its words, from the first, it can.
 #[repr(C)]
 #[derive(Drop)]
+#[derive(Clone, Copy)]
 pub struct Checked {
     pub refusal: u8,
     pub proper: u8,
