@@ -39,11 +39,11 @@ module _ {R : Type 0} (F : Frame R) where
 
   pub skip : {k : List ℕ} {rs : List R} (lost words : List ℕ) → Line k (lost ++ words) rs → Rest words rs
   skip {k} {rs} [] words l = record { going = k; left = rs; line = l; among = sub_all rs }
-  skip (w ∷ lost) words (pauses l) = skip lost words l
-  skip (w ∷ lost) words (breaks l) = skip lost words l
-  skip (w ∷ lost) words (goes_on h c l) = skip lost words l
-  skip (w ∷ lost) words (finishes h c l) =
-      let x = skip lost words l in
+  skip {k = k} {rs = rs} (w ∷ lost) words (pauses l) = skip {k = k} {rs = rs} lost words l
+  skip {k = k} {rs = rs} (w ∷ lost) words (breaks l) = skip {k = []} {rs = rs} lost words l
+  skip {k = k} {rs = rs} (w ∷ lost) words (goes_on h c l) = skip {k = k ++ (w ∷ [])} {rs = rs} lost words l
+  skip {k = k} (w ∷ lost) words (finishes {rs = rs} h c l) =
+      let x = skip {k = []} {rs = rs} lost words l in
       record { going = x.going; left = x.left; line = x.line; among = gone x.among }
 
 -- the words of passages are such a line
@@ -169,16 +169,16 @@ module _ {R : Type 0} (F : Frame R) (L : Laws F) (M : F.marked ≡ true → Mark
   -- so that over what is left only finished reports are handed out
   pub follow : {s : State} {k left words : List ℕ} {rs : List R} → Shown F.marked left words → Line F k words rs → Beside s k → Sub (read F s left) rs
   follow whole ends st = none
-  follow {s} (damage.stays {left = ds} d) (pauses l) st = rw (passes F (length (kept s)) s silence ds (quiet F s)) (follow d l in_step)
-  follow {s} (damage.stays {left = ds} d) (breaks l) st = rw (passes F (length (kept s)) s break ds (broken_off s)) (follow d l out)
-  follow (damage.stays {left = ds} d) (goes_on h c l) st = at_more ds h c st (follow d l in_step) (follow d l out)
-  follow (damage.stays {left = ds} d) (finishes h c l) st = at_last ds h c st (follow d l in_step) (follow d l out)
-  follow (unheard d) (pauses l) st = follow d l st
+  follow {s} (damage.stays {left = ds} d) (pauses l) st = rw (passes F (length (kept s)) s silence ds (quiet F s)) (follow {s = has []} d l in_step)
+  follow {s} (damage.stays {left = ds} d) (breaks l) st = rw (passes F (length (kept s)) s break ds (broken_off s)) (follow {s = fresh F} d l out)
+  follow {s} {k} (damage.stays {left = ds} d) (goes_on {b = b} h c l) st = at_more ds h c st (follow {s = has (k ++ (b ∷ []))} d l in_step) (follow {s = fresh F} d l out)
+  follow {s} {k} (damage.stays {left = ds} d) (finishes h c l) st = at_last ds h c st (follow {s = has []} d l in_step) (follow {s = fresh F} d l out)
+  follow {s} (unheard d) (pauses l) st = follow {s = s} d l st
   follow {k = k} (unheard d) (goes_on h c l) st = absurd (omega (arith, L.byte k silence h))
   follow {k = k} (unheard d) (finishes h c l) st = absurd (omega (arith, L.byte k silence h))
   follow {s} (scar lost {left = ds} {words} d) l st =
       let x = skip F lost words l in
-      rw (passes F (length (kept s)) s break ds (broken_off s)) (sub_then (follow d x.line out) x.among)
+      rw (passes F (length (kept s)) s break ds (broken_off s)) (sub_then (follow {s = fresh F} d x.line out) x.among)
   follow {s} (comes_in {left = ds} m d) l st =
       let o : fresh F ≡ has [] = rw m in
-      rw (passes F (length (kept s)) s silence ds (quiet F s), ← o) (follow d l out)
+      rw (passes F (length (kept s)) s silence ds (quiet F s), ← o) (follow {s = fresh F} d l out)

@@ -26,9 +26,9 @@ module _ {A : Type 0} where
 
   pub sub_then : {a b c : List A} → Sub a b → Sub b c → Sub a c
   sub_then h none = h
-  sub_then h (gone k) = gone (sub_then h k)
-  sub_then (gone h) (stays k) = gone (sub_then h k)
-  sub_then (stays h) (stays k) = stays (sub_then h k)
+  sub_then {a = a} h (gone {all = all} k) = gone (sub_then {a = a} h k)
+  sub_then {a = a} (gone h) (stays k) = gone (sub_then {a = a} h k)
+  sub_then (stays {left = left} h) (stays k) = stays (sub_then {a = left} h k)
 
   pub sub_take : (n : ℕ) (l : List A) → Sub (take n l) l
   sub_take zero l = sub_none l

@@ -4,7 +4,7 @@ use mathlib.Core.Path.{◌≡◌, refl, sym, ap}
 use mathlib.Core.Bool.{false, not}
 use mathlib.Core.List.Memᴰ.{head as here}
 use mathlib.Core.List.Memᴰ.{tail as there}
-use mathlib.Core.List.{List, ◌∷◌, map, Memᴰ}
+use mathlib.Core.List.{List, [], ◌∷◌, map, Memᴰ}
 use lib.ListN.{length}
 use lib.Dec.{ltb}
 use borrow.Author.Tests.{not-true}
@@ -43,5 +43,6 @@ refusals letter r before after a p = rw p (encode_rightly (named_by letter) r be
 
 -- each of them tells no length and leaves the buffer
 pub unwritten_leaves : (before : List ℕ) {e : Encoding} (numbers : List ℕ) → Memᴰ e (map (λ (n : ℕ). refused n before) numbers) → (e.told ≡ 0) × (e.buffer ≡ before)
+unwritten_leaves before {e = e} [] m = elim m [ ]
 unwritten_leaves before (n ∷ numbers) (here q) = (ap (λ (x : Encoding). x.told) q, ap (λ (x : Encoding). x.buffer) q)
 unwritten_leaves before (n ∷ numbers) (there m) = unwritten_leaves before numbers m

@@ -1,0 +1,13 @@
+-- `marked`: of the format that the letter names, if it names one.
+use borrow.Author.Rules.{rules}
+use mathlib.Core.Path.{sym, ◌∙◌}
+use Rattle.wire.specs.Line.{marked_by}
+use Rattle.wire.proofs.marked.Goals as goal
+
+pub returns-in-Known : goal.returns-in-Known
+unfolding marked_by
+returns-in-Known c = rw (sym c.format_of.ensures ∙ c.in-Known.is) c.marked_of.ensures
+
+pub returns-in-Unknown : goal.returns-in-Unknown
+unfolding marked_by
+returns-in-Unknown c = rw (sym c.format_of.ensures ∙ c.in-Unknown.is)
