@@ -1,7 +1,5 @@
 -- `by_box`: the box's answer, with the device around it.
 use borrow.Author.Rules.{rules}
-use Rattle.puck.proofs.Puck.by_box.Statement.{statement}
-use Rattle.puck.proofs.Puck.by_box.Tie as tie
 use mathlib.Core.Path.{◌∙◌, ap}
 use Rattle.ballbox.specs.Promises.{stepped, step_of}
 use Rattle.ballbox.specs.declared.Event.{Event}
@@ -10,15 +8,13 @@ use Rattle.puck.specs.Device.{with_ball}
 use Rattle.puck.specs.declared.Puck.{Puck}
 use Rattle.puck.specs.declared.PuckStepped.{PuckStepped}
 use Rattle.puck.specs.Rules.{by_box}
+use Rattle.puck.proofs.Puck.by_box.Goals as goal
 
 -- the device around an answer of the box's
 abbrev around : Puck → Stepped → PuckStepped
 around p s = record { refusal = s.refusal; sent = s.sent; word = s.word; rest = s.rest; next = with_ball s.next p }
 
-returns : tie.Need-returns
+pub returns : goal.returns
 unfolding by_box
-returns c = let s = c.before.before.before.before.args.self in
-    ap (around s) (c.before.step.ensures ∙ ap (λ (e : Event). stepped (step_of s.ball e)) c.before.before.as_box_lem.ensures)
-
-pub by_box_spec : {M : Type 1} → statement M
-by_box_spec = tie.close (tie.spec (λ c κs. search rules) (λ c κs. search rules) returns)
+returns c = let s = c.args.self in
+    ap (around s) (c.step-s.ensures ∙ ap (λ (e : Event). stepped (step_of s.ball e)) c.as_box.ensures)
