@@ -19,4 +19,4 @@ unfolding convert_of
 returns c = let a = c.args in
     let i = c.convert.ensures ∙ ap (λ (b : Bridge). bridge.convert_of b a.words.now a.out.now) c.unpacked.ensures in
     simp (sym c.stands.ensures ∙ not-false _ c.if-not-stands.false-raw)
-    (ap (λ (l : ConvertedWords). whole l c.convert.new.1.1.0) c.packed_converted.ensures ∙ ap packed_long i)
+    (ap (λ (l : ConvertedWords). whole l c.convert.new.out) c.packed_converted.ensures ∙ ap packed_long i)

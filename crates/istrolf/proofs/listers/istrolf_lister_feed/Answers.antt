@@ -19,4 +19,4 @@ unfolding feed_of
 returns c = let a = c.args in
     let i = c.feed.ensures ∙ ap (λ (m : Lister). listing.feed_of m a.input.now a.out.now) c.unpacked.ensures in
     simp (sym c.stands.ensures ∙ not-false _ c.if-not-stands.false-raw)
-    (ap (λ (l : ListedBytes). whole l c.feed.new.1.1.0) c.packed_listed.ensures ∙ ap packed_whole i)
+    (ap (λ (l : ListedBytes). whole l c.feed.new.out) c.packed_listed.ensures ∙ ap packed_whole i)

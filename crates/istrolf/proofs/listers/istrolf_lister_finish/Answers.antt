@@ -19,4 +19,4 @@ unfolding finish_of
 returns c = let a = c.args in
     let i = c.finish.ensures ∙ ap (λ (m : Lister). listing.finish_of m a.out.now) c.unpacked.ensures in
     simp (sym c.stands.ensures ∙ not-false _ c.if-not-stands.false-raw)
-    (ap (λ (l : ListedBytes). whole l c.finish.new.1.0) c.packed_listed.ensures ∙ ap packed_whole i)
+    (ap (λ (l : ListedBytes). whole l c.finish.new.out) c.packed_listed.ensures ∙ ap packed_whole i)

@@ -6,4 +6,4 @@ use Rattle.istrolf.specs.declared.ReadPuckWords.{ReadPuckWords}
 use Rattle.istrolf.proofs.pucks.istrolf_puck_reader_read.Goals as goal
 
 pub returns : goal.returns
-returns c = ap (λ (w : ReadPuckWords). whole w c.read.new.1.1.0) c.packed_reading.ensures ∙ c.read.ensures
+returns c = ap (λ (w : ReadPuckWords). whole w c.read.new.out) c.packed_reading.ensures ∙ c.read.ensures

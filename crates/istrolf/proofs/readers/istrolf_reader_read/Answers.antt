@@ -19,4 +19,4 @@ unfolding read_of
 returns c = let a = c.args in
     let i = c.read.ensures ∙ ap (λ (r : Reader). reader.read_of r a.words.now a.out.now) c.unpacked.ensures in
     simp (sym c.stands.ensures ∙ not-false _ c.if-not-stands.false-raw)
-    (ap (λ (w : ReadWords). whole w c.read.new.1.1.0) c.packed_reading.ensures ∙ ap packed_long i)
+    (ap (λ (w : ReadWords). whole w c.read.new.out) c.packed_reading.ensures ∙ ap packed_long i)

@@ -18,6 +18,6 @@ returns-then-not-stands c = let a = c.args in
 pub returns : goal.returns
 unfolding told_read_of
 returns c = let a = c.args in
-    let i = read_is c.unpacked.result a.words.now a.out.now c.read.result c.read.new.1.1.0 c.read.ensures ∙ ap (λ (r : ToldReader). replies.read_of r a.words.now a.out.now) c.unpacked.ensures in
+    let i = read_is c.unpacked.result a.words.now a.out.now c.read.result c.read.new.out c.read.ensures ∙ ap (λ (r : ToldReader). replies.read_of r a.words.now a.out.now) c.unpacked.ensures in
     simp (sym c.stands.ensures ∙ not-false _ c.if-not-stands.false-raw)
-    (ap (λ (w : HeardWords). whole w c.read.new.1.1.0) c.packed_line.ensures ∙ ap packed_long i)
+    (ap (λ (w : HeardWords). whole w c.read.new.out) c.packed_line.ensures ∙ ap packed_long i)
