@@ -9,8 +9,9 @@ ghost use Rattle.std.specs.Io.KnownBytes.{Appends};
 ghost use Rattle.shell.specs.Outside.{Trace, Brought, Listened, Handed, Said};
 ghost use Rattle.shell.specs.Buffer.{Behind, Moved};
 
+use std::env::FillError;
 use std::io::{Error, ErrorKind, Read, Stderr, Stdin, Stdout, Write};
-use std::rt::Clock;
+use std::rt::{Clock, Env};
 use words::Words;
 
 // The three streams of a program, as `main` has them of its runtime.
@@ -159,6 +160,24 @@ pub fn seconds(clock: &impl Clock) -> i64 {
         Ok(time) => i64::try_from(time.as_secs()).unwrap_or(-1),
         Err(_) => -1,
     }
+}
+
+// How many words the program was called with, its own name among them: no more than so many.
+pub fn word_count(call: &impl Env, most: usize) -> usize {
+    let mut none = [0u8; 1];
+    for i in 0..most {
+        if let Err(FillError::NotPresent) = call.arg(i, &mut none) {
+            return i;
+        }
+    }
+    most
+}
+
+// One of them at the front of a part of a buffer, and how long it is: 0 where it is missing or longer than the part.
+pub fn word(call: &impl Env, place: usize, part: &mut [u8]) -> usize
+    ensures { result ≤ length part.new }
+{
+    call.arg(place, part).unwrap_or(0)
 }
 
 // So many bytes of a buffer from a place on, moved to its front. Where it has not so many, nothing is moved.
