@@ -24,11 +24,13 @@ power n = omega arith
 
 -- a number below 256 to the n has nothing from the n-th byte on
 above_none : (l : List ℕ) (k i n j : ℕ) → number_from k i l < 256 ^ n → n ≤ j → j < k → at (i + j) l ≡ 0
+above_none l zero i n j h a b = elim b [ ]
 above_none l (suc k) i zero zero h a b = let e : i + 0 ≡ i = omega arith in subst (λ (m : ℕ). at m l ≡ 0) (sym e) (omega arith)
 above_none l (suc k) i zero (suc j) h a b =
     let e : i + suc j ≡ suc i + j = omega arith in
     let r : number_from k (suc i) l < 256 ^ 0 = omega arith in
     subst (λ (m : ℕ). at m l ≡ 0) (sym e) (above_none l k (suc i) zero j r (omega arith) (omega arith))
+above_none l (suc k) i (suc n) zero h a b = elim a [ ]
 above_none l (suc k) i (suc n) (suc j) h a b =
     let e : i + suc j ≡ suc i + j = omega arith in
     let p = power n in

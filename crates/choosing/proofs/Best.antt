@@ -27,6 +27,8 @@ more_runs size [] (c ∷ cs) h = absurd h
 more_runs size (a ∷ l) (c ∷ cs) h = omega (arith, more_runs size l cs h.1)
 
 none_smaller : (l cs : List ℕ) → Ahead l cs → Smaller cs l → ⊥
+none_smaller [] cs h x = elim x [ ]
+none_smaller (a ∷ l) [] h x = elim x [ ]
 none_smaller (a ∷ l) (c ∷ cs) h (here b) = omega (arith, h.0)
 none_smaller (a ∷ l) (c ∷ cs) h (there s) = none_smaller l cs h.1 s
 

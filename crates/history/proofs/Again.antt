@@ -211,23 +211,23 @@ unfolding all_hosts passages_over going_over
 shown_again b g [] h a = tt
 shown_again b g (Motion dx dy ∷ events) h a =
     let s = streams_step b (Motion dx dy) g h refl in
-    again_behind (told_by b (Motion dx dy) g).passages _ _ (quiet_unbroken b (Motion dx dy) g h.awake motion) (shown_again _ _ events s.next a)
+    again_behind (told_by b (Motion dx dy) g).passages _ _ (quiet_unbroken b (Motion dx dy) g h.awake motion) (shown_again (next_box b (Motion dx dy)) (told_by b (Motion dx dy) g).going events s.next a)
 shown_again b g (Buttons n ∷ events) h a =
     let s = streams_step b (Buttons n) g h refl in
-    again_behind (told_by b (Buttons n) g).passages _ _ (quiet_unbroken b (Buttons n) g h.awake buttons) (shown_again _ _ events s.next a)
+    again_behind (told_by b (Buttons n) g).passages _ _ (quiet_unbroken b (Buttons n) g h.awake buttons) (shown_again (next_box b (Buttons n)) (told_by b (Buttons n) g).going events s.next a)
 shown_again b g (Host byte ∷ events) h a =
     let s = streams_step b (Host byte) g h (left (not (empties byte)) (none_empties events) a) in
     let more = right (not (empties byte)) (none_empties events) a in
-    host_again b byte g events h s more (shown_again _ _ events s.next more)
+    host_again b byte g events h s more (shown_again (next_box b (Host byte)) (told_by b (Host byte) g).going events s.next more)
 shown_again b g (Latch ∷ events) h a =
     let s = streams_step b Latch g h refl in
-    again_behind (told_by b Latch g).passages _ _ (latch_unbroken b g h.awake) (shown_again _ _ events s.next a)
+    again_behind (told_by b Latch g).passages _ _ (latch_unbroken b g h.awake) (shown_again (next_box b Latch) (told_by b Latch g).going events s.next a)
 shown_again b g (Send ∷ events) h a =
     let s = streams_step b Send g h refl in
-    again_behind (told_by b Send g).passages _ _ (send_unbroken b g h.awake) (shown_again _ _ events s.next a)
+    again_behind (told_by b Send g).passages _ _ (send_unbroken b g h.awake) (shown_again (next_box b Send) (told_by b Send g).going events s.next a)
 shown_again b g (Period ∷ events) h a =
     let s = streams_step b Period g h refl in
-    again_behind (told_by b Period g).passages _ _ (quiet_unbroken b Period g h.awake period) (shown_again _ _ events s.next a)
+    again_behind (told_by b Period g).passages _ _ (quiet_unbroken b Period g h.awake period) (shown_again (next_box b Period) (told_by b Period g).going events s.next a)
 
 -- with no byte of the host's nothing is broken off
 unbroken_append : (p q : List (Passage Message)) → Unbroken p → Unbroken q → Unbroken (p ++ q)
@@ -241,14 +241,14 @@ unfolding all_hosts passages_over
 no_host_unbroken b g [] h a = tt
 no_host_unbroken b g (Motion dx dy ∷ events) h a =
     unbroken_append (told_by b (Motion dx dy) g).passages _ (quiet_unbroken b (Motion dx dy) g h.awake motion)
-    (no_host_unbroken _ _ events (streams_step b (Motion dx dy) g h refl).next a)
+    (no_host_unbroken (next_box b (Motion dx dy)) (told_by b (Motion dx dy) g).going events (streams_step b (Motion dx dy) g h refl).next a)
 no_host_unbroken b g (Buttons n ∷ events) h a =
     unbroken_append (told_by b (Buttons n) g).passages _ (quiet_unbroken b (Buttons n) g h.awake buttons)
-    (no_host_unbroken _ _ events (streams_step b (Buttons n) g h refl).next a)
+    (no_host_unbroken (next_box b (Buttons n)) (told_by b (Buttons n) g).going events (streams_step b (Buttons n) g h refl).next a)
 no_host_unbroken b g (Host byte ∷ events) h a = absurd (holds a)
 no_host_unbroken b g (Latch ∷ events) h a =
-    unbroken_append (told_by b Latch g).passages _ (latch_unbroken b g h.awake) (no_host_unbroken _ _ events (streams_step b Latch g h refl).next a)
+    unbroken_append (told_by b Latch g).passages _ (latch_unbroken b g h.awake) (no_host_unbroken (next_box b Latch) (told_by b Latch g).going events (streams_step b Latch g h refl).next a)
 no_host_unbroken b g (Send ∷ events) h a =
-    unbroken_append (told_by b Send g).passages _ (send_unbroken b g h.awake) (no_host_unbroken _ _ events (streams_step b Send g h refl).next a)
+    unbroken_append (told_by b Send g).passages _ (send_unbroken b g h.awake) (no_host_unbroken (next_box b Send) (told_by b Send g).going events (streams_step b Send g h refl).next a)
 no_host_unbroken b g (Period ∷ events) h a =
-    unbroken_append (told_by b Period g).passages _ (quiet_unbroken b Period g h.awake period) (no_host_unbroken _ _ events (streams_step b Period g h refl).next a)
+    unbroken_append (told_by b Period g).passages _ (quiet_unbroken b Period g h.awake period) (no_host_unbroken (next_box b Period) (told_by b Period g).going events (streams_step b Period g h refl).next a)

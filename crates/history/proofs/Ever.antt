@@ -124,7 +124,7 @@ buttons_owe b n g k l h = go (eqb n b.settings.buttons) refl (is_stream b.settin
     go false e false q =
         rw (e, q)
         (record {
-          showing = same_showing g b _ refl h;
+          showing = same_showing g b (box.with_buttons n b) refl h;
           less = changed_less (remembered b.memory) (remembered b.memory) (buttons_going g) b.settings.buttons n (sub_more (remembered b.memory) (n ∷ []));
         })
     go false e true q =

@@ -111,12 +111,12 @@ awake_listens b Period a h = record { awake = h.awake; stream = h.stream }
 awake_keeps : (b : BallBox) (e : Event) (g : UnderWay Message) → Streams b g → hosts_pass (λ byte. not (empties byte)) e ≡ true → above_seven e ≡ false
     → Keeps (noting (full b.memory) (change_to b e) (remembered b.memory)) (awake b e).next (shown_by (when_awake b e g).passages) (when_awake b e g).going
 unfolding awake on_period
-awake_keeps b (Motion dx dy) g h a s = record { showing = same_showing g b _ refl h.showing; order = refl }
+awake_keeps b (Motion dx dy) g h a s = record { showing = same_showing g b (awake b (Motion dx dy)).next refl h.showing; order = refl }
 awake_keeps b (Buttons n) g h a s = buttons_keep b n g (parts b h.good).memory h.stream (ltb-false 7 n s) h.showing
 awake_keeps b (Host byte) g h a s = host_keeps b byte g (not-true (empties byte) a) h.carries h.showing
 awake_keeps b Latch g h a s = latch_keeps b g (parts b h.good).memory h.carries h.showing
 awake_keeps b Send g h a s = send_keeps b g (parts b h.good).memory h.carries h.showing
-awake_keeps b Period g h a s = record { showing = same_showing g b _ refl h.showing; order = refl }
+awake_keeps b Period g h a s = record { showing = same_showing g b (awake b Period).next refl h.showing; order = refl }
 
 no_change : (b : BallBox) (e : Event) → above_seven e ≡ true → change_to b e ≡ []
 no_change b (Motion dx dy) s = refl

@@ -13,7 +13,7 @@ use Rattle.frames.specs.Passages.{UnderWay, nothing, first}
 use Rattle.frames.specs.Sender.{sent_one, broken_off}
 use Rattle.wire.specs.Line.{known}
 use Rattle.wire.specs.Messages.{Message, report, reply, message_bytes}
-use Rattle.ballbox.specs.Box.{mode_d}
+use Rattle.ballbox.specs.Box.{mode_d, with_buttons, with_memory}
 use Rattle.ballbox.specs.Presses.{remembered, any_remembered, full, remembering, to_show, showing_first, shown, hidden, showing}
 use Rattle.ballbox.specs.Latching.{latched, latched_report, second_latched}
 use Rattle.ballbox.specs.Commands.{is_stream, letter_p, space, letterf, lettert, byte05, letterd, command_of, reply_to, obeyed}
@@ -190,7 +190,7 @@ buttons_keep b n g k s l h = go (eqb n b.settings.buttons) refl
   where
     go : (t : Bool) → eqb n b.settings.buttons ≡ t → Keeps (noting (full b.memory) (change_to b (Buttons n)) (remembered b.memory)) (on_buttons n b) [] g
     go true e = rw (le-leb n 7 l, e) (record { showing = h; order = refl })
-    go false e = rw (le-leb n 7 l, e, s) (record { showing = remembering_showing b _ n g k refl h; order = sym (noted b.memory k n) })
+    go false e = rw (le-leb n 7 l, e, s) (record { showing = remembering_showing b (with_buttons n (with_memory (remembering n b.memory) b)) n g k refl h; order = sym (noted b.memory k n) })
 
 -- a byte of the host's that empties nothing
 abbrev pub Kept : Command → Type 0
@@ -250,6 +250,6 @@ host_keeps b byte g k c h =
     let d = dropped_memory b g c h in
     rw (broken_shows g)
     (record {
-      showing = reply_showing (reply_to b (command_of byte)) _ (ap showing e ∙ d.0);
+      showing = reply_showing (reply_to b (command_of byte)) (on_host byte b).next (ap showing e ∙ d.0);
       order = sym (ap remembered e ∙ d.1);
     })

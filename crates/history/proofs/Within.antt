@@ -185,6 +185,7 @@ over_send b nothing false events same rest (suc t) h r l n =
     let f = (step_alike b Send refl h.good h.awake).format in
     let kept : remembered b.memory ≡ remembered (next_box b Send).memory = rw d at s.order in
     rw d ((rw d at rest) (suc t) (rw d at s.next) tt (omega (arith, ap length kept)) (rw f (omega (arith, n, same))))
+over_send b nothing true events same rest (suc t) h r l n = elim r [ ]
 over_send b (first i m) latched events same rest (suc t) h r l n =
     go (send_nearer b i m t (slots_from false events) h (omega (arith, n, same, one_slot)))
   where
@@ -228,12 +229,12 @@ pub shown_within : (b : BallBox) (g : UnderWay Message) (latched : Bool) (events
 unfolding all_hosts slots_from
 shown_within b g latched [] a zero h r l n = omega arith
 shown_within b g latched [] a (suc t) h r l n = absurd (omega (arith, some_come b g h))
-shown_within b g latched (Motion dx dy ∷ events) a t h r l n = over_quiet b g latched (Motion dx dy) events motion refl (shown_within _ g latched events a) t h r l n
-shown_within b g latched (Buttons k ∷ events) a t h r l n = over_quiet b g latched (Buttons k) events buttons refl (shown_within _ g latched events a) t h r l n
+shown_within b g latched (Motion dx dy ∷ events) a t h r l n = over_quiet b g latched (Motion dx dy) events motion refl (shown_within (next_box b (Motion dx dy)) g latched events a) t h r l n
+shown_within b g latched (Buttons k ∷ events) a t h r l n = over_quiet b g latched (Buttons k) events buttons refl (shown_within (next_box b (Buttons k)) g latched events a) t h r l n
 shown_within b g latched (Host byte ∷ events) a t h r l n = absurd (holds a)
-shown_within b g latched (Latch ∷ events) a t h r l n = over_latch b g latched events refl (shown_within _ _ true events a) t h r l n
-shown_within b g latched (Send ∷ events) a t h r l n = over_send b g latched events refl (shown_within _ _ false events a) t h r l n
-shown_within b g latched (Period ∷ events) a t h r l n = over_quiet b g latched Period events period refl (shown_within _ g latched events a) t h r l n
+shown_within b g latched (Latch ∷ events) a t h r l n = over_latch b g latched events refl (shown_within (next_box b Latch) (told_by b Latch g).going true events a) t h r l n
+shown_within b g latched (Send ∷ events) a t h r l n = over_send b g latched events refl (shown_within (next_box b Send) (told_by b Send g).going false events a) t h r l n
+shown_within b g latched (Period ∷ events) a t h r l n = over_quiet b g latched Period events period refl (shown_within (next_box b Period) g latched events a) t h r l n
 
 message_size : (b : BallBox) (n : ℕ) (m : Message) → Streams b (first n m) → length (message_bytes m) ≤ size_by b.settings.format
 message_size b n (report l) h =

@@ -53,6 +53,7 @@ box_rightly p e = go (step_rightly p.ball (as_box e))
     listed : Memᴰ (ballbox.step_of p.ball (as_box e)) (box.refused bad_state p.ball ∷ box.refused bad_buttons p.ball ∷ []) → StepRefusal p (by_box p e)
     listed (here q) = refusal (here (ap (around p) q))
     listed (there (here q)) = refusal (there (here (ap (around p) q)))
+    listed (there (there x)) = elim x [ ]
 
     go : ballbox.StepRefusal p.ball (ballbox.step_of p.ball (as_box e)) → StepRefusal p (by_box p e)
     go (accepted z) = accepted z

@@ -104,7 +104,7 @@ module _ (m : PuckMessage) (h : HeldByPuck m) (p : PuckReport) (shown : shown_by
       go (b ∷ c ∷ cs) w d =
           let e = ap (frame.answers puck_frame (has [])) (sym (append-nil (b ∷ c ∷ cs))) ∙ ready_reads puck_frame puck_marked.laws b c cs [] w.0 w.1 in
           let n : suc (suc (length cs)) - 1 ≡ suc (length cs) = omega arith in
-          ap (map told) e ∙ rw (map-append, nothings (length cs), d, handed p, n)
+          ap (map told) e ∙ rw (map-append told, nothings (length cs), d, handed p, n)
 
   state : state_over reads fresh (puck_bytes m) ≡ fresh
   state =

@@ -33,7 +33,7 @@ overflow_add-at c =
     let a = c.args in
     let t = c.first-t.result in
     Stands hears_bytes a.port a.raw.now a.out.now t.next (l.at + t.taken) (l.used + t.written) (l.used + t.written)
-    (put_mid l.used (length l.out - l.used) l.out c.first-t.new.1.1.0) = more c.loop-at.invariant c.first-t.ensures in
+    (put_mid l.used (length l.out - l.used) l.out c.first-t.new.out) = more c.loop-at.invariant c.first-t.ensures in
     omega (arith, far turn, c.well_formed.1.0.1)
 
 pub overflow_add-used : goal.overflow_add-used
@@ -42,7 +42,7 @@ overflow_add-used c =
     let a = c.args in
     let t = c.first-t.result in
     Stands hears_bytes a.port a.raw.now a.out.now t.next (l.at + t.taken) (l.used + t.written) (l.used + t.written)
-    (put_mid l.used (length l.out - l.used) l.out c.first-t.new.1.1.0) = more c.loop-at.invariant c.first-t.ensures in
+    (put_mid l.used (length l.out - l.used) l.out c.first-t.new.out) = more c.loop-at.invariant c.first-t.ensures in
     omega (arith, far turn, c.well_formed.1.1.0.1)
 
 pub loop-at-smaller : goal.loop-at-smaller
@@ -51,7 +51,7 @@ loop-at-smaller c =
     let a = c.args in
     let t = c.first-t.result in
     Stands hears_bytes a.port a.raw.now a.out.now t.next (l.at + t.taken) (l.used + t.written) (l.used + t.written)
-    (put_mid l.used (length l.out - l.used) l.out c.first-t.new.1.1.0) = more c.loop-at.invariant c.first-t.ensures in
+    (put_mid l.used (length l.out - l.used) l.out c.first-t.new.out) = more c.loop-at.invariant c.first-t.ensures in
     omega (arith, far turn, c.if-t-eq0.false, c.loop-at-test.true)
 
 pub loop-at-preserved : goal.loop-at-preserved
@@ -60,7 +60,7 @@ loop-at-preserved c =
     let a = c.args in
     let t = c.first-t.result in
     Stands hears_bytes a.port a.raw.now a.out.now t.next (l.at + t.taken) (l.used + t.written) (l.used + t.written)
-    (put_mid l.used (length l.out - l.used) l.out c.first-t.new.1.1.0) = more c.loop-at.invariant c.first-t.ensures in
+    (put_mid l.used (length l.out - l.used) l.out c.first-t.new.out) = more c.loop-at.invariant c.first-t.ensures in
     turn
 
 pub returns : goal.returns

@@ -24,7 +24,7 @@ pub loop-at-preserved : goal.loop-at-preserved
 loop-at-preserved c = let l = c.loop-at in
     let numbers = c.args.numbers.now in
     let number = get_or numbers l.at (pos 0) in
-    let back : to_z w16 (of_z w16 number) ≡ number = to_z-of_z (record { sfits = c.low_three-arg-1.given }) in
+    let back : to_z w16 (of_z w16 number) ≡ number = to_z-of_z {w = w16} (record { sfits = c.low_three-arg-1.given }) in
     let now = low_three number in
     let same : c.low_three-now.result ≡ now = rw back at c.low_three-now.ensures in
     let is : c.with-watched.result ≡ with_report l.watched now = c.with-watched.ensures ∙ ap (with_report l.watched) same in

@@ -1,0 +1,6 @@
+-- `wanted`: due, or one remembered, or moved in mode O.
+use borrow.Author.Rules.{rules}
+use Rattle.ballbox.proofs.BallBox.wanted.Goals as goal
+
+pub returns : goal.returns
+returns c = simp (c.any.ensures, c.moved-moved.ensures)

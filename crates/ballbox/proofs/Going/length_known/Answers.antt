@@ -1,0 +1,6 @@
+-- `length_known`: the size is the wire's.
+use borrow.Author.Rules.{rules}
+use Rattle.ballbox.proofs.Going.length_known.Goals as goal
+
+pub returns : goal.returns
+returns c = simp c.size.ensures

@@ -1,0 +1,6 @@
+-- `is_stream`: a timed mode or O.
+use borrow.Author.Rules.{rules}
+use Rattle.ballbox.proofs.commands.is_stream.Goals as goal
+
+pub returns : goal.returns
+returns c = simp c.is_timed.ensures

@@ -1,0 +1,8 @@
+-- `test_byte`: the byte, and one less to send.
+use borrow.Author.Rules.{rules}
+use Rattle.puck.specs.Rules.{test_byte}
+use Rattle.puck.proofs.Puck.test_byte.Goals as goal
+
+pub returns : goal.returns
+unfolding test_byte
+returns c = rw (c.less_one-self.ensures, c.byte_of_test-byte.ensures) at c.gives.ensures

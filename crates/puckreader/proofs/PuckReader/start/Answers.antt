@@ -1,0 +1,7 @@
+-- `start`: one byte, and the kept dropped.
+use borrow.Author.Rules.{rules}
+use Rattle.puckreader.proofs.Kept.{held, kept_count}
+use Rattle.puckreader.proofs.PuckReader.start.Goals as goal
+
+pub returns : goal.returns
+returns c = rw (c.answering.ensures, c.dropping.ensures, c.holding.ensures, kept_count _ (held _ c.requires))
