@@ -21,7 +21,7 @@ use Rattle.frames.proofs.Reading.{on}
 use Rattle.frames.proofs.Replaced as replaced
 use Rattle.reader.specs.State.{five_of}
 use Rattle.reader.specs.Counts.{handed_out, numbers}
-use Rattle.reader.specs.Promises.{FreshPromise}
+use Rattle.reader.specs.Promises.{step_of, FreshPromise}
 use Rattle.reader.specs.Runs.{steps_of, StepsPromise, answers}
 use Rattle.reader.specs.declared.Reader.{Reader}
 use Rattle.reader.specs.declared.NewReader.{NewReader}
@@ -38,7 +38,7 @@ use Rattle.reader.proofs.Steps.{took}
 pub permitted : (r : Reader) (words : List ℕ) → StepsPromise r words (steps_of r words)
 unfolding steps_of StepsPromise
 permitted r [] = tt
-permitted r (w ∷ words) = (refl, permitted _ words)
+permitted r (w ∷ words) = (refl, permitted (step_of r w).next words)
 
 -- the reports among the answers
 same_reports : (l : List (frame.Answer Report)) → handed_out (map told l) ≡ frame.reports l

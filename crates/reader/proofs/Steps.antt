@@ -1,6 +1,6 @@
 -- A long read does exactly what the words one by one would do: it takes all line words where the slice has room for their reports. And so does a telling, where it has
 -- room for their answers.
-use Prim.Native.Nat.{ℕ, suc, ◌+◌, ◌-◌, ◌*◌, ◌≤◌}
+use Prim.Native.Nat.{ℕ, suc, ◌*◌, ◌≤◌}
 use mathlib.Core.Path.{◌≡◌, refl, sym, ◌∙◌, ap}
 use mathlib.Core.Bool.{true}
 use mathlib.Core.Logic.{⊎_elim}
@@ -23,7 +23,7 @@ use Rattle.reader.specs.Rules.{word_of}
 use Rattle.reader.specs.Line.{Long, whole, reads, reads_line}
 use Rattle.reader.specs.Telling.{Told, told_in, tells, tells_line, told}
 use Rattle.reader.specs.Counts.{written_in, handed_out, numbers, dropped_among}
-use Rattle.reader.specs.Promises.{ReadPromise, AnswersPromise}
+use Rattle.reader.specs.Promises.{step_of, ReadPromise, AnswersPromise}
 use Rattle.reader.specs.DamagedLines.{Took}
 use Rattle.reader.specs.Runs.{steps_of, StepsPromise, answers, reader_after}
 use Rattle.reader.specs.declared.Reader.{Reader}
@@ -63,7 +63,7 @@ steps_over writes (w ∷ words) r g =
 pub step_each : (r : Reader) (words : List ℕ) → length (steps_of r words) ≡ length words
 unfolding steps_of
 step_each r [] = refl
-step_each r (w ∷ words) = ap suc (step_each _ words)
+step_each r (w ∷ words) = ap suc (step_each (step_of r w).next words)
 
 each_legal : (words : List ℕ) → line_words words ≡ true → UpTo silence words
 unfolding line_words

@@ -1,0 +1,7 @@
+-- `lose`: the byte is dropped with the kept.
+use Rattle.reader.specs.Rules.{lose}
+use Rattle.reader.proofs.Reader.lose.Goals as goal
+
+pub returns : goal.returns
+unfolding lose
+returns c = rw (c.no_bytes.ensures, c.requires.0, c.requires.2) at c.answered.ensures

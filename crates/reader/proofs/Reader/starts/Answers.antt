@@ -1,0 +1,5 @@
+-- `starts`: a valid first byte, where the format is marked.
+use Rattle.reader.proofs.Reader.starts.Goals as goal
+
+pub returns : goal.returns
+returns c = rw (c.requires.1, c.fits.ensures, c.requires.0)
