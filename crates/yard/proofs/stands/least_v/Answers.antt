@@ -9,29 +9,23 @@ use mathlib.Core.Bool.{or-false}
 use mathlib.Core.List.{◌++◌}
 use Rattle.numbers.specs.Bits.{number, bits}
 use Rattle.yard.specs.Stands.{least_v}
-use Rattle.yard.proofs.stands.least_v.Statement.{statement}
-use Rattle.yard.proofs.stands.least_v.Tie as tie
+use Rattle.yard.proofs.stands.least_v.Goals as goal
 
-returns : tie.Need-returns
+pub returns-then-place-eq1 : goal.returns-then-place-eq1
 unfolding least_v
-returns c =
-    let a = c.before.args in
-    let p = c.if1.true in
+returns-then-place-eq1 c =
+    let a = c.args in
+    let p = c.if-place-eq1.true in
     let x : a.first % 4 * 64 + a.byte % 64 ≡ number (bits 2 0 a.first ++ bits 6 0 a.byte) = omega (arith, byte_x a.first a.byte) in
     simp (eq-eqb _ _ p, ne_eqb a.place 2 (λ e. omega arith), x, or-false)
 
-returns_2 : tie.Need-returns-2
+pub returns-then-place-eq2 : goal.returns-then-place-eq2
 unfolding least_v
-returns_2 c =
-    let a = c.before.before.args in
+returns-then-place-eq2 c =
+    let a = c.args in
     let y : a.first / 4 % 4 * 64 + a.byte % 64 ≡ number (bits 2 2 a.first ++ bits 6 0 a.byte) = omega (arith, byte_y a.first a.byte) in
-    simp (ne_eqb _ _ c.before.if1.false, eq-eqb _ _ c.if2.true, y)
+    simp (ne_eqb _ _ c.if-place-eq1.false, eq-eqb _ _ c.if-place-eq2.true, y)
 
-returns_3 : tie.Need-returns-3
+pub returns : goal.returns
 unfolding least_v
-returns_3 c = simp (ne_eqb _ _ c.before.if1.false, ne_eqb _ _ c.if2.false)
-
-pub least_v_spec : {M : Type 1} → statement M
-least_v_spec =
-    tie.close
-    (tie.spec (λ c. search rules) (λ c. search rules) returns (λ c. search rules) (λ c. search rules) returns_2 returns_3)
+returns c = simp (ne_eqb _ _ c.if-place-eq1.false, ne_eqb _ _ c.if-place-eq2.false)
