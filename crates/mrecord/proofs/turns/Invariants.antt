@@ -1,0 +1,19 @@
+-- Turn after turn.
+use borrow.Author.Rules.{rules}
+use native.Mathlib.Omega.{arith}
+use Prim.Native.Nat.{◌*◌, ◌<◌, ◌≤◌}
+use mathlib.Core.Path.{◌≡◌, refl, ◌∙◌}
+use mathlib.Core.Bool.{true≢false, not, ◌&&◌}
+use lib.Dec.{ltb}
+use lib.ListN.{length}
+use borrow.Author.Tests.{ltb-true}
+use Rattle.numbers.proofs.Tested.{left, right}
+use Rattle.mrecord.specs.Turns.{Goes}
+use Rattle.mrecord.proofs.turns.Given as goal
+
+abbrev pub invariant-loop-went : goal.invariant-loop-went
+invariant-loop-went g l =
+    Goes l.initial.turn l.initial.went.tape l.turn l.went × (length l.input ≡ length l.initial.input) × (length l.out ≡ length l.initial.out)
+
+abbrev pub decreases-loop-went : goal.decreases-loop-went
+decreases-loop-went g l = l.left

@@ -1,0 +1,6 @@
+-- Nothing has come.
+use borrow.Author.Rules.{rules}
+use Rattle.mwatch.proofs.fresh.Goals as goal
+
+pub returns : goal.returns
+returns c = rw (c.fresh-watch.ensures, c.fresh-new.ensures, c.fresh-port.ensures)
