@@ -4,7 +4,7 @@ use mathlib.Core.Path.{◌≡◌, refl, ◌∙◌, ap}
 use mathlib.Core.Bool.{true}
 use mathlib.Core.List.{List, ◌∷◌, ◌++◌}
 use lib.ListN.{length, take, drop}
-use Rattle.fold.specs.Fold.{written, run}
+use Rattle.fold.specs.Fold.{run}
 use Rattle.fold.proofs.Laws.{over_taken}
 use Rattle.wire.specs.declared.Report.{Report}
 use Rattle.reader.specs.Rules.{word_of}

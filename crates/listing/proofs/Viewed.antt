@@ -77,6 +77,8 @@ unfolding taken_of
 taken_passes s l = cases (Passes s) s.ended (λ _. ended refl) (λ _. go (line_in width s.line (said_by l)) (viewed s.line l))
   where
     go : (f : Found) → View s.line f → Passes s (passing s.line f)
+    go found.Nothing v = elim v [ ]
+    go found.End v = elim v [ ]
     go found.Over v = ended refl
     go (found.Bad m) v = ended refl
     go (found.Format f) v = behind v refl

@@ -1,0 +1,16 @@
+-- 6 for a bridge that is not good, and then the line.
+use mathlib.Core.Path.{sym, ◌∙◌}
+use borrow.Author.Tests.{not-true, not-false}
+use Rattle.fold.specs.Calls.{call}
+use Rattle.bridge.proofs.Bridge.convert.Goals as goal
+
+pub returns-then-not-good : goal.returns-then-not-good
+unfolding call
+returns-then-not-good c = rw (sym c.good.ensures ∙ not-true _ c.if-not-good.true-raw, c.converted.ensures)
+
+pub line-requires : goal.line-requires
+line-requires c = sym c.good.ensures ∙ not-false _ c.if-not-good.false-raw
+
+pub returns : goal.returns
+unfolding call
+returns c = rw (sym c.good.ensures ∙ not-false _ c.if-not-good.false-raw) c.line.ensures
