@@ -1,9 +1,7 @@
 use borrow.Author.Rules.{rules}
 use native.Mathlib.Omega.{arith}
-use Prim.Native.Nat.{◌-◌, ◌≤◌}
 use mathlib.Core.Path.{◌≡◌, refl, ◌∙◌}
 use lib.ListN.{length}
-use Rattle.hearing.specs.Steps.{Far}
 use Rattle.hearing.proofs.Steps.{none_yet, one_more_lem}
 use Rattle.mrecord.specs.Recording.{rest, told}
 use Rattle.mrecord.proofs.bytes.Goals as goal

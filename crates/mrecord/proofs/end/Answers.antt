@@ -1,5 +1,4 @@
 -- What is told.
-use borrow.Author.Rules.{rules}
 use Rattle.mrecord.proofs.Handing.{gone_told, silence_told, full_told, ends}
 use Rattle.mrecord.proofs.end.Goals as goal
 

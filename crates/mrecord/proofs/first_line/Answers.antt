@@ -1,5 +1,4 @@
 -- Byte behind byte.
-use borrow.Author.Rules.{rules}
 use mathlib.Core.Path.{◌∙◌, ap}
 use Rattle.text.specs.Growth.{filled}
 use Rattle.text.specs.declared.Text.{Text}

@@ -1,5 +1,4 @@
 -- One line or two.
-use borrow.Author.Rules.{rules}
 use borrow.Author.Tests.{ne_eqb, eq-eqb}
 use Rattle.text.specs.Growth.{slice}
 use Rattle.mrecord.specs.Recording.{line_of, first_line}

@@ -1,5 +1,4 @@
 -- One line or two stand.
-use borrow.Author.Rules.{rules}
 use borrow.Author.Tests.{ne_eqb, eq-eqb}
 use Rattle.mrecord.proofs.fresh.Goals as goal
 

@@ -1,5 +1,4 @@
 -- A wait alone.
-use borrow.Author.Rules.{rules}
 use Rattle.hearing.proofs.Steps.{alone}
 use Rattle.mrecord.specs.Recording.{rest, told}
 use Rattle.mrecord.proofs.quiet.Goals as goal

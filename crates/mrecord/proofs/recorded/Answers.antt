@@ -1,9 +1,6 @@
 -- The first lines, the turns and the end.
-use borrow.Author.Rules.{rules}
 use native.Mathlib.Omega.{arith}
-use Prim.Native.Nat.{◌≤◌}
-use mathlib.Core.Path.{◌≡◌, sym, subst}
-use lib.ListN.{length, take}
+use mathlib.Core.Path.{sym, subst}
 use lib.Seq.{length-take-le}
 use Rattle.shell.specs.Standing.{Stands}
 use Rattle.shell.proofs.Laws as standing

@@ -1,5 +1,4 @@
 -- What is wrong.
-use borrow.Author.Rules.{rules}
 use borrow.Author.Tests.{ne_eqb, eq-eqb}
 use Rattle.mrecord.specs.Refusals.{refusal_of}
 use Rattle.mrecord.proofs.refuse.Goals as goal

@@ -1,7 +1,4 @@
 -- What is handed out.
-use borrow.Author.Rules.{rules}
-use mathlib.Core.Path.{sym}
-use lib.Seq.{length-take-le}
 use Rattle.numbers.proofs.Tested.{left}
 use Rattle.mrecord.proofs.Handing.{hands}
 use Rattle.mrecord.proofs.shown.Goals as goal

@@ -1,6 +1,5 @@
 -- No line is left, nothing was given, or a word.
 use borrow.Author.Rules.{rules}
-use native.Mathlib.Omega.{arith}
 use Prim.Native.Nat.{◌<◌}
 use Rattle.mrecord.proofs.Lines.{full, nothing, word}
 use Rattle.mrecord.proofs.tell.Goals as goal

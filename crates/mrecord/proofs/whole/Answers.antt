@@ -1,9 +1,6 @@
 -- A right call, or a wrong one.
-use borrow.Author.Rules.{rules}
-use mathlib.Core.Path.{◌≡◌, refl, sym, ap, ◌∙◌}
-use mathlib.Core.Bool.{Bool, true, false, not, true≢false}
-use mathlib.Core.List.{[]}
-use lib.ListN.{length, take}
+use mathlib.Core.Path.{sym, ap, ◌∙◌}
+use mathlib.Core.Bool.{not, true≢false}
 use Rattle.mrecord.proofs.Handing.{refused}
 use Rattle.mrecord.proofs.whole.Goals as goal
 

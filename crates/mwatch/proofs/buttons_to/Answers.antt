@@ -1,5 +1,4 @@
 -- A tab and three letters.
-use borrow.Author.Rules.{rules}
 use native.Mathlib.Omega.{arith}
 use mathlib.Core.Path.{◌∙◌, ap}
 use Rattle.text.specs.Growth.{filled}

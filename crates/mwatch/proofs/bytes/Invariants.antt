@@ -1,11 +1,8 @@
 -- Byte by byte.
-use borrow.Author.Rules.{rules}
-use native.Mathlib.Omega.{arith}
 use Prim.Native.Nat.{◌-◌, ◌≤◌}
-use mathlib.Core.Path.{◌≡◌, refl, ◌∙◌}
+use mathlib.Core.Path.{◌≡◌}
 use lib.ListN.{length}
 use Rattle.hearing.specs.Steps.{Far}
-use Rattle.hearing.proofs.Steps.{none_yet, one_more_lem}
 use Rattle.mwatch.specs.Watching.{rest, told}
 use Rattle.mwatch.proofs.bytes.Given as goal
 

@@ -1,5 +1,4 @@
 -- More, or full.
-use borrow.Author.Rules.{rules}
 use borrow.Author.Tests.{lt-ltb, le-ltb}
 use Rattle.mwatch.specs.Watching.{counted}
 use Rattle.mwatch.proofs.counted.Goals as goal

@@ -1,6 +1,5 @@
 -- Part behind part.
-use borrow.Author.Rules.{rules}
-use mathlib.Core.List.{[], ◌∷◌, ◌++◌}
+use mathlib.Core.List.{◌++◌}
 use Rattle.text.specs.Growth.{slice}
 use Rattle.hearing.proofs.Steps.{then_one, then_more}
 use Rattle.mwatch.specs.Watching.{gone1, gone2, gone3, part, gone_words}

@@ -1,8 +1,6 @@
 -- Its line, and the count.
-use borrow.Author.Rules.{rules}
 use native.Mathlib.Omega.{arith}
 use mathlib.Core.Path.{refl}
-use Rattle.mwatch.specs.Watching.{dropped_line}
 use Rattle.mwatch.proofs.Looking.{put_less}
 use Rattle.mwatch.proofs.dropped.Goals as goal
 

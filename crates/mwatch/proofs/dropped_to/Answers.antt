@@ -1,5 +1,4 @@
 -- Part behind part.
-use borrow.Author.Rules.{rules}
 use native.Mathlib.Omega.{arith}
 use mathlib.Core.List.{[], ◌∷◌, ◌++◌}
 use lib.IntN.{pos}

@@ -1,8 +1,5 @@
 -- A tab and the number.
-use borrow.Author.Rules.{rules}
-use mathlib.Core.Path.{◌≡◌, ◌∙◌, ap}
-use mir.Syntax.{w64}
-use mir.Val.{to_z, of_z}
+use mathlib.Core.Path.{◌∙◌, ap}
 use mir.Facts.{to_z-of_z}
 use Rattle.text.specs.Growth.{filled_by}
 use Rattle.text.specs.Decimals.{plain, decimal_of}

@@ -1,5 +1,4 @@
 -- Nothing has come.
-use borrow.Author.Rules.{rules}
 use Rattle.mwatch.proofs.fresh.Goals as goal
 
 pub returns : goal.returns

@@ -1,5 +1,4 @@
 -- V has none.
-use borrow.Author.Rules.{rules}
 use borrow.Author.Tests.{eq-eqb, ne_eqb}
 use Rattle.mwatch.proofs.middle.Goals as goal
 

@@ -1,12 +1,11 @@
 -- None, or a line.
-use borrow.Author.Rules.{rules}
 use native.Mathlib.Omega.{arith}
 use mathlib.Core.Path.{refl}
-use mathlib.Core.List.{[], ◌∷◌, ◌++◌}
+use mathlib.Core.List.{[], ◌∷◌}
 use lib.IntN.{pos}
 use mir.Syntax.{w64}
 use mir.Facts.{to_z_pos}
-use Rattle.mwatch.specs.Watching.{counted, field_of, press_count, press_line}
+use Rattle.mwatch.specs.Watching.{field_of, press_count, press_line}
 use Rattle.mwatch.proofs.Looking.{put_byte, put_more}
 use Rattle.mwatch.proofs.Handing.{on, off}
 use Rattle.mwatch.proofs.press_to.Goals as goal

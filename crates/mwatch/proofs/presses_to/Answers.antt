@@ -1,5 +1,4 @@
 -- One button behind the other.
-use borrow.Author.Rules.{rules}
 use Rattle.mwatch.specs.Watching.{is_left, is_middle, is_right, press_count, press_line}
 use mathlib.Core.Path.{◌∙◌, ap}
 use mathlib.Core.List.{◌++◌}

@@ -1,5 +1,4 @@
 -- A wait alone.
-use borrow.Author.Rules.{rules}
 use Rattle.hearing.proofs.Steps.{alone}
 use Rattle.mwatch.specs.Watching.{rest, told}
 use Rattle.mwatch.proofs.quiet.Goals as goal

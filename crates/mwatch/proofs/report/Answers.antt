@@ -1,13 +1,10 @@
 -- Its line, and those of its presses.
 use borrow.Author.Rules.{rules}
-use native.Mathlib.Omega.{arith}
-use mathlib.Core.Path.{◌≡◌, refl, ◌∙◌, ap}
 use mir.Syntax.{w16}
 use mir.Val.{SFits}
 use mir.Facts.{to_z-of_z}
 use lib.IntN.{◌+ℤ◌}
 use Rattle.saves.specs.Rules.{heard_of}
-use Rattle.saves.specs.declared.Told.{Told}
 use Rattle.mwatch.specs.Watching.{counted, report_line, press_lines}
 use Rattle.mwatch.proofs.Looking.{sum_fits, put_more}
 use Rattle.mwatch.proofs.report.Goals as goal

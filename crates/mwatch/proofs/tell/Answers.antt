@@ -1,5 +1,4 @@
 -- Nothing was given, or a word.
-use borrow.Author.Rules.{rules}
 use Rattle.mwatch.proofs.Looking.{nothing, word}
 use Rattle.mwatch.proofs.tell.Goals as goal
 

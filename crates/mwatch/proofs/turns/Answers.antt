@@ -1,13 +1,11 @@
 use borrow.Author.Rules.{rules}
 use native.Mathlib.Omega.{arith}
-use Prim.Native.Nat.{◌*◌, ◌<◌, ◌≤◌}
 use mathlib.Core.Path.{◌≡◌, refl, ◌∙◌}
 use mathlib.Core.Bool.{true≢false, not, ◌&&◌}
 use lib.Dec.{ltb}
 use lib.ListN.{length}
 use borrow.Author.Tests.{ltb-true}
 use Rattle.numbers.proofs.Tested.{left, right}
-use Rattle.mwatch.specs.Turns.{Goes}
 use Rattle.mwatch.proofs.turns.Goals as goal
 
 pub loop-went-init : goal.loop-went-init

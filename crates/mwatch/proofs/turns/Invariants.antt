@@ -1,13 +1,6 @@
 -- Turn after turn.
-use borrow.Author.Rules.{rules}
-use native.Mathlib.Omega.{arith}
-use Prim.Native.Nat.{◌*◌, ◌<◌, ◌≤◌}
-use mathlib.Core.Path.{◌≡◌, refl, ◌∙◌}
-use mathlib.Core.Bool.{true≢false, not, ◌&&◌}
-use lib.Dec.{ltb}
+use mathlib.Core.Path.{◌≡◌}
 use lib.ListN.{length}
-use borrow.Author.Tests.{ltb-true}
-use Rattle.numbers.proofs.Tested.{left, right}
 use Rattle.mwatch.specs.Turns.{Goes}
 use Rattle.mwatch.proofs.turns.Given as goal
 

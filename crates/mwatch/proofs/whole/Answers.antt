@@ -1,6 +1,5 @@
 -- A right call, or a wrong one.
-use borrow.Author.Rules.{rules}
-use mathlib.Core.Path.{◌≡◌, sym, ap, ◌∙◌}
+use mathlib.Core.Path.{sym, ap, ◌∙◌}
 use mathlib.Core.Bool.{not, true≢false}
 use Rattle.mwatch.proofs.Handing.{refused}
 use Rattle.mwatch.proofs.whole.Goals as goal

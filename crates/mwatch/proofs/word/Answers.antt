@@ -1,8 +1,6 @@
 -- By its answer.
-use borrow.Author.Rules.{rules}
 use native.Mathlib.Omega.{arith}
-use mathlib.Core.Path.{◌≡◌, refl, sym, ◌∙◌, ap}
-use Rattle.reader.proofs.Permitted.{step_is}
+use mathlib.Core.Path.{refl}
 use Rattle.mwatch.proofs.Looking.{by_answer}
 use Rattle.reader.specs.declared.Answer.TheVariants as answer
 use Rattle.mwatch.proofs.word.Goals as goal

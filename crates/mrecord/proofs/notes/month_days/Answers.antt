@@ -1,5 +1,4 @@
 -- At least 28.
-use borrow.Author.Rules.{rules}
 use native.Mathlib.Omega.{arith}
 use Rattle.mrecord.proofs.notes.month_days.Goals as goal
 

@@ -1,6 +1,4 @@
-use borrow.Author.Rules.{rules}
 use native.Mathlib.Omega.{arith}
-use Prim.Native.Nat.{◌+◌, ◌≤◌}
 use Rattle.mrecord.proofs.notes.month_of.Goals as goal
 
 pub loop-length-init : goal.loop-length-init

@@ -1,6 +1,4 @@
 -- The days left fall.
-use borrow.Author.Rules.{rules}
-use native.Mathlib.Omega.{arith}
 use Prim.Native.Nat.{◌+◌, ◌≤◌}
 use Rattle.mrecord.proofs.notes.month_of.Given as goal
 

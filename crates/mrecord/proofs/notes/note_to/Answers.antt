@@ -1,5 +1,4 @@
 -- The days are few.
-use borrow.Author.Rules.{rules}
 use native.Mathlib.Omega.{arith}
 use Rattle.mrecord.proofs.notes.note_to.Goals as goal
 
