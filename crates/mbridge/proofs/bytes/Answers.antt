@@ -22,7 +22,7 @@ passed_all i n on y e = ltb-false i n (go (ltb i n) on y e)
 
 pub loop-i-init : goal.loop-i-init
 loop-i-init c =
-    (enters c.args.turn.now c.args.scanner c.args.bridge c.args.out.now c.args.input.now c.requires.0.0.sound c.requires.0.0.within c.requires.1, omega arith, refl, λ _. omega arith)
+    (enters c.args.turn.now c.args.scanner c.args.bridge c.args.out.now c.args.input.now c.requires.ready.0.sound c.requires.ready.0.within c.requires.stands, omega arith, refl, λ _. omega arith)
 
 pub bounds-input-i : goal.bounds-input-i
 bounds-input-i c =
@@ -36,7 +36,7 @@ byte-here-requires c =
     let l = c.loop-i in
     let test = c.loop-i-test.true in
     let below = ltb-true l.i (length c.args.input.now) (left (ltb l.i (length c.args.input.now)) l.here.on test) in
-    (l.invariant.0.sound, l.invariant.0.room, omega (arith, l.invariant.2, c.requires.0.2), right (ltb l.i (length c.args.input.now)) l.here.on test)
+    (l.invariant.0.sound, l.invariant.0.room, omega (arith, l.invariant.2, c.requires.ready.2), right (ltb l.i (length c.args.input.now)) l.here.on test)
 
 pub overflow_add-i : goal.overflow_add-i
 overflow_add-i c =
@@ -71,10 +71,11 @@ shown-requires c =
 pub returns : goal.returns
 returns c =
     let l = c.loop-i in
-    let k = c.shown in (
-      k.ensures.0,
-      λ y.
+    let k = c.shown in
+    record {
+      left = k.ensures.0;
+      scanner_bound = λ y.
           let on = k.ensures.2 y in
           let all = passed_all l.i (length c.args.input.now) l.here.on on c.loop-i-test.false in
-          rw k.ensures.1 (omega (arith, all, l.invariant.3 on, never_passed l.here.scanner (l.invariant.0.goes on).1, c.requires.0.1)),
-    )
+          rw k.ensures.1 (omega (arith, all, l.invariant.3 on, never_passed l.here.scanner (l.invariant.0.goes on).1, c.requires.ready.1));
+    }

@@ -22,13 +22,16 @@ pub block-went-requires : goal.block-went-requires
 block-went-requires c =
     let l = c.loop-went in
     let y = c.loop-went-test.true in
-    ((l.invariant.0.ready y, omega (arith, l.invariant.1, c.requires.1), omega (arith, l.invariant.2, c.requires.2)), l.invariant.0.stands y)
+    record {
+      ready = (l.invariant.0.ready y, omega (arith, l.invariant.1, c.requires.1), omega (arith, l.invariant.2, c.requires.2));
+      stands = l.invariant.0.stands y;
+    }
 
 pub loop-went-smaller : goal.loop-went-smaller
 loop-went-smaller c =
     let l = c.loop-went in
     let b = c.block-went in
-    rw c.loop-went-test.true (falls_off b.result.on (most_bytes - passed b.result.scanner) (most_bytes - passed l.went.scanner) b.ensures.1)
+    rw c.loop-went-test.true (falls_off b.result.on (most_bytes - passed b.result.scanner) (most_bytes - passed l.went.scanner) b.ensures.scanner_bound)
 
 pub loop-went-preserved : goal.loop-went-preserved
 loop-went-preserved c =
@@ -36,4 +39,4 @@ loop-went-preserved c =
     let b = c.block-went in
     let same_input : length b.new.input ≡ length l.input = search rules in
     let same_out : length b.new.out ≡ length l.out = search rules in
-    (b.ensures.0, same_input ∙ l.invariant.1, same_out ∙ l.invariant.2)
+    (b.ensures.left, same_input ∙ l.invariant.1, same_out ∙ l.invariant.2)

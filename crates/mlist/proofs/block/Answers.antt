@@ -15,32 +15,36 @@ pub returns-then-n-eq0 : goal.returns-then-n-eq0
 returns-then-n-eq0 c =
     let m = c.more-got in
     let part = m.new.part in
-    let same : length part ≡ length c.args.input.now = search rules in (
-      over
+    let same : length part ≡ length c.args.input.now = search rules in
+    record {
+      left = over
           c.args.turn.now
           m.new.turn
           c.args.lister
           part
           m.result
-          c.requires.0.0
-          (omega (arith, same, c.requires.0.2))
-          c.requires.1
-          m.ensures.1
-          (omega arith),
-      λ y. absurd (true≢false (sym y)),
-    )
+          c.requires.lister_value.0
+          (omega (arith, same, c.requires.lister_value.2))
+          c.requires.stands
+          m.ensures.brought
+          (omega arith);
+      scanner_bound = λ y. absurd (true≢false (sym y));
+    }
 
 pub slice_bounds-list-end-2 : goal.slice_bounds-list-end-2
-slice_bounds-list-end-2 c = let m = c.more-got in sym (length-take-le m.result.count m.new.part m.ensures.0)
+slice_bounds-list-end-2 c = let m = c.more-got in sym (length-take-le m.result.count m.new.part m.ensures.count_in_bounds)
 
 pub list-requires : goal.list-requires
 list-requires c =
     let m = c.more-got in
     let part = m.new.part in
     let same : length part ≡ length c.args.input.now = search rules in
-    let long = length-take-le m.result.count part m.ensures.0 in
-    let some : 0 < length part = omega (arith, same, c.requires.0.2) in
+    let long = length-take-le m.result.count part m.ensures.count_in_bounds in
+    let some : 0 < length part = omega (arith, same, c.requires.lister_value.2) in
     let came = c.if-n-eq0.false in
-    let at = behind c.args.turn.now m.new.turn c.args.lister part m.result c.requires.0.0 some c.requires.1 m.ensures.1 in
-    let well = brings mlist.input c.args.turn.now m.new.turn m.result part m.ensures.1 (omega (arith, came)) in
-    ((c.requires.0.0, omega (arith, long, same, m.ensures.0, c.requires.0.1), omega (arith, long, came)), at well)
+    let at = behind c.args.turn.now m.new.turn c.args.lister part m.result c.requires.lister_value.0 some c.requires.stands m.ensures.brought in
+    let well = brings mlist.input c.args.turn.now m.new.turn m.result part m.ensures.brought (omega (arith, came)) in
+    record {
+      lister_value = (c.requires.lister_value.0, omega (arith, long, same, m.ensures.count_in_bounds, c.requires.lister_value.1), omega (arith, long, came));
+      stands = at well;
+    }

@@ -14,6 +14,12 @@ slice_bounds-show-end-2 c =
     let same : length finish.new.out ≡ length c.args.out.now = search rules in
     omega (arith, same, finish_within _ _ _ finish.result finish.ensures)
 
+pub slice_bounds-show-end-3 : goal.slice_bounds-show-end-3
+slice_bounds-show-end-3 c =
+    let finish = c.finish-listed in
+    let same : length finish.new.out ≡ length c.args.out.now = search rules in
+    sym (length-take-le _ _ (omega (arith, same, finish_within _ _ _ finish.result finish.ensures)))
+
 pub returns : goal.returns
 returns c =
     let finish = c.finish-listed in

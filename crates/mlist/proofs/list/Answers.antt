@@ -14,6 +14,12 @@ slice_bounds-show-end-2 c =
     let same : length feed.new.out ≡ length c.args.out.now = search rules in
     omega (arith, same, (feed_within _ _ _ _ feed.result feed.ensures).1)
 
+pub slice_bounds-show-end-3 : goal.slice_bounds-show-end-3
+slice_bounds-show-end-3 c =
+    let feed = c.feed-listed in
+    let same : length feed.new.out ≡ length c.args.out.now = search rules in
+    sym (length-take-le _ _ (omega (arith, same, (feed_within _ _ _ _ feed.result feed.ensures).1)))
+
 pub returns : goal.returns
 returns c =
     let feed = c.feed-listed in
@@ -22,7 +28,8 @@ returns c =
     let m = c.args.lister in
     let bytes = c.args.bytes.now in
     let out = c.args.out.now in
-    let after = feed.new.out in (
-      leaves t show.new.turn m bytes out after feed.result show.result c.requires.0.0 c.requires.0.1 c.requires.1 feed.ensures show.ensures,
-      falls t show.new.turn m bytes out after feed.result show.result c.requires.0.0 c.requires.0.1 c.requires.1 feed.ensures show.ensures c.requires.0.2,
-    )
+    let after = feed.new.out in
+    record {
+      left = leaves t show.new.turn m bytes out after feed.result show.result c.requires.lister_value.0 c.requires.lister_value.1 c.requires.stands feed.ensures show.ensures;
+      scanner_bound = falls t show.new.turn m bytes out after feed.result show.result c.requires.lister_value.0 c.requires.lister_value.1 c.requires.stands feed.ensures show.ensures c.requires.lister_value.2;
+    }
