@@ -25,7 +25,7 @@ compile() {
 link() {
     program=$1
     shift
-    "$own/bin/rattle-link" --target $target --toolchain "$tools" -o "$built/$program" "$@" > "$built/link.log" 2>&1 || { cat "$built/link.log" >&2; return 1; }
+    "$kit/bin/rattle-link" --target $target --toolchain "$tools" -o "$built/$program" "$@" > "$built/link.log" 2>&1 || { cat "$built/link.log" >&2; return 1; }
 }
 
 # build_own: the bench's own files, by the kit's compiler
@@ -45,7 +45,7 @@ build_bench() {
 }
 
 # can_count: whether instructions can be counted here
-can_count() { [ -z "$emulator" ] && valgrind --tool=callgrind --help > /dev/null 2>&1; }
+can_count() { valgrind --tool=callgrind --help > /dev/null 2>&1; }
 
 # counts NAME PROGRAM WORD ..: each stream's name with its instructions a word, to the file NAME; the dumps stand in the
 # order of the calls of mark, three for a stream

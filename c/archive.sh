@@ -4,18 +4,13 @@
 say() { printf '%s: %s\n' "$me" "$1" >&2; }
 
 command -v rt > /dev/null || { say 'this needs the Rattle kit, with rt on the path'; exit 2; }
-own=$(dirname "$(dirname "$(rt doc)")")/on/$(uname -m)
-tools=$own/toolchain
+kit=$(dirname "$(rt doc)")
+tools=$kit/toolchain
 target=x86_64-unknown-linux-gnu
-emulator=$tools/bin/qemu-x86_64
-[ -x "$emulator" ] || emulator=
 archive=$here/target/staticlib/libistrolf.a
 
-# execute PROGRAM WORD ..: what the kit builds is an x86-64 program: it runs under the kit's own loader and, on another
-# processor, its emulator
-execute() {
-    ${emulator:+"$emulator"} "$tools/lib/ld-linux-x86-64.so.2" --library-path "$tools/lib" "$@"
-}
+# execute PROGRAM WORD ..: what the kit builds is an x86-64 program, and runs under the kit's own loader
+execute() { "$tools/lib/ld-linux-x86-64.so.2" --library-path "$tools/lib" "$@"; }
 
 # prepared NAME ..: these programs, or libistrolf.a, are proved and built where that was not done for the sources as they
 # are (make/build)

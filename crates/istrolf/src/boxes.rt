@@ -5,56 +5,49 @@ ghost use Rattle.istrolf.specs.Promises.{FreshBoxPromise, BoxStepPromise};
 use ballbox::{BallBox, Stepped};
 
 // A fresh box.
-#[unsafe(no_mangle)]
-pub extern "C" fn istrolf_box_fresh() -> BallBox
+pub fn istrolf_box_fresh() -> BallBox
     ensures { FreshBoxPromise result }
 {
     BallBox::fresh()
 }
 
 // The ball moved.
-#[unsafe(no_mangle)]
-pub extern "C" fn istrolf_box_motion(ball: BallBox, dx: i16, dy: i16) -> Stepped
+pub fn istrolf_box_motion(ball: BallBox, dx: i16, dy: i16) -> Stepped
     ensures { BoxStepPromise ball (Motion dx dy) result }
 {
     ball.motion(dx, dy)
 }
 
 // The buttons are now 4L+2M+R.
-#[unsafe(no_mangle)]
-pub extern "C" fn istrolf_box_buttons(ball: BallBox, buttons: u8) -> Stepped
+pub fn istrolf_box_buttons(ball: BallBox, buttons: u8) -> Stepped
     ensures { BoxStepPromise ball (Buttons buttons) result }
 {
     ball.buttons(buttons)
 }
 
 // A byte of the host's.
-#[unsafe(no_mangle)]
-pub extern "C" fn istrolf_box_host(ball: BallBox, byte: u8) -> Stepped
+pub fn istrolf_box_host(ball: BallBox, byte: u8) -> Stepped
     ensures { BoxStepPromise ball (Host byte) result }
 {
     ball.host(byte)
 }
 
 // Latching, when nothing is going.
-#[unsafe(no_mangle)]
-pub extern "C" fn istrolf_box_latch(ball: BallBox) -> Stepped
+pub fn istrolf_box_latch(ball: BallBox) -> Stepped
     ensures { BoxStepPromise ball Latch result }
 {
     ball.latch()
 }
 
 // The next byte is sent.
-#[unsafe(no_mangle)]
-pub extern "C" fn istrolf_box_send(ball: BallBox) -> Stepped
+pub fn istrolf_box_send(ball: BallBox) -> Stepped
     ensures { BoxStepPromise ball Send result }
 {
     ball.send()
 }
 
 // The report interval is over.
-#[unsafe(no_mangle)]
-pub extern "C" fn istrolf_box_period(ball: BallBox) -> Stepped
+pub fn istrolf_box_period(ball: BallBox) -> Stepped
     ensures { BoxStepPromise ball Period result }
 {
     ball.period()

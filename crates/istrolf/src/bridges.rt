@@ -76,8 +76,7 @@ fn refused_converted(held: HeldBridge) -> ConvertedWords
 }
 
 // A fresh bridge of a letter.
-#[unsafe(no_mangle)]
-pub extern "C" fn istrolf_bridge_fresh(letter: u8) -> FreshBridge
+pub fn istrolf_bridge_fresh(letter: u8) -> FreshBridge
     ensures { FreshBridgePromise letter result }
 {
     let fresh = Bridge::fresh(letter);
@@ -89,8 +88,7 @@ pub extern "C" fn istrolf_bridge_fresh(letter: u8) -> FreshBridge
 }
 
 // A line of words, and the bytes of its V reports to a lent slice.
-#[unsafe(no_mangle)]
-pub extern "C" fn istrolf_bridge_convert(
+pub fn istrolf_bridge_convert(
     held: HeldBridge,
     words: &[u16],
     out: &mut [u8],

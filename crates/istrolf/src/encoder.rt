@@ -5,8 +5,7 @@ use crate::Encoding;
 use wire::Report;
 
 // The bytes of a report, to the front of a buffer.
-#[unsafe(no_mangle)]
-pub extern "C" fn istrolf_encode(letter: u8, report: Report, buffer: &mut [u8]) -> Encoding
+pub fn istrolf_encode(letter: u8, report: Report, buffer: &mut [u8]) -> Encoding
     ensures { EncodePromise letter report buffer.old result buffer.new }
 {
     let encoded = wire::encode(letter, report, buffer);

@@ -7,19 +7,19 @@ use replies::Came;
 use vsxxx::SelfTest;
 use wire::Report;
 
-mod boxes;
-mod bridges;
-mod encoder;
-mod listers;
-mod ports;
-mod pucks;
-mod readbacks;
-mod readers;
-mod salvages;
-mod told;
-mod version;
-mod watches;
-mod yards;
+pub mod boxes;
+pub mod bridges;
+pub mod encoder;
+pub mod listers;
+pub mod ports;
+pub mod pucks;
+pub mod readbacks;
+pub mod readers;
+pub mod salvages;
+pub mod told;
+pub mod version;
+pub mod watches;
+pub mod yards;
 
 // A reader as C holds it: the mark that it awaits a silence is 0 or 1.
 #[repr(C)]

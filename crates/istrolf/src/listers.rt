@@ -71,16 +71,14 @@ fn refused_listed(held: HeldLister) -> ListedBytes
 }
 
 // Before the first byte.
-#[unsafe(no_mangle)]
-pub extern "C" fn istrolf_lister_fresh() -> HeldLister
+pub fn istrolf_lister_fresh() -> HeldLister
     ensures { FreshListerPromise result }
 {
     packed(Lister::fresh())
 }
 
 // A piece of the input, and its text to a lent slice.
-#[unsafe(no_mangle)]
-pub extern "C" fn istrolf_lister_feed(held: HeldLister, input: &[u8], out: &mut [u8]) -> ListedBytes
+pub fn istrolf_lister_feed(held: HeldLister, input: &[u8], out: &mut [u8]) -> ListedBytes
     ensures { FeedPromise held input.now out.old result out.new }
 {
     if !stands(held) {
@@ -90,8 +88,7 @@ pub extern "C" fn istrolf_lister_feed(held: HeldLister, input: &[u8], out: &mut 
 }
 
 // The end of the input, and its text to a lent slice.
-#[unsafe(no_mangle)]
-pub extern "C" fn istrolf_lister_finish(held: HeldLister, out: &mut [u8]) -> ListedBytes
+pub fn istrolf_lister_finish(held: HeldLister, out: &mut [u8]) -> ListedBytes
     ensures { FinishPromise held out.old result out.new }
 {
     if !stands(held) {

@@ -27,48 +27,42 @@ fn packed(heard: Heard) -> PortWord
 }
 
 // A port on which nothing has come.
-#[unsafe(no_mangle)]
-pub extern "C" fn istrolf_port_fresh(silence: u32) -> Port
+pub fn istrolf_port_fresh(silence: u32) -> Port
     ensures { FreshPortPromise silence result }
 {
     Port::fresh(silence)
 }
 
 // One that clears bit 7 of every byte.
-#[unsafe(no_mangle)]
-pub extern "C" fn istrolf_port_clearing(silence: u32) -> Port
+pub fn istrolf_port_clearing(silence: u32) -> Port
     ensures { ClearingPortPromise silence result }
 {
     Port::clearing(silence)
 }
 
 // A byte that the tty handed over.
-#[unsafe(no_mangle)]
-pub extern "C" fn istrolf_port_byte(port: Port, byte: u8) -> PortWord
+pub fn istrolf_port_byte(port: Port, byte: u8) -> PortWord
     ensures { PortBytePromise port byte result }
 {
     packed(port.byte(byte))
 }
 
 // Bytes that it handed over.
-#[unsafe(no_mangle)]
-pub extern "C" fn istrolf_port_bytes(port: Port, raw: &[u8], out: &mut [u16]) -> Words
+pub fn istrolf_port_bytes(port: Port, raw: &[u8], out: &mut [u16]) -> Words
     ensures { PortBytesPromise port raw.now out.old result out.new }
 {
     port.bytes(raw, out)
 }
 
 // A wait in which nothing came.
-#[unsafe(no_mangle)]
-pub extern "C" fn istrolf_port_quiet(port: Port, wait: u32) -> PortWord
+pub fn istrolf_port_quiet(port: Port, wait: u32) -> PortWord
     ensures { PortQuietPromise port wait result }
 {
     packed(port.quiet(wait))
 }
 
 // Bytes are known to be lost.
-#[unsafe(no_mangle)]
-pub extern "C" fn istrolf_port_lost(port: Port) -> PortWord
+pub fn istrolf_port_lost(port: Port) -> PortWord
     ensures { PortLostPromise port result }
 {
     packed(port.lost())

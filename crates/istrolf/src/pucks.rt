@@ -12,56 +12,49 @@ use puckreader::{PuckAnswer, PuckRead, PuckReader, PuckReading};
 use vsxxx::SelfTest;
 
 // Power-up: buttons modulo 8, revision modulo 16, maker modulo 8.
-#[unsafe(no_mangle)]
-pub extern "C" fn istrolf_puck_made(buttons: u8, revision: u8, maker: u8) -> Puck
+pub fn istrolf_puck_made(buttons: u8, revision: u8, maker: u8) -> Puck
     ensures { MadePuckPromise buttons revision maker result }
 {
     Puck::made(buttons, revision, maker)
 }
 
 // The puck moved.
-#[unsafe(no_mangle)]
-pub extern "C" fn istrolf_puck_motion(puck: Puck, dx: i16, dy: i16) -> PuckStepped
+pub fn istrolf_puck_motion(puck: Puck, dx: i16, dy: i16) -> PuckStepped
     ensures { PuckStepPromise puck (Motion dx dy) result }
 {
     puck.step(Event::Motion(dx, dy))
 }
 
 // The buttons are now 4L+2M+R.
-#[unsafe(no_mangle)]
-pub extern "C" fn istrolf_puck_buttons(puck: Puck, buttons: u8) -> PuckStepped
+pub fn istrolf_puck_buttons(puck: Puck, buttons: u8) -> PuckStepped
     ensures { PuckStepPromise puck (Buttons buttons) result }
 {
     puck.step(Event::Buttons(buttons))
 }
 
 // A byte of the host's.
-#[unsafe(no_mangle)]
-pub extern "C" fn istrolf_puck_host(puck: Puck, byte: u8) -> PuckStepped
+pub fn istrolf_puck_host(puck: Puck, byte: u8) -> PuckStepped
     ensures { PuckStepPromise puck (Host byte) result }
 {
     puck.step(Event::Host(byte))
 }
 
 // Latching, when nothing is going.
-#[unsafe(no_mangle)]
-pub extern "C" fn istrolf_puck_latch(puck: Puck) -> PuckStepped
+pub fn istrolf_puck_latch(puck: Puck) -> PuckStepped
     ensures { PuckStepPromise puck Latch result }
 {
     puck.step(Event::Latch)
 }
 
 // The next byte is sent.
-#[unsafe(no_mangle)]
-pub extern "C" fn istrolf_puck_send(puck: Puck) -> PuckStepped
+pub fn istrolf_puck_send(puck: Puck) -> PuckStepped
     ensures { PuckStepPromise puck Send result }
 {
     puck.step(Event::Send)
 }
 
 // The report interval is over.
-#[unsafe(no_mangle)]
-pub extern "C" fn istrolf_puck_period(puck: Puck) -> PuckStepped
+pub fn istrolf_puck_period(puck: Puck) -> PuckStepped
     ensures { PuckStepPromise puck Period result }
 {
     puck.step(Event::Period)
@@ -138,24 +131,21 @@ fn packed_reading(reading: PuckReading) -> ReadPuckWords
 }
 
 // A fresh reader.
-#[unsafe(no_mangle)]
-pub extern "C" fn istrolf_puck_reader_fresh() -> PuckReader
+pub fn istrolf_puck_reader_fresh() -> PuckReader
     ensures { FreshPuckReaderPromise result }
 {
     PuckReader::fresh()
 }
 
 // One word.
-#[unsafe(no_mangle)]
-pub extern "C" fn istrolf_puck_reader_step(reader: PuckReader, word: u16) -> ReadPuckWord
+pub fn istrolf_puck_reader_step(reader: PuckReader, word: u16) -> ReadPuckWord
     ensures { PuckReaderStepPromise reader word result }
 {
     packed_read(reader.step(word))
 }
 
 // A line of words, and the numbers of its reports to a lent slice.
-#[unsafe(no_mangle)]
-pub extern "C" fn istrolf_puck_reader_read(
+pub fn istrolf_puck_reader_read(
     reader: PuckReader,
     words: &[u16],
     out: &mut [i16],

@@ -4,32 +4,28 @@ ghost use Rattle.istrolf.specs.Promises.{FreshReadbackPromise, ReadbackReadPromi
 use readback::{Back, Readback, Rewritten};
 
 // Before the first line.
-#[unsafe(no_mangle)]
-pub extern "C" fn istrolf_readback_fresh() -> Readback
+pub fn istrolf_readback_fresh() -> Readback
     ensures { FreshReadbackPromise result }
 {
     Readback::fresh()
 }
 
 // A piece of a listing, and its items to a lent slice.
-#[unsafe(no_mangle)]
-pub extern "C" fn istrolf_readback_read(reader: Readback, input: &[u8], out: &mut [i32]) -> Back
+pub fn istrolf_readback_read(reader: Readback, input: &[u8], out: &mut [i32]) -> Back
     ensures { ReadbackReadPromise reader input.now out.old result out.new }
 {
     reader.read(input, out)
 }
 
 // The end of a listing, of which so many bytes are left.
-#[unsafe(no_mangle)]
-pub extern "C" fn istrolf_readback_finish(reader: Readback, left: usize) -> Back
+pub fn istrolf_readback_finish(reader: Readback, left: usize) -> Back
     ensures { ReadbackFinishPromise reader left result }
 {
     reader.finish(left)
 }
 
 // A piece of a listing, rewritten at the other width to a lent slice.
-#[unsafe(no_mangle)]
-pub extern "C" fn istrolf_readback_rewrite(
+pub fn istrolf_readback_rewrite(
     reader: Readback,
     input: &[u8],
     out: &mut [u8],

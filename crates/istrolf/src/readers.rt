@@ -118,8 +118,7 @@ fn refused_reading(held: HeldReader) -> ReadWords
 }
 
 // A fresh reader of a letter.
-#[unsafe(no_mangle)]
-pub extern "C" fn istrolf_reader_fresh(letter: u8) -> FreshReader
+pub fn istrolf_reader_fresh(letter: u8) -> FreshReader
     ensures { FreshReaderPromise letter result }
 {
     let fresh = Reader::fresh(letter);
@@ -131,8 +130,7 @@ pub extern "C" fn istrolf_reader_fresh(letter: u8) -> FreshReader
 }
 
 // One word.
-#[unsafe(no_mangle)]
-pub extern "C" fn istrolf_reader_step(held: HeldReader, word: u16) -> ReadWord
+pub fn istrolf_reader_step(held: HeldReader, word: u16) -> ReadWord
     ensures { ReaderStepPromise held word result }
 {
     if !stands(held) {
@@ -142,8 +140,7 @@ pub extern "C" fn istrolf_reader_step(held: HeldReader, word: u16) -> ReadWord
 }
 
 // A line of words, and the numbers of its reports to a lent slice.
-#[unsafe(no_mangle)]
-pub extern "C" fn istrolf_reader_read(held: HeldReader, words: &[u16], out: &mut [i16]) -> ReadWords
+pub fn istrolf_reader_read(held: HeldReader, words: &[u16], out: &mut [i16]) -> ReadWords
     ensures { ReadPromise held words.now out.old result out.new }
 {
     if !stands(held) {

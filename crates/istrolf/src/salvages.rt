@@ -17,16 +17,14 @@ fn packed(told: Salvaged) -> SalvagedBytes
 }
 
 // The starting places of the runs that leave out the fewest bytes, to a lent slice.
-#[unsafe(no_mangle)]
-pub extern "C" fn istrolf_salvage_pick(letter: u8, words: &[u16], places: &mut [u16]) -> Picked
+pub fn istrolf_salvage_pick(letter: u8, words: &[u16], places: &mut [u16]) -> Picked
     ensures { PickPromise letter words.now places.old result places.new }
 {
     salvage::pick(letter, words, places)
 }
 
 // The salvage of a recording, to a lent slice.
-#[unsafe(no_mangle)]
-pub extern "C" fn istrolf_salvage_list(input: &[u8], out: &mut [u8]) -> SalvagedBytes
+pub fn istrolf_salvage_list(input: &[u8], out: &mut [u8]) -> SalvagedBytes
     ensures { SalvagePromise input.now out.old result out.new }
 {
     packed(salvaged::list(input, out))

@@ -209,8 +209,7 @@ fn refused_telling(held: HeldTold) -> ToldCommand
 }
 
 // A fresh one of a letter.
-#[unsafe(no_mangle)]
-pub extern "C" fn istrolf_told_fresh(letter: u8) -> FreshTold
+pub fn istrolf_told_fresh(letter: u8) -> FreshTold
     ensures { FreshToldPromise letter result }
 {
     let fresh = ToldReader::fresh(letter);
@@ -222,8 +221,7 @@ pub extern "C" fn istrolf_told_fresh(letter: u8) -> FreshTold
 }
 
 // The command just sent.
-#[unsafe(no_mangle)]
-pub extern "C" fn istrolf_told_command(held: HeldTold, byte: u8) -> ToldCommand
+pub fn istrolf_told_command(held: HeldTold, byte: u8) -> ToldCommand
     ensures { TellPromise held (Command byte) result }
 {
     if !stands(held) {
@@ -233,8 +231,7 @@ pub extern "C" fn istrolf_told_command(held: HeldTold, byte: u8) -> ToldCommand
 }
 
 // The byte just sent woke a dormant box.
-#[unsafe(no_mangle)]
-pub extern "C" fn istrolf_told_waking(held: HeldTold) -> ToldCommand
+pub fn istrolf_told_waking(held: HeldTold) -> ToldCommand
     ensures { TellPromise held Waking result }
 {
     if !stands(held) {
@@ -244,8 +241,7 @@ pub extern "C" fn istrolf_told_waking(held: HeldTold) -> ToldCommand
 }
 
 // One word.
-#[unsafe(no_mangle)]
-pub extern "C" fn istrolf_told_step(held: HeldTold, word: u16) -> HeardWord
+pub fn istrolf_told_step(held: HeldTold, word: u16) -> HeardWord
     ensures { ToldStepPromise held word result }
 {
     if !stands(held) {
@@ -255,8 +251,7 @@ pub extern "C" fn istrolf_told_step(held: HeldTold, word: u16) -> HeardWord
 }
 
 // A line of words, and the numbers of its reports to a lent slice.
-#[unsafe(no_mangle)]
-pub extern "C" fn istrolf_told_read(held: HeldTold, words: &[u16], out: &mut [i16]) -> HeardWords
+pub fn istrolf_told_read(held: HeldTold, words: &[u16], out: &mut [i16]) -> HeardWords
     ensures { ToldReadPromise held words.now out.old result out.new }
 {
     if !stands(held) {

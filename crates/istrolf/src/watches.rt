@@ -5,32 +5,28 @@ use saves::{Told, Watch, Watched};
 use wire::Report;
 
 // A watch that has seen nothing.
-#[unsafe(no_mangle)]
-pub extern "C" fn istrolf_watch_fresh() -> Watch
+pub fn istrolf_watch_fresh() -> Watch
     ensures { FreshWatchPromise result }
 {
     Watch::fresh()
 }
 
 // A watch that was told the buttons.
-#[unsafe(no_mangle)]
-pub extern "C" fn istrolf_watch_knowing(buttons: u8) -> Watch
+pub fn istrolf_watch_knowing(buttons: u8) -> Watch
     ensures { KnowingWatchPromise buttons result }
 {
     Watch::knowing(buttons)
 }
 
 // A report.
-#[unsafe(no_mangle)]
-pub extern "C" fn istrolf_watch_heard(watch: Watch, report: Report) -> Told
+pub fn istrolf_watch_heard(watch: Watch, report: Report) -> Told
     ensures { WatchHeardPromise watch report result }
 {
     watch.heard(report)
 }
 
 // The numbers that a long read wrote.
-#[unsafe(no_mangle)]
-pub extern "C" fn istrolf_watch_over(watch: Watch, numbers: &[i16]) -> Watched
+pub fn istrolf_watch_over(watch: Watch, numbers: &[i16]) -> Watched
     ensures { WatchOverPromise watch numbers.now result }
 {
     watch.over(numbers)

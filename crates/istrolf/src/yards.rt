@@ -4,24 +4,21 @@ ghost use Rattle.istrolf.specs.Promises.{FreshYardPromise, YardStepPromise, Yard
 use yard::{Checked, Judged, NewYard, Yard};
 
 // A check of a letter that has seen no word.
-#[unsafe(no_mangle)]
-pub extern "C" fn istrolf_yard_fresh(letter: u8) -> NewYard
+pub fn istrolf_yard_fresh(letter: u8) -> NewYard
     ensures { FreshYardPromise letter result }
 {
     Yard::fresh(letter)
 }
 
 // One word.
-#[unsafe(no_mangle)]
-pub extern "C" fn istrolf_yard_step(yard: Yard, word: u16) -> Judged
+pub fn istrolf_yard_step(yard: Yard, word: u16) -> Judged
     ensures { YardStepPromise yard word result }
 {
     yard.step(word)
 }
 
 // A whole log.
-#[unsafe(no_mangle)]
-pub extern "C" fn istrolf_yard_check(letter: u8, words: &[u16]) -> Checked
+pub fn istrolf_yard_check(letter: u8, words: &[u16]) -> Checked
     ensures { YardCheckPromise letter words.now result }
 {
     yard::check(letter, words)

@@ -13,7 +13,7 @@ use Rattle.numbers.proofs.Tested.{left, right}
 use Rattle.fold.specs.Fold.{written, run}
 use Rattle.fold.proofs.Laws.{over_taken}
 use Rattle.wire.specs.Numbers.{success}
-use Rattle.listing.specs.Scanning.{most_at, width}
+use Rattle.listing.specs.Scanning.{most_at}
 use Rattle.listing.specs.Printing.{form_of, line_of, opening_of, line_at}
 use Rattle.listing.specs.declared.Item.{Item}
 use Rattle.listing.specs.declared.Item.TheVariants as item

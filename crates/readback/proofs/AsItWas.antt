@@ -22,7 +22,7 @@ use Rattle.listing.proofs.Ordered.{Ordered, ordered}
 use Rattle.listing.proofs.Widths.{same_at_four_and_six}
 use Rattle.readback.specs.Fields.{high}
 use Rattle.readback.specs.Items.{Sixteen, Numbered, Proper, item_in, width_in}
-use Rattle.readback.specs.Steps.{width_known, fresh, opened_at, passed_by, above, faulty, opens, said, step_of, good, has_ended, of_salvage}
+use Rattle.readback.specs.Steps.{width_known, fresh, opened_at, passed_by, above, faulty, opens, said, step_of, has_ended, of_salvage}
 use Rattle.readback.specs.Pieces.{cut_in, is_whole, body_of}
 use Rattle.readback.specs.Whole.{Reading, reading, reading_from, reading_of, printed, Listed}
 use Rattle.readback.specs.declared.Readback.{Readback}

@@ -12,7 +12,7 @@ use borrow.Author.Tests.{leb-true, le-leb, lt-ltb, eqb-true, eqb-false, eq-eqb}
 use Rattle.fold.specs.Pieces.{Call, Permitted, after, taken_by, written_by}
 use Rattle.fold.proofs.Pieces as in_pieces
 use Rattle.wire.specs.Numbers.{success}
-use Rattle.listing.specs.Scanning.{most_at, width}
+use Rattle.listing.specs.Scanning.{most_at}
 use Rattle.listing.specs.Printing.{form_of, line_of, opening_of, all_bytes}
 use Rattle.listing.specs.declared.Item.{Item}
 use Rattle.listing.specs.declared.Item.TheVariants as item

@@ -127,7 +127,7 @@ last_letter w c h l m = go l m
     go false Down = one_of (at 0x2D 0x4D) c 0x52 0x2D h (leaf w (record { left = false; middle = Down; right = true })) (leaf w (record { left = false; middle = Down; right = false }))
     go false Unknown = one_of (at 0x2D 0x3F) c 0x52 0x2D h (leaf w (record { left = false; middle = Unknown; right = true })) (leaf w (record { left = false; middle = Unknown; right = false }))
 
-three_says : (w a b c : ℕ) → (three_of a b c).well_formed ≡ true → Says w kind.Pressed (a ∷ b ∷ c ∷ []) (three_of a b c).value
+three_says : (w a b c : ℕ) → (three_of a b c).good ≡ true → Says w kind.Pressed (a ∷ b ∷ c ∷ []) (three_of a b c).value
 three_says w a b c h =
     let ta = eqb a 0x4C || eqb a 0x2D in
     let tb = eqb b 0x4D || eqb b 0x3F || eqb b 0x2D in

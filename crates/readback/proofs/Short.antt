@@ -12,7 +12,6 @@ use borrow.Author.Tests.{eqb-true, eqb-false}
 use Rattle.numbers.proofs.Tested.{refused}
 use Rattle.text.specs.Decimals.{plain, places_of, decimal_of}
 use Rattle.text.proofs.Digits.{digits_long, places_few, decimal_few}
-use Rattle.listing.specs.Scanning.{width}
 use Rattle.listing.specs.Printing.{form_of, head_of, opening_of}
 use Rattle.listing.specs.declared.Item.{Item}
 use Rattle.listing.specs.declared.Item.TheVariants as item

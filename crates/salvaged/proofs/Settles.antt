@@ -69,6 +69,8 @@ found_counts : (n : ℕ) (l : Log) (f : Found) → View n f → n ≤ length l.w
 found_counts n l f v h few = go l.alone refl
   where
     new : (f : Found) → View n f → Counts n (new_heard l f)
+    new found.Nothing w = elim w [ ]
+    new found.End w = elim w [ ]
     new found.Over is_over = inl (item.Over, refl)
     new (found.Bad m) (is_bad p) = inl (item.E (n + 1), refl)
     new (found.Format x) (is_format z p) = inr (omega arith, few)

@@ -110,6 +110,8 @@ module _ (n : ℕ) (l : Log) (s : Sound l) (k : 1 ≤ n → Settled l) where
   heard_settled f v = unless_alone f (λ e. go f v e)
     where
       go : (f : Found) → View n f → l.alone ≡ goal.Nothing → Settled (new_heard l f)
+      go found.Nothing v e = elim v [ ]
+      go found.End v e = elim v [ ]
       go found.Over is_over e = made_alone l item.Over tt refl s
       go (found.Bad m) (is_bad h) e = made_alone l (item.E (n + 1)) (h, tt) ((omega arith, omega (arith, h)), refl) s
       go (found.Format f) (is_format z p) e = format_settled l f p s

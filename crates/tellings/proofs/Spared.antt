@@ -79,10 +79,10 @@ module _ {R : Type 0} (F : Frame R) where
     is : awaited_behind (awaited_at p) (as_items lost ++ items) ≡ awaited_behind (awaited_at place) items
 
   skipped : {p : Place} (lost : List ℕ) (items : List Item) → Way F p (as_items lost ++ items) → Behind p lost items
-  skipped {p} [] items l = record { place = p; way = l; is = refl }
-  skipped (w ∷ lost) items l =
+  skipped {p = p} [] items l = record { place = p; way = l; is = refl }
+  skipped {p = p} (w ∷ lost) items l =
       let x = next l in
-      let y = skipped lost items x.way in
+      let y = skipped {p = (next l).place} lost items x.way in
       record { place = y.place; way = y.way; is = ap (λ (a : Awaited). awaited_behind a (as_items lost ++ items)) x.is ∙ y.is }
 
   -- no silence stands in a reply

@@ -84,14 +84,14 @@ module _ {R : Type 0} (F : Frame R) where
   one_more_lem w e x = record { place = x.place; way = x.way; lost = w ∷ x.lost; is = e ∙ ap (λ (l : List ℕ). w ∷ l) x.is }
 
   skip : {p : Place} (lost : List ℕ) (items : List Item) → Way p (as_items lost ++ items) → Skipped (given (awaited_at p) (as_items lost ++ items)) items
-  skip {p} [] items l = record { place = p; way = l; lost = []; is = refl }
-  skip (w ∷ lost) items (pauses l) = one_more_lem silence (given_past nothing silence (as_items lost ++ items) refl) (skip lost items l)
-  skip {p} (w ∷ lost) items (breaks l) = one_more_lem break (given_past (awaited_at p) break (as_items lost ++ items) refl) (skip lost items l)
-  skip (w ∷ lost) items (begins h l) = one_more_lem w (given_word w (as_items lost ++ items)) (skip lost items l)
-  skip (w ∷ lost) items (goes_on l) = one_more_lem w (given_word w (as_items lost ++ items)) (skip lost items l)
-  skip (w ∷ lost) items (ends_report l) = one_more_lem w (given_word w (as_items lost ++ items)) (skip lost items l)
-  skip {p} (w ∷ lost) items (replies h o e l) = rw (given_more (awaited_at p) w (as_items lost ++ items) h e) (skip lost items l)
-  skip {p} (w ∷ lost) items (ends_reply h o e l) = rw (given_last (awaited_at p) w (as_items lost ++ items) h e) (skip lost items l)
+  skip {p = p} [] items l = record { place = p; way = l; lost = []; is = refl }
+  skip {p = between} (w ∷ lost) items (pauses l) = one_more_lem silence (given_past nothing silence (as_items lost ++ items) refl) (skip {p = between} lost items l)
+  skip {p = p} (w ∷ lost) items (breaks l) = one_more_lem break (given_past (awaited_at p) break (as_items lost ++ items) refl) (skip {p = between} lost items l)
+  skip {p = between} (w ∷ lost) items (begins h l) = one_more_lem w (given_word w (as_items lost ++ items)) (skip {p = inside} lost items l)
+  skip {p = inside} (w ∷ lost) items (goes_on l) = one_more_lem w (given_word w (as_items lost ++ items)) (skip {p = inside} lost items l)
+  skip {p = inside} (w ∷ lost) items (ends_report l) = one_more_lem w (given_word w (as_items lost ++ items)) (skip {p = between} lost items l)
+  skip {p = p} (w ∷ lost) items (replies {a = a} {letters = letters} {b = b} h o e l) = rw (given_more (awaited_at p) w (as_items lost ++ items) h e) (skip {p = in_reply (more a b) letters} lost items l)
+  skip {p = p} (w ∷ lost) items (ends_reply h o e l) = rw (given_last (awaited_at p) w (as_items lost ++ items) h e) (skip {p = between} lost items l)
 
   -- of the words `all` a reader at s hands out what one at t hands out of other words, which are what is left of
   -- `words` on which all damage shows

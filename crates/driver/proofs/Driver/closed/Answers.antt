@@ -1,0 +1,10 @@
+-- No newline is lacking, or one.
+use borrow.Author.Rules.{rules}
+use borrow.Author.Tests.{eq-eqb, ne_eqb}
+use Rattle.driver.proofs.Driver.closed.Goals as goal
+
+pub returns-then-self-eq0 : goal.returns-then-self-eq0
+returns-then-self-eq0 c = rw (eq-eqb _ _ c.if-self-eq0.true) c.ticks.ensures
+
+pub returns : goal.returns
+returns c = rw (ne_eqb _ _ c.if-self-eq0.false) c.ticks-2.ensures

@@ -1,0 +1,6 @@
+-- `finishes`: one more is as many as the reply has.
+use borrow.Author.Rules.{rules}
+use Rattle.replies.proofs.Awaited.finishes.Goals as goal
+
+pub returns : goal.returns
+returns c = rw c.size.ensures

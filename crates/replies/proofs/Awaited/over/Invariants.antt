@@ -1,0 +1,18 @@
+-- `over`: what is left of the line gives what is left of the reply.
+use Prim.Native.Nat.{◌-◌, ◌≤◌}
+use mathlib.Core.Path.{◌≡◌, sym, ◌∙◌}
+use native.Mathlib.Nat.{zero-add}
+use native.Mathlib.Omega.{arith}
+use lib.ListN.{length, drop}
+use borrow.Author.Tests.{not-true, not-false}
+use Rattle.replies.specs.Fronts.{ahead, front_of}
+use Rattle.replies.proofs.Fronts.{byte_same, not_its, its_last, its_next, no_more}
+use borrow.Author.Rules.{rules}
+use Rattle.replies.proofs.Awaited.over.Given as goal
+
+abbrev pub invariant-loop-at : goal.invariant-loop-at
+invariant-loop-at l =
+    (front_of l.initial.awaited l.words ≡ ahead l.at (front_of l.awaited (drop l.at l.words))) × (l.at ≤ length l.words)
+
+abbrev pub decreases-loop-at : goal.decreases-loop-at
+decreases-loop-at l = length l.words - l.at

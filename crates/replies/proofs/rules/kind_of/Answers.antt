@@ -1,0 +1,6 @@
+-- `kind_of`: a command, or a waking.
+use borrow.Author.Rules.{rules}
+use Rattle.replies.proofs.rules.kind_of.Goals as goal
+
+pub returns-in-Command : goal.returns-in-Command
+returns-in-Command c = rw c.in-Command.is c.reply_to.ensures

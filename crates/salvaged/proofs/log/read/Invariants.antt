@@ -1,0 +1,22 @@
+-- `read`: at the loop's head the bytes passed have been heard, and the others are still to be.
+use borrow.Author.Rules.{rules}
+use Prim.Native.Nat.{◌-◌}
+use mathlib.Core.Path.{◌≡◌, refl, sym, ap, ◌∙◌}
+use mathlib.Core.List.{[]}
+use native.Mathlib.Omega.{arith}
+use lib.ListN.{length, drop, drop_of_length-le, get_or}
+use Rattle.listing.specs.Scanning.{unfed, scanned_byte}
+use Rattle.listing.specs.declared.Scan.{Scan}
+use Rattle.listing.specs.declared.Found.TheVariants as found
+use Rattle.listing.proofs.Scanned.{all_found}
+use Rattle.salvaged.specs.Log.{empty, heard_all}
+use Rattle.salvaged.specs.Hearing.{log_in, Fine}
+use Rattle.salvaged.proofs.Hearing.{byte_numbered, byte_heard, heard_nothing, end_heard, all_heard}
+use Rattle.salvaged.proofs.log.read.Given as goal
+
+abbrev pub invariant-loop-at : goal.invariant-loop-at
+invariant-loop-at l =
+    Fine l.log l.words × (heard_all empty (all_found unfed l.input) ≡ heard_all (log_in l.log l.words) (all_found l.scanner (drop l.at l.input)))
+
+abbrev pub decreases-loop-at : goal.decreases-loop-at
+decreases-loop-at l = length l.input - l.at
