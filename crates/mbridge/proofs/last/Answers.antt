@@ -18,6 +18,14 @@ slice_bounds-show-end-2 c =
     let all = c.found-all in
     last_fits c.args.scanner c.args.bridge closed.result end.result put.result all.result c.args.out.now put.new.out all.new.out c.requires.0 c.requires.1 closed.ensures end.ensures put.ensures all.ensures
 
+pub slice_bounds-show-end-3 : goal.slice_bounds-show-end-3
+slice_bounds-show-end-3 c =
+    let closed = c.closed-closed in
+    let put = c.found-put in
+    let end = c.end-end in
+    let all = c.found-all in
+    sym (length-take-le _ _ (last_fits c.args.scanner c.args.bridge closed.result end.result put.result all.result c.args.out.now put.new.out all.new.out c.requires.0 c.requires.1 closed.ensures end.ensures put.ensures all.ensures))
+
 pub returns : goal.returns
 returns c =
     let closed = c.closed-closed in
