@@ -1,7 +1,7 @@
 -- The refusals in their order, and else the rules.
 use Prim.Native.Nat.{ℕ, ◌<◌}
 use mathlib.Core.Path.{◌≡◌, refl, sym, ap, ◌∙◌}
-use mathlib.Core.Bool.{Bool, true, false, not, cond, ◌&&◌}
+use mathlib.Core.Bool.{Bool, true, false, not, cond}
 use mathlib.Core.List.Memᴰ.{head as here}
 use mathlib.Core.List.Memᴰ.{tail as there}
 use native.Mathlib.Omega.{arith}
@@ -11,8 +11,7 @@ use Rattle.numbers.proofs.Choices.{cases}
 use Rattle.numbers.proofs.Tested.{left}
 use Rattle.wire.specs.Numbers.{success, bad_state, bad_buttons, accepted, refusal}
 use Rattle.ballbox.specs.Box.{Step, refused, due, dormant}
-use Rattle.ballbox.specs.Latching.{latched}
-use Rattle.ballbox.specs.Events.{quietly, bytes_left, wanted, latching, next_byte, sending, on_host, awake, asleep}
+use Rattle.ballbox.specs.Events.{bytes_left, next_byte, sending, on_host, awake, asleep}
 use Rattle.ballbox.specs.Good.{good}
 use Rattle.ballbox.specs.Promises.{outcome, above_seven, step_of, StepRefusal, StepPromise}
 use Rattle.ballbox.specs.declared.BallBox.{BallBox}
@@ -65,15 +64,6 @@ send_step b g = go (dormant b) refl
     go : (t : Bool) → dormant b ≡ t → step_of b Send ≡ sending b
     go true d = ruled b Send true g refl d ∙ sym (sending_silence b (idle d))
     go false d = ruled b Send false g refl d
-
--- Latch of a good box: one that is awake, has no bytes left and wants a report latches it, and no other
-pub latch_step : (b : BallBox) (t : Bool) → good b ≡ true → (not (dormant b) && (not (bytes_left b) && wanted b)) ≡ t → step_of b Latch ≡ quietly (cond t (latched b) b)
-unfolding asleep awake latching
-latch_step b t g e = go (dormant b) refl
-  where
-    go : (d : Bool) → dormant b ≡ d → step_of b Latch ≡ quietly (cond t (latched b) b)
-    go true d = ruled b Latch true g refl d ∙ ap (λ (x : Bool). quietly (cond x (latched b) b)) (rw d at e)
-    go false d = ruled b Latch false g refl d ∙ ap (λ (x : Bool). quietly (cond x (latched b) b)) (rw d at e)
 
 pub awake_step : (b : BallBox) (e : Event) (r : Stepped) → StepPromise b e r → good b ≡ true → above_seven e ≡ false → dormant b ≡ false → outcome r ≡ awake b e
 awake_step b e r s g l d = says b e r s ∙ ruled b e false g l d

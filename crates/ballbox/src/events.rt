@@ -1,11 +1,12 @@
 // The six events, awake and dormant.
-ghost use Rattle.std.specs.Prelude.{◌≡◌, not, ◌&&◌, [], ◌∷◌, ◌<◌};
-ghost use Rattle.ballbox.specs.Events.{gives, quietly, moved, on_motion, on_buttons, on_period, bytes_left, wanted, second_now, more_behind, next_byte, dropped, on_host, woken};
+ghost use Rattle.std.specs.Prelude.{◌≡◌, [], ◌∷◌, ◌≤◌, ◌<◌};
+ghost use Rattle.ballbox.specs.Events.{gives, quietly, moved, on_motion, on_buttons, on_period, bytes_left, wanted, latching, with_byte_ready, more_behind, after, memory_after, next_byte, sending, dropped, on_host, woken};
+ghost use Rattle.ballbox.specs.Presses.{to_show};
 ghost use Rattle.ballbox.specs.Promises.{stepped};
 
 use crate::commands::{heard, is_stream, is_timed};
-use crate::{ACK, BallBox, Going, MODE_O, Stepped, Track, nothing};
-use wire::{BREAK, FORMAT_U, SUCCESS};
+use crate::{ACK, BallBox, Going, MODE_O, Memory, Stepped, Track, nothing};
+use wire::{BREAK, FORMAT_U, SILENCE, SUCCESS};
 
 impl Going {
     fn more_behind(self) -> bool
@@ -13,6 +14,33 @@ impl Going {
         ensures { result ≡ more_behind self }
     {
         self.sent + 1 < self.length
+    }
+
+    // When the next byte has gone; after the last, nothing is going.
+    fn after(mut self) -> Going
+        requires { self.sent < 5 }
+        ensures { result ≡ after self }
+    {
+        if self.more_behind() {
+            self.sent = self.sent + 1;
+            self
+        } else {
+            nothing()
+        }
+    }
+}
+
+impl Memory {
+    // When the next byte of what is going has gone.
+    fn after(self, going: Going) -> Memory
+        requires { going.sent < 5 }
+        ensures { result ≡ memory_after going self }
+    {
+        if going.more_behind() {
+            self
+        } else {
+            self.shown()
+        }
     }
 }
 
@@ -30,7 +58,7 @@ impl BallBox {
         }
     }
 
-    pub(crate) fn gives(self, word: u16) -> Stepped
+    fn gives(self, word: u16) -> Stepped
         ensures { result ≡ stepped (gives (word ∷ []) self) }
     {
         Stepped {
@@ -95,7 +123,7 @@ impl BallBox {
         self
     }
 
-    pub(crate) fn bytes_left(self) -> bool
+    fn bytes_left(self) -> bool
         ensures { result ≡ bytes_left self }
     {
         self.going.sent < self.going.length
@@ -110,37 +138,52 @@ impl BallBox {
         (self.due == 1) | memory.any() | ((self.settings.mode == MODE_O) & moved)
     }
 
-    // No bytes are left and a report is wanted.
-    pub(crate) fn latches(self) -> bool
-        ensures { result ≡ (not (bytes_left self) && wanted self) }
+    // Where no bytes are left and a report is wanted, one is latched.
+    pub(crate) fn latching(self) -> BallBox
+        requires { to_show self ≤ 7 }
+        ensures { result ≡ latching self }
     {
-        !self.bytes_left() & self.wanted()
+        if !self.bytes_left() & self.wanted() {
+            self.latched()
+        } else {
+            self
+        }
     }
 
     // In U, the second pair is latched when byte 4 is sent.
-    pub(crate) fn second_now(self) -> bool
-        ensures { result ≡ second_now self }
+    fn with_byte_ready(self) -> BallBox
+        ensures { result ≡ with_byte_ready self }
     {
-        (self.settings.format == FORMAT_U) & (self.going.sent == 3)
+        if (self.settings.format == FORMAT_U) & (self.going.sent == 3) {
+            self.second_latched()
+        } else {
+            self
+        }
     }
 
-    // The next byte goes out. After the last, nothing is going, and what the report showed is removed.
-    pub(crate) fn next_byte(mut self) -> Stepped
+    fn next_byte(mut self) -> Stepped
         requires { self.going.sent < 5 }
         ensures { result ≡ stepped (next_byte self) }
     {
         let going = self.going;
         let at = going.sent as usize;
         let byte = going.bytes[at] as u16;
-        if going.more_behind() {
-            let sent = going.sent + 1;
-            self.going.sent = sent;
-        } else {
-            let memory = self.memory;
-            self.memory = memory.shown();
-            self.going = nothing();
-        }
+        let memory = self.memory;
+        self.memory = memory.after(going);
+        self.going = going.after();
         self.gives(byte)
+    }
+
+    // If bytes are left the next goes out, otherwise a silence.
+    pub(crate) fn sending(self) -> Stepped
+        requires { self.going.length ≤ 5 }
+        ensures { result ≡ stepped (sending self) }
+    {
+        if self.bytes_left() {
+            self.with_byte_ready().next_byte()
+        } else {
+            self.gives(SILENCE)
+        }
     }
 
     // Bytes that are left are dropped.

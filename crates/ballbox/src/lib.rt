@@ -6,7 +6,7 @@ ghost use Rattle.ballbox.specs.Box.{nothing, refused};
 ghost use Rattle.ballbox.specs.Promises.{stepped, FreshPromise, StepPromise};
 ghost use Rattle.ballbox.specs.declared.Event.TheVariants.{Motion, Buttons, Host, Latch, Send, Period};
 
-use wire::{BAD_STATE, FORMAT_U, SILENCE};
+use wire::{BAD_STATE, FORMAT_U};
 
 mod commands;
 mod events;
@@ -286,26 +286,20 @@ impl BallBox {
         if !self.good() {
             return self.refused(BAD_STATE);
         }
-        if (self.dormant != 1) & self.latches() {
-            self = self.latched();
+        if self.dormant != 1 {
+            self = self.latching();
         }
         self.quietly()
     }
 
     // The next byte is sent, or a silence. A dormant box has nothing going.
-    pub fn send(mut self) -> Stepped
+    pub fn send(self) -> Stepped
         ensures { StepPromise self Send result }
     {
         if !self.good() {
             return self.refused(BAD_STATE);
         }
-        if !self.bytes_left() {
-            return self.gives(SILENCE);
-        }
-        if self.second_now() {
-            self = self.second_latched();
-        }
-        self.next_byte()
+        self.sending()
     }
 
     // The report interval is over.

@@ -106,6 +106,7 @@ refused_nothing r w s p n = go (step_refusals r w s p)
     go (accepted e) = absurd (n e)
     go (refusal (Memᴰ.head e)) = ap (λ (x : Read). x.answer) e
     go (refusal (Memᴰ.tail (Memᴰ.head e))) = ap (λ (x : Read). x.answer) e
+    go (refusal (Memᴰ.tail (Memᴰ.tail m))) = elim m [ ]
 
 all_nothing : (p : ReaderProgram)
     → KeepsReading p

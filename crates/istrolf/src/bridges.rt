@@ -88,11 +88,7 @@ pub fn istrolf_bridge_fresh(letter: u8) -> FreshBridge
 }
 
 // A line of words, and the bytes of its V reports to a lent slice.
-pub fn istrolf_bridge_convert(
-    held: HeldBridge,
-    words: &[u16],
-    out: &mut [u8],
-) -> ConvertedWords
+pub fn istrolf_bridge_convert(held: HeldBridge, words: &[u16], out: &mut [u8]) -> ConvertedWords
     ensures { ConvertPromise held words.now out.old result out.new }
 {
     if !stands(held) {

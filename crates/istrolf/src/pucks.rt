@@ -145,11 +145,7 @@ pub fn istrolf_puck_reader_step(reader: PuckReader, word: u16) -> ReadPuckWord
 }
 
 // A line of words, and the numbers of its reports to a lent slice.
-pub fn istrolf_puck_reader_read(
-    reader: PuckReader,
-    words: &[u16],
-    out: &mut [i16],
-) -> ReadPuckWords
+pub fn istrolf_puck_reader_read(reader: PuckReader, words: &[u16], out: &mut [i16]) -> ReadPuckWords
     ensures { PuckReadPromise reader words.now out.old result out.new }
 {
     packed_reading(reader.read(words, out))

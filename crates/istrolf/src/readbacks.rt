@@ -25,11 +25,7 @@ pub fn istrolf_readback_finish(reader: Readback, left: usize) -> Back
 }
 
 // A piece of a listing, rewritten at the other width to a lent slice.
-pub fn istrolf_readback_rewrite(
-    reader: Readback,
-    input: &[u8],
-    out: &mut [u8],
-) -> Rewritten
+pub fn istrolf_readback_rewrite(reader: Readback, input: &[u8], out: &mut [u8]) -> Rewritten
     ensures { ReadbackRewritePromise reader input.now out.old result out.new }
 {
     reader.rewrite(input, out)

@@ -8,6 +8,7 @@ use crate::Reader;
 
 impl Reader {
     // Whether a place holds what it may: a byte that is valid there, or 0 where none is kept.
+    #[inline(always)]
     fn holds(self, letter: u8, place: u8) -> bool
         requires { (letter ≡ self.format) × (place < 5) }
         ensures { result ≡ placed self place (get_or self.kept place 0) }
@@ -20,6 +21,7 @@ impl Reader {
     }
 
     // Whether the reader of a letter is good: a fifth byte is never kept.
+    #[inline(always)]
     fn keeps(self, letter: u8, size: usize, marked: bool) -> bool
         requires { (letter ≡ self.format) × (size ≡ size_by letter) × (marked ≡ marked_by letter) }
         ensures { result ≡ good self }
@@ -33,6 +35,7 @@ impl Reader {
     }
 
     // Whether the reader is good, each letter with code of its own: a step and a long read of any other is refused with 6.
+    #[inline(always)]
     pub fn good(self) -> bool
         ensures { GoodPromise self result }
     {

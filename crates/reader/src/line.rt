@@ -12,6 +12,7 @@ use crate::{Answer, Read, Reader, Reading};
 use wire::{Report, SILENCE, SUCCESS};
 
 // The five numbers of a report, to the front of a slice.
+#[inline(always)]
 pub(crate) fn put(out: &mut [i16], report: Report)
     requires { 5 ≤ length out.old }
     ensures { out.new ≡ five_of report ++ drop 5 out.old }
@@ -29,6 +30,7 @@ pub(crate) fn put(out: &mut [i16], report: Report)
 }
 
 // A line of which words, reports and bytes are counted so far.
+#[inline(always)]
 fn reading(refusal: u8, next: Reader, taken: usize, reports: usize, dropped: usize) -> Reading
     ensures { result ≡ record { refusal = refusal; next = next; taken = taken; reports = reports; dropped = dropped } }
 {
@@ -42,6 +44,7 @@ fn reading(refusal: u8, next: Reader, taken: usize, reports: usize, dropped: usi
 }
 
 // How many of the words at the front lie between two.
+#[inline(always)]
 fn alike(low: u16, high: u16, words: &[u16]) -> usize
     ensures { Alike low high result words.now }
 {
@@ -57,6 +60,7 @@ fn alike(low: u16, high: u16, words: &[u16]) -> usize
 
 impl Reader {
     // What a word's answer makes of a line that begins with it, and its report to the front of the places that are left.
+    #[inline(always)]
     fn counted(self, s: Read, out: &mut [i16]) -> Reading
         ensures { whole result out.new ≡ first_of self s out.old }
     {
@@ -79,6 +83,7 @@ impl Reader {
     }
 
     // The first word of a part of the line, by its letter.
+    #[inline(always)]
     fn first(self, letter: u8, size: usize, marked: bool, words: &[u16], out: &mut [i16]) -> Reading
         requires { (letter ≡ self.format) × Sized size marked self × (0 < length words.now) }
         ensures { Begins self words.now out.old result out.new × AwaitsBehind self words.now result }
@@ -88,6 +93,7 @@ impl Reader {
     }
 
     // Whether the reader is ready, and a whole report stands at the front.
+    #[inline(always)]
     fn begins(self, size: usize, marked: bool, words: &[u16]) -> bool
         requires { Sized size marked self }
         ensures { result ≡ true → self ≡ ready self.format }
@@ -101,6 +107,7 @@ impl Reader {
 
     // Words one by one, up to a report or a silence, behind which whole reports may stand. Where U, T or W lost a byte they await a silence, and each byte
     // behind it is dropped alone.
+    #[inline(always)]
     fn slowly(
         self,
         letter: u8,
@@ -138,6 +145,7 @@ impl Reader {
     }
 
     // The same by the letter, each with code of its own.
+    #[inline(always)]
     fn by_letter(self, words: &[u16], out: &mut [i16]) -> Reading
         requires { good self ≡ true }
         ensures { Begins self words.now out.old result out.new }
@@ -156,6 +164,7 @@ impl Reader {
     }
 
     // The words at the front of a line, where the reader is ready: whole reports, silences, and words one by one up to where it is ready again; as long as it is.
+    #[inline(always)]
     fn swiftly(self, quick: bool, words: &[u16], out: &mut [i16]) -> Reading
         requires { (good self ≡ true) × (quick ≡ true → self ≡ ready self.format) }
         ensures { Stands self words.now out.old result.next result.taken (5 * result.reports) result.reports result.dropped out.new × (good result.next ≡ true) × (result.next.format ≡ self.format) }
@@ -191,6 +200,7 @@ impl Reader {
     }
 
     // A line of one word.
+    #[inline(always)]
     fn single(self, size: usize, marked: bool, words: &[u16], out: &mut [i16]) -> Reading
         requires { Sized size marked self × (length words.now ≡ 1) }
         ensures { whole result out.new ≡ line reads_line self words.now out.old }
@@ -201,6 +211,7 @@ impl Reader {
 
     // The words of a line: swiftly where the reader is ready, and one by one up to where it is again, or may go no further. What is left of the line, from the
     // next word on, is handed over with the reader that came back and the places that are left.
+    #[inline(always)]
     pub(crate) fn line(self, size: usize, marked: bool, words: &[u16], out: &mut [i16]) -> Reading
         requires { Sized size marked self }
         ensures { whole result out.new ≡ line reads_line self words.now out.old }

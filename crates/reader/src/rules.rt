@@ -11,6 +11,7 @@ use crate::{Answer, Read, Reader};
 use wire::{BAD_STATE, BAD_WORD, BREAK, FORMAT_V, SILENCE, SUCCESS};
 
 // Every byte enters the reader through this, by the letter of the format: in V without bit 7.
+#[inline(always)]
 pub(crate) fn entered(letter: u8, byte: u8) -> u8
     ensures { result ≡ entered letter byte }
 {
@@ -22,6 +23,7 @@ pub(crate) fn entered(letter: u8, byte: u8) -> u8
 }
 
 // What a word that is not refused gives.
+#[inline(always)]
 fn answered(next: Reader, answer: Answer) -> Read
     ensures { result ≡ answered next answer }
 {
@@ -33,6 +35,7 @@ fn answered(next: Reader, answer: Answer) -> Read
 }
 
 // A refusal gives the old reader back, and answers nothing.
+#[inline(always)]
 pub(crate) fn refusing(number: u8, reader: Reader) -> Read
     ensures { result ≡ refusing number reader }
 {
@@ -44,6 +47,7 @@ pub(crate) fn refusing(number: u8, reader: Reader) -> Read
 }
 
 // Where none is dropped the answer is nothing.
+#[inline(always)]
 fn dropping(k: u8) -> Answer
     ensures { result ≡ dropping k }
 {
@@ -56,6 +60,7 @@ fn dropping(k: u8) -> Answer
 
 impl Reader {
     // Whether a byte fits the place that is next.
+    #[inline(always)]
     fn fits(self, letter: u8, byte: u8) -> bool
         requires { letter ≡ self.format }
         ensures { result ≡ fitting self byte }
@@ -64,6 +69,7 @@ impl Reader {
     }
 
     // A byte that fits its place is kept; the last gives the report.
+    #[inline(always)]
     fn keep(mut self, letter: u8, size: usize, byte: u8) -> Read
         requires { (letter ≡ self.format) × (self.count < size) × (size ≡ size_by self.format) × (self.awaiting ≡ false) }
         ensures { result ≡ keep self byte }
@@ -79,6 +85,7 @@ impl Reader {
     }
 
     // Whether a byte is a valid first byte of a marked format.
+    #[inline(always)]
     fn starts(self, letter: u8, marked: bool, byte: u8) -> bool
         requires { (letter ≡ self.format) × (marked ≡ marked_by self.format) }
         ensures { result ≡ starting self byte }
@@ -87,6 +94,7 @@ impl Reader {
     }
 
     // Such a byte starts a report anywhere; the kept bytes are dropped.
+    #[inline(always)]
     fn start(self, letter: u8, byte: u8) -> Read
         requires { letter ≡ self.format }
         ensures { result ≡ start self byte }
@@ -101,6 +109,7 @@ impl Reader {
     }
 
     // A byte that no rule takes is dropped with the kept; U, T, W then await silence.
+    #[inline(always)]
     fn lose(self, letter: u8, marked: bool) -> Read
         requires { (letter ≡ self.format) × (self.count < 5) × (marked ≡ marked_by self.format) }
         ensures { result ≡ lose self }
@@ -109,6 +118,7 @@ impl Reader {
     }
 
     // A byte. While a silence is awaited, each is dropped alone.
+    #[inline(always)]
     fn byte(self, letter: u8, size: usize, marked: bool, byte: u8) -> Read
         requires { (letter ≡ self.format) × (self.count < size) × (size ≡ size_by self.format) × (marked ≡ marked_by self.format) }
         ensures { result ≡ byte_of self byte }
@@ -126,6 +136,7 @@ impl Reader {
     }
 
     // A break or a silence drops the kept; U, T, W then await silence, or are ready.
+    #[inline(always)]
     fn pause(self, letter: u8, awaiting: bool) -> Read
         requires { letter ≡ self.format }
         ensures { result ≡ answered (no_bytes self.format awaiting) (dropping self.count) }
@@ -134,6 +145,7 @@ impl Reader {
     }
 
     // A word, by its letter: a byte, a break, a silence; any other is refused with 4.
+    #[inline(always)]
     pub(crate) fn word(self, letter: u8, size: usize, marked: bool, word: u16) -> Read
         requires { (letter ≡ self.format) × Sized size marked self }
         ensures { result ≡ word_of self word }
@@ -149,6 +161,7 @@ impl Reader {
     }
 
     // A word to a good reader, each letter with code of its own.
+    #[inline(always)]
     pub(crate) fn heard(self, word: u16) -> Read
         requires { good self ≡ true }
         ensures { result ≡ word_of self word }

@@ -4,6 +4,7 @@ ghost use Rattle.reader.specs.State.{no_bytes};
 
 use crate::Reader;
 
+#[inline(always)]
 pub(crate) fn no_bytes(letter: u8, awaiting: bool) -> Reader
     ensures { result ≡ no_bytes letter awaiting }
 {

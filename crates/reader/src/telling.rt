@@ -10,6 +10,7 @@ use crate::{Answer, Answers, Reader};
 use wire::{BAD_STATE, SUCCESS};
 
 // What is given back for the words taken so far.
+#[inline(always)]
 pub(crate) fn so_far(refusal: u8, next: Reader, taken: usize, written: usize) -> Answers
     ensures { result ≡ record { refusal = refusal; next = next; taken = taken; written = written } }
 {
@@ -22,6 +23,7 @@ pub(crate) fn so_far(refusal: u8, next: Reader, taken: usize, written: usize) ->
 }
 
 // The numbers of an answer to the front of a slice, and how many: none where they have no room.
+#[inline(always)]
 fn tell(answer: Answer, out: &mut [i16]) -> usize
     ensures { (result ≡ places_of answer out.old) × (out.new ≡ front_of answer out.old) }
 {
@@ -53,6 +55,7 @@ fn tell(answer: Answer, out: &mut [i16]) -> usize
 
 impl Reader {
     // Word after word, each answer behind the one before it.
+    #[inline(always)]
     fn tells(self, letter: u8, size: usize, marked: bool, words: &[u16], out: &mut [i16]) -> Answers
         requires { (letter ≡ self.format) × Sized size marked self }
         ensures { told result out.new ≡ line tells_line self words.now out.old }
@@ -79,6 +82,7 @@ impl Reader {
     }
 
     // The same for a good reader, each letter with code of its own.
+    #[inline(always)]
     pub(crate) fn told(self, words: &[u16], out: &mut [i16]) -> Answers
         requires { good self ≡ true }
         ensures { told result out.new ≡ line tells_line self words.now out.old }

@@ -19,6 +19,7 @@ pub(crate) struct Run {
     pub used: usize,
 }
 
+#[inline(always)]
 pub(crate) fn after(taken: usize, used: usize) -> Run
     ensures { result ≡ record { taken = taken; used = used } }
 {
@@ -29,6 +30,7 @@ pub(crate) fn after(taken: usize, used: usize) -> Run
 }
 
 // The byte of a word, as it enters.
+#[inline(always)]
 fn byte_of(letter: u8, word: u16) -> u8
     ensures { result ≡ brings letter word }
 {
@@ -36,6 +38,7 @@ fn byte_of(letter: u8, word: u16) -> u8
 }
 
 // Whether a word is a byte that fits a place.
+#[inline(always)]
 fn fits(letter: u8, place: u8, word: u16) -> bool
     ensures { result ≡ fits_word letter place word }
 {
@@ -43,6 +46,7 @@ fn fits(letter: u8, place: u8, word: u16) -> bool
 }
 
 // Whether a whole report stands at the front of words.
+#[inline(always)]
 pub(crate) fn whole(letter: u8, size: usize, words: &[u16]) -> bool
     requires { ((size ≡ 3) ⊎ (size ≡ 5)) × (size ≤ length words.now) }
     ensures { result ≡ whole_by letter size words.now }
@@ -58,6 +62,7 @@ pub(crate) fn whole(letter: u8, size: usize, words: &[u16]) -> bool
 }
 
 // Its bytes, and 0 in the places behind them.
+#[inline(always)]
 fn front(letter: u8, size: usize, words: &[u16]) -> [u8; 5]
     requires { ((size ≡ 3) ⊎ (size ≡ 5)) × (size ≤ length words.now) }
     ensures { result ≡ bytes_at letter size words.now }
@@ -78,6 +83,7 @@ fn front(letter: u8, size: usize, words: &[u16]) -> [u8; 5]
 }
 
 // The whole reports at the front, up to a word that begins none and is no silence, up to two silences, or up to the last that has room.
+#[inline(always)]
 fn runs(letter: u8, size: usize, words: &[u16], out: &mut [i16]) -> Run
     requires { (size ≡ size_by letter) × ((size ≡ 3) ⊎ (size ≡ 5)) }
     ensures { Stands (ready letter) words.now out.old (ready letter) result.taken result.used (result.used / 5) 0 out.new }
@@ -105,6 +111,7 @@ fn runs(letter: u8, size: usize, words: &[u16], out: &mut [i16]) -> Run
 }
 
 // The same by a letter, each with code of its own.
+#[inline(always)]
 pub(crate) fn passed(letter: u8, words: &[u16], out: &mut [i16]) -> Run
     ensures { Stands (ready letter) words.now out.old (ready letter) result.taken result.used (result.used / 5) 0 out.new }
 {

@@ -3,6 +3,7 @@ ghost use Rattle.std.specs.Prelude.{◌≡◌, ◌<◌};
 ghost use Rattle.wire.specs.Digits.{is_digit, digit, undigit};
 
 // Whether a byte is a digit 0-9 or A-F.
+#[inline(always)]
 pub(crate) fn is_digit(b: u8) -> bool
     ensures { result ≡ is_digit b }
 {
@@ -10,6 +11,7 @@ pub(crate) fn is_digit(b: u8) -> bool
 }
 
 // The digit of a number below 16.
+#[inline(always)]
 pub(crate) fn digit_of(n: u8) -> u8
     requires { n < 16 }
     ensures { result ≡ digit n }
@@ -21,6 +23,7 @@ pub(crate) fn digit_of(n: u8) -> u8
 }
 
 // The number of a digit: '0' to '9' have it in their low four bits, 'A' to 'F' 9 less than it. A byte that is no digit counts as 0.
+#[inline(always)]
 pub(crate) fn number_of(b: u8) -> u8
     ensures { result ≡ undigit b }
 {

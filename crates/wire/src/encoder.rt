@@ -10,6 +10,7 @@ use crate::table::bytes_of;
 use crate::{Encoded, Format, Named, Report, Unheld};
 
 // The first bytes of five to the front of a buffer, which has room for them.
+#[inline(always)]
 pub(crate) fn put(buffer: &mut [u8], bytes: [u8; 5], count: usize)
     requires { (count ≤ 5) × (count ≤ length buffer.old) }
     ensures { buffer.new ≡ take count bytes ++ drop count buffer.old }
@@ -22,6 +23,7 @@ pub(crate) fn put(buffer: &mut [u8], bytes: [u8; 5], count: usize)
 }
 
 // An accepted report's bytes at the front of a buffer, if they have room there.
+#[inline(always)]
 pub(crate) fn write(f: Format, report: Report, buffer: &mut [u8]) -> Encoded
     requires { accepted f report ≡ true }
     ensures { outcome result buffer.new ≡ writing f report buffer.old }
@@ -35,6 +37,7 @@ pub(crate) fn write(f: Format, report: Report, buffer: &mut [u8]) -> Encoded
 }
 
 // A report in the format of a letter: each refusal in its turn, and then the bytes.
+#[inline(always)]
 pub(crate) fn by_letter(letter: u8, report: Report, buffer: &mut [u8]) -> Encoded
     ensures { outcome result buffer.new ≡ encode_of letter report buffer.old }
 {
@@ -55,6 +58,7 @@ pub(crate) fn by_letter(letter: u8, report: Report, buffer: &mut [u8]) -> Encode
 
 impl Encoded {
     // The number given back: 0 for success.
+    #[inline(always)]
     pub fn refusal(self) -> u8
         ensures { RefusalPromise self result }
     {
@@ -71,6 +75,7 @@ impl Encoded {
     }
 
     // The length told: 0 for a refusal.
+    #[inline(always)]
     pub fn length(self) -> usize
         ensures { LengthPromise self result }
     {

@@ -34,6 +34,7 @@ const NONE: Range = Range { low: 0, high: 0 };
 
 impl Range {
     // Whether a movement lies in the range.
+    #[inline(always)]
     fn has(self, v: i16) -> bool
         ensures { result ≡ within self v }
     {
@@ -41,6 +42,7 @@ impl Range {
     }
 }
 
+#[inline(always)]
 fn x_range(f: Format) -> Range
     ensures { result ≡ x_range f }
 {
@@ -55,6 +57,7 @@ fn x_range(f: Format) -> Range
     }
 }
 
+#[inline(always)]
 fn y_range(f: Format) -> Range
     ensures { result ≡ y_range f }
 {
@@ -70,6 +73,7 @@ fn y_range(f: Format) -> Range
 }
 
 // The second pair is zero except in U.
+#[inline(always)]
 fn second_range(f: Format) -> Range
     ensures { result ≡ second_range f }
 {
@@ -85,6 +89,7 @@ fn second_range(f: Format) -> Range
 }
 
 // The first movement, in the order x1, y1, x2, y2, that a format does not hold.
+#[inline(always)]
 pub(crate) fn unheld(f: Format, report: Report) -> Unheld
     ensures { result ≡ unheld f report }
 {

@@ -109,6 +109,7 @@ pub enum Unheld {
 }
 
 // Whether a letter is in the table.
+#[inline(always)]
 pub fn known(letter: u8) -> bool
     ensures { KnownPromise letter result }
 {
@@ -119,6 +120,7 @@ pub fn known(letter: u8) -> bool
 }
 
 // How many bytes a report has; 0 for a letter that is not in the table.
+#[inline(always)]
 pub fn size(letter: u8) -> usize
     ensures { SizePromise letter result }
 {
@@ -129,6 +131,7 @@ pub fn size(letter: u8) -> usize
 }
 
 // Whether the first byte of a report is marked.
+#[inline(always)]
 pub fn marked(letter: u8) -> bool
     ensures { MarkedPromise letter result }
 {
@@ -139,6 +142,7 @@ pub fn marked(letter: u8) -> bool
 }
 
 // Whether a byte is valid at a place of a report: 0 is the first, any other a later one.
+#[inline(always)]
 pub fn fits(letter: u8, place: u8, byte: u8) -> bool
     ensures { FitsPromise letter place byte result }
 {
@@ -150,6 +154,7 @@ pub fn fits(letter: u8, place: u8, byte: u8) -> bool
 }
 
 // The report that bytes stand for; a format of three bytes reads the first three.
+#[inline(always)]
 pub fn report_of(letter: u8, bytes: [u8; 5]) -> Report
     ensures { ReportPromise letter bytes result }
 {

@@ -5,6 +5,7 @@ ghost use Rattle.wire.specs.Line.{named_by, size_of, marked_of};
 use crate::{Format, Named};
 
 // The format of a letter.
+#[inline(always)]
 pub(crate) fn format_of(letter: u8) -> Named
     ensures { result ≡ named_by letter }
 {
@@ -21,6 +22,7 @@ pub(crate) fn format_of(letter: u8) -> Named
 }
 
 // How many bytes a report of a format has.
+#[inline(always)]
 pub(crate) fn size_of(f: Format) -> usize
     ensures { result ≡ size_of f }
 {
@@ -36,6 +38,7 @@ pub(crate) fn size_of(f: Format) -> usize
 }
 
 // Whether the first byte of a format is marked.
+#[inline(always)]
 pub(crate) fn marked_of(f: Format) -> bool
     ensures { result ≡ marked_of f }
 {

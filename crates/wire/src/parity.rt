@@ -3,6 +3,7 @@ ghost use Rattle.std.specs.Prelude.{◌≡◌, ◌<◌};
 ghost use Rattle.numbers.specs.Parity.{even, evened};
 
 // Whether the count of ones is even.
+#[inline(always)]
 pub(crate) fn is_even(b: u8) -> bool
     ensures { result ≡ even b }
 {
@@ -10,6 +11,7 @@ pub(crate) fn is_even(b: u8) -> bool
 }
 
 // Seven bits, and above them the bit that makes the count of ones even.
+#[inline(always)]
 pub(crate) fn with_parity(b: u8) -> u8
     requires { b < 128 }
     ensures { result ≡ evened b }

@@ -7,6 +7,7 @@ use crate::line::format_of;
 use crate::parity::is_even;
 use crate::{Format, Named};
 
+#[inline(always)]
 fn fits_first(f: Format, b: u8) -> bool
     ensures { result ≡ fits_first f b }
 {
@@ -21,6 +22,7 @@ fn fits_first(f: Format, b: u8) -> bool
     }
 }
 
+#[inline(always)]
 fn fits_later(f: Format, b: u8) -> bool
     ensures { result ≡ fits_later f b }
 {
@@ -36,6 +38,7 @@ fn fits_later(f: Format, b: u8) -> bool
 }
 
 // Whether a byte is valid at the first place, and at a later one, of a format given by its letter.
+#[inline(always)]
 pub(crate) fn first_by(letter: u8, b: u8) -> bool
     ensures { result ≡ fits_by letter 0 b }
 {
@@ -45,6 +48,7 @@ pub(crate) fn first_by(letter: u8, b: u8) -> bool
     }
 }
 
+#[inline(always)]
 pub(crate) fn later_by(letter: u8, b: u8) -> bool
     ensures { result ≡ fits_by letter 1 b }
 {

@@ -8,6 +8,7 @@ use crate::signed::{joined, unwrapped};
 use crate::{Format, Report};
 
 // A report whose second pair is zero.
+#[inline(always)]
 pub(crate) fn report(buttons: u8, x: i16, y: i16) -> Report
     ensures { result ≡ report buttons x y }
 {
@@ -21,6 +22,7 @@ pub(crate) fn report(buttons: u8, x: i16, y: i16) -> Report
 }
 
 // A two's complement byte.
+#[inline(always)]
 fn unwrapped_byte(b: u8) -> i16
     ensures { result ≡ untwos 128 b }
 {
@@ -28,6 +30,7 @@ fn unwrapped_byte(b: u8) -> i16
 }
 
 // S: a sign bit and a magnitude for each axis.
+#[inline(always)]
 fn read_mm(b1: u8, b2: u8, b3: u8) -> Report
     ensures { result ≡ read_s b1 b2 b3 }
 {
@@ -37,6 +40,7 @@ fn read_mm(b1: u8, b2: u8, b3: u8) -> Report
 }
 
 // V: the top two bits of either byte stand in the first. M is up, and y is minus the wire's.
+#[inline(always)]
 fn read_microsoft(b1: u8, b2: u8, b3: u8) -> Report
     ensures { result ≡ read_v b1 b2 b3 }
 {
@@ -46,6 +50,7 @@ fn read_microsoft(b1: u8, b2: u8, b3: u8) -> Report
 }
 
 // A, B: twelve bits of two bytes, six in each.
+#[inline(always)]
 fn twelve(low: u8, high: u8) -> u16
     ensures { result ≡ twelve low high }
 {
@@ -55,6 +60,7 @@ fn twelve(low: u8, high: u8) -> u16
 }
 
 // A: two positions.
+#[inline(always)]
 fn read_absolute(b1: u8, b2: u8, b3: u8, b4: u8, b5: u8) -> Report
     ensures { result ≡ read_a b1 b2 b3 b4 b5 }
 {
@@ -62,6 +68,7 @@ fn read_absolute(b1: u8, b2: u8, b3: u8, b4: u8, b5: u8) -> Report
 }
 
 // B: as A, two's complement.
+#[inline(always)]
 fn read_relative(b1: u8, b2: u8, b3: u8, b4: u8, b5: u8) -> Report
     ensures { result ≡ read_b b1 b2 b3 b4 b5 }
 {
@@ -73,6 +80,7 @@ fn read_relative(b1: u8, b2: u8, b3: u8, b4: u8, b5: u8) -> Report
 }
 
 // U: the buttons are 0 where pressed, and there are two pairs.
+#[inline(always)]
 fn read_five(b1: u8, b2: u8, b3: u8, b4: u8, b5: u8) -> Report
     ensures { result ≡ read_u b1 b2 b3 b4 b5 }
 {
@@ -86,6 +94,7 @@ fn read_five(b1: u8, b2: u8, b3: u8, b4: u8, b5: u8) -> Report
 }
 
 // T: the buttons, and a byte for each axis.
+#[inline(always)]
 fn read_three(b1: u8, b2: u8, b3: u8) -> Report
     ensures { result ≡ read_t b1 b2 b3 }
 {
@@ -93,6 +102,7 @@ fn read_three(b1: u8, b2: u8, b3: u8) -> Report
 }
 
 // W: a byte of two digits, the low one first.
+#[inline(always)]
 fn pair(low: u8, high: u8) -> u8
     ensures { result ≡ pair low high }
 {
@@ -100,6 +110,7 @@ fn pair(low: u8, high: u8) -> u8
 }
 
 // W: a digit for the buttons, and two for each axis.
+#[inline(always)]
 fn read_hexadecimal(b1: u8, b2: u8, b3: u8, b4: u8, b5: u8) -> Report
     ensures { result ≡ read_w b1 b2 b3 b4 b5 }
 {
@@ -111,6 +122,7 @@ fn read_hexadecimal(b1: u8, b2: u8, b3: u8, b4: u8, b5: u8) -> Report
 }
 
 // The report that bytes stand for in a format.
+#[inline(always)]
 pub(crate) fn report_in(f: Format, b: [u8; 5]) -> Report
     ensures { result ≡ report_of f b }
 {

@@ -4,6 +4,7 @@ ghost use Rattle.std.specs.Int.Signed.{mag};
 ghost use Rattle.numbers.specs.Signed.{twos, untwos, signed};
 
 // How far a movement goes, whatever its sign.
+#[inline(always)]
 pub(crate) fn magnitude(v: i16) -> u16
     requires { mag v < 4096 }
     ensures { result ≡ nat_abs v }
@@ -12,6 +13,7 @@ pub(crate) fn magnitude(v: i16) -> u16
 }
 
 // A magnitude under its sign.
+#[inline(always)]
 pub(crate) fn joined(positive: bool, magnitude: u16) -> i16
     requires { magnitude < 4096 }
     ensures { result ≡ signed positive magnitude }
@@ -21,6 +23,7 @@ pub(crate) fn joined(positive: bool, magnitude: u16) -> i16
 }
 
 // A movement from -half to half - 1 in two's complement.
+#[inline(always)]
 pub(crate) fn wrapped(v: i16, half: u16) -> u16
     requires { (mag v < half) × (half ≤ 2048) }
     ensures { result ≡ twos half v }
@@ -33,6 +36,7 @@ pub(crate) fn wrapped(v: i16, half: u16) -> u16
 }
 
 // The movement that a number below 2 * half stands for: half more and half less, which turns the highest of its bits over.
+#[inline(always)]
 pub(crate) fn unwrapped(n: u16, half: u16) -> i16
     requires { (n < half + half) × ((half ≡ 2 ^ 7) ⊎ (half ≡ 2 ^ 11)) }
     ensures { result ≡ untwos half n }

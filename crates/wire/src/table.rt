@@ -13,6 +13,7 @@ use crate::signed::{magnitude, wrapped};
 use crate::{Format, Report};
 
 // The sign bit of S: 1 is positive, and zero is sent so.
+#[inline(always)]
 fn sign_bit(v: i16) -> u8
     ensures { result ≡ value (non_neg v) }
 {
@@ -20,6 +21,7 @@ fn sign_bit(v: i16) -> u8
 }
 
 // A two's complement byte.
+#[inline(always)]
 fn wrapped_byte(v: i16) -> u8
     requires { mag v < 128 }
     ensures { result ≡ twos 128 v }
@@ -28,6 +30,7 @@ fn wrapped_byte(v: i16) -> u8
 }
 
 // S: a sign bit and a magnitude for each axis.
+#[inline(always)]
 fn rows_s(buttons: u8, x: i16, y: i16) -> [u8; 5]
     requires { (buttons ≤ 7) × (nat_abs x ≤ 127) × (nat_abs y ≤ 127) }
     ensures { result ≡ five (bytes_s (report buttons x y)) }
@@ -37,6 +40,7 @@ fn rows_s(buttons: u8, x: i16, y: i16) -> [u8; 5]
 }
 
 // V: the top two bits of either byte stand in the first, and M is dropped.
+#[inline(always)]
 fn rows_v(buttons: u8, x: u8, y: u8) -> [u8; 5]
     requires { buttons ≤ 7 }
     ensures { result ≡ five (rows_v (bit 2 buttons) (bit 0 buttons) x y) }
@@ -46,6 +50,7 @@ fn rows_v(buttons: u8, x: u8, y: u8) -> [u8; 5]
 }
 
 // A, B: two numbers of twelve bits, six to a byte, each byte with its parity.
+#[inline(always)]
 fn rows_a(r: Report, x: u16, y: u16) -> [u8; 5]
     requires { (r.buttons ≤ 7) × (x < 4096) × (y < 4096) }
     ensures { result ≡ rows_a r x y }
@@ -59,6 +64,7 @@ fn rows_a(r: Report, x: u16, y: u16) -> [u8; 5]
 }
 
 // W: a digit for the buttons, and two for each byte, the low one first.
+#[inline(always)]
 fn rows_w(buttons: u8, x: u8, y: u8) -> [u8; 5]
     requires { buttons ≤ 7 }
     ensures { result ≡ rows_w buttons x y }
@@ -72,6 +78,7 @@ fn rows_w(buttons: u8, x: u8, y: u8) -> [u8; 5]
 }
 
 // The bytes of a report, and zeros behind them to make five. V has minus y on the wire; U has 0 for a pressed button.
+#[inline(always)]
 pub(crate) fn bytes_of(f: Format, r: Report) -> [u8; 5]
     requires { accepted f r ≡ true }
     ensures { result ≡ five (bytes_of f r) }

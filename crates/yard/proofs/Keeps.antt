@@ -121,8 +121,3 @@ module _ (y : Yard) (g : good y ≡ true) where
   word_good w =
       let k = of_known y g in
       by_word (λ j. good j.next ≡ true) y w (λ _. g) (λ _. over_good y.format k) (λ _. none_good y.format k) (λ _ s f. more_good w s f)
-
--- and a word leaves the format
-pub word_format : (y : Yard) (w : ℕ) → (word_of y w).next.format ≡ y.format
-unfolding one_more
-word_format y w = by_word (λ j. j.next.format ≡ y.format) y w (λ _. refl) (λ _. refl) (λ _. refl) (λ _ _ _. refl)

@@ -1,6 +1,5 @@
--- The laws of the check: the letters (Letters), a word by cases, and that it keeps a check good (Keeps), a log word by word (Logs), and step by step, in pieces (Pieces). Each function gives one
+-- The laws of the check: a word by cases, and that it keeps a check good (Keeps), a log word by word (Logs), and step by step, in pieces (Pieces). Each function gives one
 -- answer (Answers), no check that we make is refused (Goodness), each refusal is right (Refusals); wrong answers (Wrong), worked lines (Examples), and what they compute with (Computing).
-pub mod Letters
 pub mod Keeps
 pub mod Logs
 pub mod Pieces

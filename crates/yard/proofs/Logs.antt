@@ -1,26 +1,38 @@
 -- A log, word by word.
 use Prim.Native.Nat.{ℕ, zero, suc, ◌+◌, ◌<◌, ◌≤◌}
 use mathlib.Core.Path.{◌≡◌, refl, sym, ap, ◌∙◌}
-use mathlib.Core.Bool.{Bool, true, false, ◌&&◌, and-true, and_assoc}
+use mathlib.Core.Bool.{Bool, true, false, cond}
 use mathlib.Core.List.{List, [], ◌∷◌}
 use native.Mathlib.Omega.{arith}
-use lib.ListN.{length, take, drop, drop_of_length-le, get_or}
-use lib.Seq.{drop-cons}
+use lib.ListN.{length, take}
 use lib.Dec.{eqb, leb}
-use borrow.Author.Tests.{eqb-true, eq-eqb, ne_eqb}
+use borrow.Author.Tests.{eqb-true}
 use Rattle.numbers.specs.Bits.{value}
 use Rattle.numbers.proofs.Tested.{holds}
 use Rattle.frames.specs.Words.{silence, line_words}
+use Rattle.wire.specs.Numbers.{success, bad_word}
 use Rattle.yard.specs.State.{over}
 use Rattle.yard.specs.Rules.{sent, word_of}
-use Rattle.yard.specs.Log.{sendable, judgement, passes}
+use Rattle.yard.specs.Log.{sendable, judgement, passes, refused, checked_of}
 use Rattle.yard.specs.declared.Yard.{Yard}
+use Rattle.yard.specs.declared.Checked.{Checked}
 use Rattle.yard.proofs.Keeps.{by_word}
 
 -- behind a word that cannot be sent none can
 ends : (y : Yard) (w : ℕ) → leb w silence ≡ true → sent (word_of y w) ≡ false → ((word_of y w).can ≡ 0) × ((word_of y w).next ≡ over y.format)
 ends y w l =
     by_word (λ j. sent j ≡ false → (j.can ≡ 0) × (j.next ≡ over y.format)) y w (λ b. absurd (holds (sym b ∙ l))) (λ _ _. (refl, refl)) (λ _ e. absurd (holds (sym e))) (λ _ _ _ e. absurd (holds (sym e)))
+
+-- a word counts one or none
+pub can_small : (y : Yard) (w : ℕ) → (word_of y w).can ≤ 1
+can_small y w = by_word (λ j. j.can ≤ 1) y w (λ _. omega arith) (λ _. omega arith) (λ _. omega arith) (λ _ _ _. omega arith)
+
+-- a word is refused where it is above 257
+pub is_word : (y : Yard) (w : ℕ) → (word_of y w).refusal ≡ success → leb w silence ≡ true
+is_word y w = by_word (λ j. j.refusal ≡ success → leb w silence ≡ true) y w (λ b e. absurd (omega arith)) (λ l _. l) (λ l _. l) (λ l _ _ _. l)
+
+pub no_word : (y : Yard) (w : ℕ) → ((word_of y w).refusal ≡ success → ⊥) → leb w silence ≡ false
+no_word y w = by_word (λ j. (j.refusal ≡ success → ⊥) → leb w silence ≡ false) y w (λ b _. b) (λ _ e. absurd (e refl)) (λ _ e. absurd (e refl)) (λ _ _ _ e. absurd (e refl))
 
 pub over_none : (letter : ℕ) (words : List ℕ) → sendable (over letter) words ≡ 0
 unfolding sendable word_of
@@ -48,30 +60,27 @@ judged_passes place count = go (eqb place count)
     go true = refl
     go false = refl
 
--- a log from a place on: a word that can be sent, one that cannot, and the end
-module _ (y : Yard) (words : List ℕ) (at : ℕ) where
-  pub sent_on : at < length words → (word_of y (get_or words at 0)).can ≡ 1 → at + sendable y (drop at words) ≡ at + 1 + sendable (word_of y (get_or words at 0)).next (drop (at + 1) words)
-  unfolding sendable
-  sent_on h e = let n : at + 1 ≡ suc at = omega arith in rw (n, drop-cons words at 0 h, eq-eqb _ _ e) (omega arith)
+-- what is told of a log of so many words, of which so many could be sent before these
+abbrev pub rest : Yard → ℕ → ℕ → List ℕ → Checked
+rest y before count words = cond (line_words words) (judgement (before + sendable y words) count) (refused bad_word)
 
-  pub sent_none : at < length words → ((word_of y (get_or words at 0)).can ≡ 1 → ⊥) → at + sendable y (drop at words) ≡ at
-  unfolding sendable
-  sent_none h e = rw (drop-cons words at 0 h, ne_eqb _ _ e) (omega arith)
+pub rest_start : (y : Yard) (words : List ℕ) → checked_of y words ≡ rest y 0 (length words) words
+unfolding checked_of
+rest_start y words = let a : 0 + sendable y words ≡ sendable y words = omega arith in rw a
 
-  pub sent_all : length words ≤ at → at + sendable y (drop at words) ≡ at
-  unfolding sendable
-  sent_all h = rw (drop_of_length-le words h) (omega arith)
-
--- whether none is above 257: a word more, and the last
-pub line_more : (words : List ℕ) (ok : Bool) (i : ℕ) → i < length words → ok && line_words (drop i words) ≡ ok && leb (get_or words i 0) silence && line_words (drop (i + 1) words)
+pub rest_bad : (y : Yard) (before count w : ℕ) (words : List ℕ) → leb w silence ≡ false → rest y before count (w ∷ words) ≡ refused bad_word
 unfolding line_words
-line_more words ok i h =
-    let n : i + 1 ≡ suc i = omega arith in
-    rw (n, drop-cons words i 0 h) (sym (and_assoc ok (leb (get_or words i 0) silence) (line_words (drop (suc i) words))))
+rest_bad y before count w words l = rw l
 
-pub line_end : (words : List ℕ) (ok : Bool) (i : ℕ) → length words ≤ i → ok && line_words (drop i words) ≡ ok
+pub rest_step : (y : Yard) (before count w : ℕ) (words : List ℕ) → leb w silence ≡ true → rest y before count (w ∷ words) ≡ rest (word_of y w).next (before + (word_of y w).can) count words
 unfolding line_words
-line_end words ok i h = rw (drop_of_length-le words h) (and-true ok)
+rest_step y before count w words l =
+    let a : before + sendable y (w ∷ words) ≡ before + (word_of y w).can + sendable (word_of y w).next words = omega (arith, one_word y w words l) in
+    rw (l, a)
+
+pub rest_end : (y : Yard) (before count : ℕ) → rest y before count [] ≡ judgement before count
+unfolding line_words sendable
+rest_end y before count = let a : before + 0 ≡ before = omega arith in rw a
 
 -- of the first words of a log as many can be sent, if so many can be sent at all
 pub sendable_front : (y : Yard) (n : ℕ) (words : List ℕ) → n ≤ sendable y words → sendable y (take n words) ≡ n

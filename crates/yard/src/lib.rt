@@ -78,7 +78,7 @@ impl Yard {
         if !self.good() {
             return refusing(BAD_STATE, self);
         }
-        self.heard(word)
+        self.word(word)
     }
 }
 
@@ -89,5 +89,5 @@ pub fn check(letter: u8, words: &[u16]) -> Checked
     if !wire::known(letter) {
         return log::refused(BAD_LETTER);
     }
-    log::checked(letter, words)
+    log::checked(none_gone(letter), words)
 }

@@ -2,12 +2,11 @@
 ghost use Rattle.std.specs.Prelude.{◌≡◌, ◌<◌};
 ghost use Rattle.wire.specs.Line.{size_by};
 ghost use Rattle.yard.specs.State.{none_gone, over};
-ghost use Rattle.yard.specs.Going.{Going};
 ghost use Rattle.yard.specs.Rules.{can, cannot, refusing, first_with, one_more, byte_can, silence_of, word_of};
 
 use crate::stands::stands;
 use crate::{Judged, Yard};
-use wire::{BAD_STATE, BAD_WORD, BREAK, SILENCE, SUCCESS};
+use wire::{BAD_WORD, BREAK, SILENCE, SUCCESS};
 
 // A check between reports.
 pub(crate) fn none_gone(letter: u8) -> Yard
@@ -79,12 +78,12 @@ impl Yard {
     }
 
     // A byte more of the report has gone.
-    fn one_more(self, letter: u8, byte: u8) -> Yard
-        requires { (letter ≡ self.format) × (self.count < 5) }
+    fn one_more(self, byte: u8) -> Yard
+        requires { self.count < size_by self.format }
         ensures { result ≡ one_more self byte }
     {
         Yard {
-            format: letter,
+            format: self.format,
             first: self.first_with(byte),
             last: byte,
             count: self.count + 1,
@@ -93,66 +92,58 @@ impl Yard {
     }
 
     // A byte: behind the last of a report nothing has gone.
-    fn byte(self, letter: u8, size: u8, byte: u8) -> Judged
-        requires { Going letter size self }
+    fn byte(self, byte: u8) -> Judged
+        requires { self.count < size_by self.format }
         ensures { result ≡ byte_can self byte }
     {
-        if !stands(letter, self.count, self.first, self.last, byte) {
-            return cannot(letter);
+        if !stands(self.format, self.count, self.first, self.last, byte) {
+            return cannot(self.format);
         }
-        if self.count + 1 == size {
-            return can(none_gone(letter));
+        let gone = self.count as usize;
+        if gone + 1 == wire::size(self.format) {
+            return can(none_gone(self.format));
         }
-        can(self.one_more(letter, byte))
+        can(self.one_more(byte))
     }
 
     // A silence stands between reports only.
-    fn silence(self, letter: u8) -> Judged
-        requires { letter ≡ self.format }
+    fn silence(self) -> Judged
         ensures { result ≡ silence_of self }
     {
         if self.count == 0 {
-            return can(none_gone(letter));
+            return can(none_gone(self.format));
         }
-        cannot(letter)
+        cannot(self.format)
     }
 
-    // A word, by its letter: a byte, a break, a silence; any other is refused with 4. A break may stand anywhere: of
-    // the report that is broken off any number of bytes has gone, or none.
-    pub(crate) fn word(self, letter: u8, size: u8, word: u16) -> Judged
-        requires { Going letter size self }
+    // A break may stand anywhere: of the report that is broken off any number of bytes has gone, or none.
+    fn broken(self) -> Judged
+        ensures { result ≡ can (none_gone self.format) }
+    {
+        Judged {
+            refusal: SUCCESS,
+            can: 1,
+            next: none_gone(self.format),
+        }
+    }
+
+    // A word: a byte, a break, a silence; any other is refused with 4.
+    pub(crate) fn word(self, word: u16) -> Judged
+        requires { self.count < size_by self.format }
         ensures { result ≡ word_of self word }
     {
         if word > SILENCE {
             return refusing(BAD_WORD, self);
         }
         if self.ended == 1 {
-            return cannot(letter);
+            return cannot(self.format);
         }
         if word <= 255 {
-            return self.byte(letter, size, word as u8);
+            return self.byte(word as u8);
         }
         if word == BREAK {
-            return can(none_gone(letter));
+            return self.broken();
         }
-        self.silence(letter)
-    }
-
-    // A word to a good check, each letter with code of its own.
-    pub(crate) fn heard(self, word: u16) -> Judged
-        requires { self.count < size_by self.format }
-        ensures { result ≡ word_of self word }
-    {
-        let letter = self.format;
-        match letter {
-            b'S' => self.word(b'S', 3, word),
-            b'V' => self.word(b'V', 3, word),
-            b'A' => self.word(b'A', 5, word),
-            b'B' => self.word(b'B', 5, word),
-            b'U' => self.word(b'U', 5, word),
-            b'T' => self.word(b'T', 3, word),
-            b'W' => self.word(b'W', 5, word),
-            _ => refusing(BAD_STATE, self),
-        }
+        self.silence()
     }
 }

@@ -6,25 +6,18 @@ ghost use Rattle.yard.specs.Stands.{minus_zero, least_v, least, least_w, barred_
 fn minus_zero(place: u8, first: u8, byte: u8) -> bool
     ensures { result ≡ minus_zero place first byte }
 {
-    if byte != 0 {
-        return false;
-    }
     let x = (place == 1) & (first / 16 % 2 != 1);
     let y = (place == 2) & (first / 8 % 2 != 1);
-    x | y
+    (byte == 0) & (x | y)
 }
 
 // -128 in V, whose first byte has the two high bits of each movement.
 fn least_v(place: u8, first: u8, byte: u8) -> bool
     ensures { result ≡ least_v place first byte }
 {
-    if place == 1 {
-        return first % 4 * 64 + byte % 64 == 128;
-    }
-    if place == 2 {
-        return first / 4 % 4 * 64 + byte % 64 == 128;
-    }
-    false
+    let x = first % 4 * 64 + byte % 64;
+    let y = first / 4 % 4 * 64 + byte % 64;
+    ((place == 1) & (x == 128)) | ((place == 2) & (y == 128))
 }
 
 // -128 in U and T.
@@ -38,10 +31,7 @@ fn least(place: u8, byte: u8) -> bool
 fn least_w(place: u8, last: u8, byte: u8) -> bool
     ensures { result ≡ least_w place last byte }
 {
-    if byte != b'8' {
-        return false;
-    }
-    ((place == 2) | (place == 4)) & (last == b'0')
+    ((place == 2) | (place == 4)) & (last == b'0') & (byte == b'8')
 }
 
 // What no box sends there, though it fits.
@@ -62,8 +52,5 @@ fn barred(letter: u8, place: u8, first: u8, last: u8, byte: u8) -> bool
 pub(crate) fn stands(letter: u8, place: u8, first: u8, last: u8, byte: u8) -> bool
     ensures { result ≡ stands_by letter place first last byte }
 {
-    if !wire::fits(letter, place, byte) {
-        return false;
-    }
-    !barred(letter, place, first, last, byte)
+    wire::fits(letter, place, byte) & !barred(letter, place, first, last, byte)
 }

@@ -6,8 +6,8 @@ use Rattle.yard.proofs.Yard.silence.Goals as goal
 
 pub returns-then-self-eq0 : goal.returns-then-self-eq0
 unfolding silence_of
-returns-then-self-eq0 c = simp (eq-eqb _ _ c.if-self-eq0.true) (rw (c.none_gone.ensures, c.requires) at c.can.ensures)
+returns-then-self-eq0 c = simp (eq-eqb _ _ c.if-self-eq0.true) (rw c.none_gone.ensures at c.can.ensures)
 
 pub returns : goal.returns
 unfolding silence_of
-returns c = simp (ne_eqb _ _ c.if-self-eq0.false) (rw c.requires at c.cannot.ensures)
+returns c = simp (ne_eqb _ _ c.if-self-eq0.false) c.cannot.ensures

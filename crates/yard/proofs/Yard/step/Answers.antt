@@ -10,9 +10,9 @@ pub returns-then-not-good : goal.returns-then-not-good
 unfolding step_of
 returns-then-not-good c = simp (sym c.good.ensures ∙ not-true _ c.if-not-good.true-raw) c.refusing.ensures
 
-pub heard-requires : goal.heard-requires
-heard-requires c = below_size_lem c.args.self (sym c.good.ensures ∙ not-false _ c.if-not-good.false-raw)
+pub word-requires : goal.word-requires
+word-requires c = below_size_lem c.args.self (sym c.good.ensures ∙ not-false _ c.if-not-good.false-raw)
 
 pub returns : goal.returns
 unfolding step_of
-returns c = simp (sym c.good.ensures ∙ not-false _ c.if-not-good.false-raw) c.heard.ensures
+returns c = simp (sym c.good.ensures ∙ not-false _ c.if-not-good.false-raw) c.word.ensures

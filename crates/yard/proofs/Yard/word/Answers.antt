@@ -10,7 +10,7 @@ returns-then-word-gt-SILENCE c = simp (lt-leb _ _ c.if-word-gt-SILENCE.true) c.r
 
 pub returns-then-self-eq1 : goal.returns-then-self-eq1
 unfolding word_of
-returns-then-self-eq1 c = simp (le-leb _ _ c.if-word-gt-SILENCE.false, eq-eqb _ _ c.if-self-eq1.true) (rw c.requires.0 at c.cannot.ensures)
+returns-then-self-eq1 c = simp (le-leb _ _ c.if-word-gt-SILENCE.false, eq-eqb _ _ c.if-self-eq1.true) c.cannot.ensures
 
 pub returns-then-word-le255 : goal.returns-then-word-le255
 unfolding word_of
@@ -18,7 +18,7 @@ returns-then-word-le255 c = simp (le-leb _ _ c.if-word-gt-SILENCE.false, ne_eqb 
 
 pub returns-then-word-eq-BREAK : goal.returns-then-word-eq-BREAK
 unfolding word_of
-returns-then-word-eq-BREAK c = simp (le-leb _ _ c.if-word-gt-SILENCE.false, ne_eqb _ _ c.if-self-eq1.false, lt-leb _ _ c.if-word-le255.false, eq-eqb _ _ c.if-word-eq-BREAK.true) (rw (c.none_gone.ensures, c.requires.0) at c.can.ensures)
+returns-then-word-eq-BREAK c = simp (le-leb _ _ c.if-word-gt-SILENCE.false, ne_eqb _ _ c.if-self-eq1.false, lt-leb _ _ c.if-word-le255.false, eq-eqb _ _ c.if-word-eq-BREAK.true) c.broken.ensures
 
 pub returns : goal.returns
 unfolding word_of

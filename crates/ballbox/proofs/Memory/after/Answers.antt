@@ -1,0 +1,13 @@
+-- `after`: bytes are left behind the next, or none.
+use borrow.Author.Rules.{rules}
+use mathlib.Core.Path.{sym, ◌∙◌}
+use Rattle.ballbox.specs.Events.{memory_after}
+use Rattle.ballbox.proofs.Memory.after.Goals as goal
+
+pub returns-then-more_behind : goal.returns-then-more_behind
+unfolding memory_after
+returns-then-more_behind c = simp (sym c.more_behind.ensures ∙ c.if-more_behind.true)
+
+pub returns-else-more_behind : goal.returns-else-more_behind
+unfolding memory_after
+returns-else-more_behind c = simp (sym c.more_behind.ensures ∙ c.if-more_behind.false) c.shown.ensures

@@ -1,0 +1,6 @@
+-- The fresh bridge packed.
+use borrow.Author.Rules.{rules}
+use Rattle.istrolf.proofs.bridges.istrolf_bridge_fresh.Goals as goal
+
+pub returns : goal.returns
+returns c = rw (c.packed-bridge.ensures, c.fresh-fresh.ensures)

@@ -1,0 +1,6 @@
+-- The next bridge packed.
+use borrow.Author.Rules.{rules}
+use Rattle.istrolf.proofs.bridges.packed_converted.Goals as goal
+
+pub returns : goal.returns
+returns c = rw c.packed-next.ensures

@@ -1,0 +1,6 @@
+-- The reader's mark too.
+use borrow.Author.Rules.{rules}
+use Rattle.istrolf.proofs.bridges.stands.Goals as goal
+
+pub returns : goal.returns
+returns c = rw c.stands.ensures

@@ -1,0 +1,6 @@
+-- The answer's two numbers.
+use borrow.Author.Rules.{rules}
+use Rattle.istrolf.proofs.encoder.istrolf_encode.Goals as goal
+
+pub returns : goal.returns
+returns c = rw (c.refusal.ensures, c.length.ensures) c.encode-encoded.ensures

@@ -1,0 +1,22 @@
+-- 6 for what stands for no lister, and then the end below.
+use borrow.Author.Rules.{rules}
+use mathlib.Core.Path.{ap, sym, ◌∙◌}
+use borrow.Author.Tests.{not-true, not-false}
+use Rattle.listing.specs.Promises as listing
+use Rattle.listing.specs.declared.Lister.{Lister}
+use Rattle.istrolf.specs.Listers.{whole, packed_whole}
+use Rattle.istrolf.specs.Promises.{finish_of}
+use Rattle.istrolf.specs.declared.ListedBytes.{ListedBytes}
+use Rattle.istrolf.proofs.listers.istrolf_lister_finish.Goals as goal
+
+pub returns-then-not-stands : goal.returns-then-not-stands
+unfolding finish_of
+returns-then-not-stands c = let a = c.args in
+    simp (sym c.stands.ensures ∙ not-true _ c.if-not-stands.true-raw) (ap (λ (l : ListedBytes). whole l a.out.now) c.refused_listed.ensures)
+
+pub returns : goal.returns
+unfolding finish_of
+returns c = let a = c.args in
+    let i = c.finish.ensures ∙ ap (λ (m : Lister). listing.finish_of m a.out.now) c.unpacked.ensures in
+    simp (sym c.stands.ensures ∙ not-false _ c.if-not-stands.false-raw)
+    (ap (λ (l : ListedBytes). whole l c.finish.new.out) c.packed_listed.ensures ∙ ap packed_whole i)

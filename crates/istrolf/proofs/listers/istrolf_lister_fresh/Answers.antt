@@ -1,0 +1,6 @@
+-- The fresh lister packed.
+use borrow.Author.Rules.{rules}
+use Rattle.istrolf.proofs.listers.istrolf_lister_fresh.Goals as goal
+
+pub returns : goal.returns
+returns c = rw (c.packed.ensures, c.fresh.ensures)

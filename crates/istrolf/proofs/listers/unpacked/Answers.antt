@@ -1,0 +1,6 @@
+-- The reader unpacked.
+use borrow.Author.Rules.{rules}
+use Rattle.istrolf.proofs.listers.unpacked.Goals as goal
+
+pub returns : goal.returns
+returns c = rw c.unpacked-reader.ensures

@@ -1,0 +1,20 @@
+-- 6 for what stands for no reader, and then the step below.
+use borrow.Author.Rules.{rules}
+use mathlib.Core.Path.{ap, sym, ◌∙◌}
+use borrow.Author.Tests.{not-true, not-false}
+use Rattle.reader.proofs.Permitted.{step_is}
+use Rattle.reader.specs.Promises.{step_of}
+use Rattle.reader.specs.declared.Reader.{Reader}
+use Rattle.istrolf.specs.Readers.{packed_read}
+use Rattle.istrolf.specs.Promises.{reader_step_of}
+use Rattle.istrolf.proofs.readers.istrolf_reader_step.Goals as goal
+
+pub returns-then-not-stands : goal.returns-then-not-stands
+unfolding reader_step_of
+returns-then-not-stands c = simp (sym c.stands.ensures ∙ not-true _ c.if-not-stands.true-raw) c.refused_read.ensures
+
+pub returns : goal.returns
+unfolding reader_step_of
+returns c = let w = c.args.word in
+    let i = step_is c.unpacked.result w c.step.result c.step.ensures ∙ ap (λ (r : Reader). step_of r w) c.unpacked.ensures in
+    simp (sym c.stands.ensures ∙ not-false _ c.if-not-stands.false-raw) (c.packed_read.ensures ∙ ap packed_read i)

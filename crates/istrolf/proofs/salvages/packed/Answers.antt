@@ -1,0 +1,7 @@
+-- The mark as a number.
+use borrow.Author.Rules.{rules}
+use Rattle.ballbox.proofs.Marks.{as_number}
+use Rattle.istrolf.proofs.salvages.packed.Goals as goal
+
+pub returns : goal.returns
+returns c = simp (as_number c.args.told.whole)

@@ -1,0 +1,6 @@
+-- The report reader packed, and the number of the reply.
+use borrow.Author.Rules.{rules}
+use Rattle.istrolf.proofs.told.packed.Goals as goal
+
+pub returns : goal.returns
+returns c = rw (c.packed-reader.ensures, c.kind_number-number.ensures)

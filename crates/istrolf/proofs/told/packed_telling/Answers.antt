@@ -1,0 +1,6 @@
+-- The next reader packed.
+use borrow.Author.Rules.{rules}
+use Rattle.istrolf.proofs.told.packed_telling.Goals as goal
+
+pub returns : goal.returns
+returns c = rw c.packed-next.ensures

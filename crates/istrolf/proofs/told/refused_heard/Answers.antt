@@ -1,0 +1,6 @@
+-- The old reader, no reply and no report.
+use borrow.Author.Rules.{rules}
+use Rattle.istrolf.proofs.told.refused_heard.Goals as goal
+
+pub returns : goal.returns
+returns c = rw (c.no_report-report.ensures, c.packed_reply-reply.ensures)

@@ -1,0 +1,6 @@
+-- The report reader unpacked, and the reply of the number.
+use borrow.Author.Rules.{rules}
+use Rattle.istrolf.proofs.told.unpacked.Goals as goal
+
+pub returns : goal.returns
+returns c = rw (c.unpacked-reader.ensures, c.kind_of-kind.ensures)
