@@ -10,7 +10,7 @@ mod mixes;
 mod print;
 mod readers;
 
-fn main() {
+fn main(rt: HostRuntime) {
     let mut read = readers::first();
     let mut stepped = boxes::first();
     let mut listed = listers::first();
@@ -21,7 +21,7 @@ fn main() {
         listed = listers::turn(listed, call);
         call += 1;
     }
-    print::line(b"istrolf_reader_read", read.sum);
-    print::line(b"istrolf_box", stepped.sum);
-    print::line(b"istrolf_lister", listed.sum);
+    print::line(rt.stdout(), b"istrolf_reader_read", read.sum);
+    print::line(rt.stdout(), b"istrolf_box", stepped.sum);
+    print::line(rt.stdout(), b"istrolf_lister", listed.sum);
 }

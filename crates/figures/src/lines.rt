@@ -4,6 +4,7 @@ ghost use Rattle.std.specs.Prelude.{◌≡◌, ◌+◌, ◌≤◌, length};
 use crate::passes::{Cut, Pass, passed};
 use crate::print;
 use crate::reports::{carried, encoded, made, put, show};
+use std::io::Stdout;
 use wire::Report;
 
 // The reports of a line; their numbers, five for each; and the most words: five for each, and a silence.
@@ -75,98 +76,98 @@ fn difference(sent: &[i16; NUMBERS], read: &[i16; NUMBERS]) -> usize {
     i
 }
 
-fn verdict(place: usize) {
+fn verdict(output: Stdout, place: usize) {
     if place == NUMBERS {
-        print::say(b"as sent\n");
+        print::say(output, b"as sent\n");
     } else {
-        print::say(b"differs at place ");
-        print::number(place);
-        print::say(b"\n");
+        print::say(output, b"differs at place ");
+        print::number(output, place);
+        print::say(output, b"\n");
     }
 }
 
-fn counts(p: Pass) {
-    print::say(b"calls ");
-    print::number(p.calls);
-    print::say(b", words ");
-    print::number(p.taken);
-    print::say(b", reports ");
-    print::number(p.reports);
-    print::say(b", dropped ");
-    print::number(p.dropped);
-    print::say(b", ");
+fn counts(output: Stdout, p: Pass) {
+    print::say(output, b"calls ");
+    print::number(output, p.calls);
+    print::say(output, b", words ");
+    print::number(output, p.taken);
+    print::say(output, b", reports ");
+    print::number(output, p.reports);
+    print::say(output, b", dropped ");
+    print::number(output, p.dropped);
+    print::say(output, b", ");
 }
 
 // The line read with at most so many words and so many places in a call.
-fn row(letter: u8, words: &[u16], sent: &[i16; NUMBERS], cut: Cut) {
+fn row(output: Stdout, letter: u8, words: &[u16], sent: &[i16; NUMBERS], cut: Cut) {
     let mut read = [UNREAD; NUMBERS];
     let p = passed(letter, cut, words, &mut read);
-    print::say(b"  cut ");
-    print::number(cut.words);
-    print::say(b", room ");
-    print::number(cut.places);
-    print::say(b": ");
-    counts(p);
-    verdict(difference(sent, &read));
+    print::say(output, b"  cut ");
+    print::number(output, cut.words);
+    print::say(output, b", room ");
+    print::number(output, cut.places);
+    print::say(output, b": ");
+    counts(output, p);
+    verdict(output, difference(sent, &read));
 }
 
 // The line in pieces of so many words.
-fn pieces(letter: u8, words: &[u16], sent: &[i16; NUMBERS], size: usize) {
+fn pieces(output: Stdout, letter: u8, words: &[u16], sent: &[i16; NUMBERS], size: usize) {
     let cut = Cut {
         words: size,
         places: NUMBERS,
     };
-    row(letter, words, sent, cut);
+    row(output, letter, words, sent, cut);
 }
 
 // The whole line to a slice that is too short: a call stops for room, and the rest of the words goes on with fresh room.
-fn short(letter: u8, words: &[u16], sent: &[i16; NUMBERS]) {
+fn short(output: Stdout, letter: u8, words: &[u16], sent: &[i16; NUMBERS]) {
     let cut = Cut {
         words: words.len(),
         places: SHORT,
     };
-    row(letter, words, sent, cut);
+    row(output, letter, words, sent, cut);
 }
 
-fn rows(letter: u8, words: &[u16], sent: &[i16; NUMBERS]) {
-    pieces(letter, words, sent, 1);
-    pieces(letter, words, sent, 2);
-    pieces(letter, words, sent, 3);
-    pieces(letter, words, sent, 7);
-    pieces(letter, words, sent, 64);
-    pieces(letter, words, sent, words.len());
-    short(letter, words, sent);
+fn rows(output: Stdout, letter: u8, words: &[u16], sent: &[i16; NUMBERS]) {
+    pieces(output, letter, words, sent, 1);
+    pieces(output, letter, words, sent, 2);
+    pieces(output, letter, words, sent, 3);
+    pieces(output, letter, words, sent, 7);
+    pieces(output, letter, words, sent, 64);
+    pieces(output, letter, words, sent, words.len());
+    short(output, letter, words, sent);
 }
 
 // What a line is: its reports and words, and its first and last report.
-fn heading(letter: u8, count: usize) {
+fn heading(output: Stdout, letter: u8, count: usize) {
     let name = [letter];
-    print::say(&name);
-    print::say(b": reports ");
-    print::number(REPORTS);
-    print::say(b", words ");
-    print::number(count);
-    print::say(b"\n  first ");
-    show(letter, made(letter, 0));
-    print::say(b"  last ");
-    show(letter, made(letter, 255));
+    print::say(output, &name);
+    print::say(output, b": reports ");
+    print::number(output, REPORTS);
+    print::say(output, b", words ");
+    print::number(output, count);
+    print::say(output, b"\n  first ");
+    show(output, letter, made(letter, 0));
+    print::say(output, b"  last ");
+    show(output, letter, made(letter, 255));
 }
 
-fn format(letter: u8) {
+fn format(output: Stdout, letter: u8) {
     let mut words = [0u16; WORDS];
     let mut sent = [0i16; NUMBERS];
     let count = lay(letter, &mut words, &mut sent);
-    heading(letter, count);
-    rows(letter, &words[..count], &sent);
+    heading(output, letter, count);
+    rows(output, letter, &words[..count], &sent);
 }
 
-pub(crate) fn formats() {
-    print::say(b"Lines of reports\n");
-    format(b'S');
-    format(b'V');
-    format(b'A');
-    format(b'B');
-    format(b'U');
-    format(b'T');
-    format(b'W');
+pub(crate) fn formats(output: Stdout) {
+    print::say(output, b"Lines of reports\n");
+    format(output, b'S');
+    format(output, b'V');
+    format(output, b'A');
+    format(output, b'B');
+    format(output, b'U');
+    format(output, b'T');
+    format(output, b'W');
 }

@@ -13,12 +13,12 @@ mod pucks;
 mod reports;
 mod steps;
 
-fn main() {
-    box_runs::figures();
-    presses::runs();
-    apart::runs();
-    lag::runs();
-    manuals::examples();
-    pucks::runs();
-    lines::formats();
+fn main(rt: HostRuntime) {
+    box_runs::figures(rt.stdout());
+    presses::runs(rt.stdout());
+    apart::runs(rt.stdout());
+    lag::runs(rt.stdout());
+    manuals::examples(rt.stdout());
+    pucks::runs(rt.stdout());
+    lines::formats(rt.stdout());
 }

@@ -1,39 +1,39 @@
 // What is written to standard output.
 ghost use Rattle.std.specs.Prelude.{◌<◌};
 
-use libc::STDOUT_FILENO;
+use std::io::Stdout;
 use text::Text;
 use wire::Report;
 
-pub(crate) fn say(bytes: &[u8]) {
-    io::write_all(STDOUT_FILENO, bytes);
+pub(crate) fn say(output: Stdout, bytes: &[u8]) {
+    let _ = output.write_all(bytes);
 }
 
-pub(crate) fn number(n: usize) {
-    io::print_decimal(STDOUT_FILENO, n as u64);
+pub(crate) fn number(output: Stdout, n: usize) {
+    let _ = print!(output; "{n}");
 }
 
 // A number below 256.
-pub(crate) fn small(n: u8) {
-    number(n as usize);
+pub(crate) fn small(output: Stdout, n: u8) {
+    number(output, n as usize);
 }
 
 // The first bytes, where there are so many.
-fn front(bytes: &[u8], count: usize) {
+fn front(output: Stdout, bytes: &[u8], count: usize) {
     if count <= bytes.len() {
-        say(&bytes[..count]);
+        say(output, &bytes[..count]);
     }
 }
 
 // A sum of 64 bits.
-pub(crate) fn long(v: i64) {
+pub(crate) fn long(output: Stdout, v: i64) {
     let decimal = Text::none().decimal(1, v);
     let bytes = decimal.bytes;
-    front(&bytes, decimal.len);
+    front(output, &bytes, decimal.len);
 }
 
-pub(crate) fn signed(v: i16) {
-    long(v as i64);
+pub(crate) fn signed(output: Stdout, v: i16) {
+    long(output, v as i64);
 }
 
 fn digit(n: u8) -> u8
@@ -43,17 +43,17 @@ fn digit(n: u8) -> u8
 }
 
 // A byte in hexadecimal.
-pub(crate) fn byte(b: u8) {
+pub(crate) fn byte(output: Stdout, b: u8) {
     let digits = [digit(b / 16), digit(b % 16)];
-    say(&digits);
+    say(output, &digits);
 }
 
 // A line word: a byte in hexadecimal, and 256 or 257 as they are.
-pub(crate) fn word(w: u16) {
+pub(crate) fn word(output: Stdout, w: u16) {
     if w <= 255 {
-        byte(w as u8);
+        byte(output, w as u8);
     } else {
-        number(w as usize);
+        number(output, w as usize);
     }
 }
 
@@ -62,21 +62,21 @@ fn key(down: u8, letter: u8) -> u8 {
 }
 
 // Buttons as L M R, or `-`.
-pub(crate) fn buttons(n: u8) {
+pub(crate) fn buttons(output: Stdout, n: u8) {
     let keys = [key(n / 4 % 2, b'L'), key(n / 2 % 2, b'M'), key(n % 2, b'R')];
-    say(&keys);
+    say(output, &keys);
 }
 
-fn pair(x: i16, y: i16) {
-    say(b" ");
-    signed(x);
-    say(b" ");
-    signed(y);
+fn pair(output: Stdout, x: i16, y: i16) {
+    say(output, b" ");
+    signed(output, x);
+    say(output, b" ");
+    signed(output, y);
 }
 
 // A report: its buttons and both pairs.
-pub(crate) fn report(r: Report) {
-    buttons(r.buttons);
-    pair(r.x1, r.y1);
-    pair(r.x2, r.y2);
+pub(crate) fn report(output: Stdout, r: Report) {
+    buttons(output, r.buttons);
+    pair(output, r.x1, r.y1);
+    pair(output, r.x2, r.y2);
 }

@@ -4,6 +4,7 @@ use crate::steps::{Line, event, no_words, noted, refusal, sent};
 use ballbox::Event;
 use puck::Puck;
 use puckreader::{PuckAnswer, PuckReader};
+use std::io::Stdout;
 use vsxxx::SelfTest;
 
 // A run of a puck: the puck, and the words that it gave.
@@ -15,9 +16,9 @@ struct Run {
 }
 
 // Power-up with these buttons, of a puck of revision 1 and maker 3.
-fn powered(buttons: u8) -> Run {
-    print::say(b", Power-up ");
-    print::buttons(buttons);
+fn powered(output: Stdout, buttons: u8) -> Run {
+    print::say(output, b", Power-up ");
+    print::buttons(output, buttons);
     Run {
         puck: Puck::made(buttons, 1, 3),
         line: no_words(),
@@ -25,13 +26,13 @@ fn powered(buttons: u8) -> Run {
 }
 
 // The run after an event.
-fn on(run: Run, e: Event) -> Run {
+fn on(output: Stdout, run: Run, e: Event) -> Run {
     let p = run.puck;
     let stepped = p.step(e);
     let next = stepped.next;
-    event(e);
-    refusal(stepped.refusal);
-    sent(stepped.sent, stepped.word);
+    event(output, e);
+    refusal(output, stepped.refusal);
+    sent(output, stepped.sent, stepped.word);
     Run {
         puck: next,
         line: noted(run.line, stepped.sent, stepped.word),
@@ -39,210 +40,210 @@ fn on(run: Run, e: Event) -> Run {
 }
 
 // So many words more, with no Latch.
-fn sends(run: Run, count: u8) -> Run {
+fn sends(output: Stdout, run: Run, count: u8) -> Run {
     let mut next = run;
     let mut left = count;
     while left > 0 {
-        next = on(next, Event::Send);
+        next = on(output, next, Event::Send);
         left -= 1;
     }
     next
 }
 
 // A self-test: revision, maker, device, error and buttons.
-fn self_test(t: SelfTest) {
-    print::say(b" gives self-test ");
-    print::small(t.revision);
-    print::say(b" ");
-    print::small(t.maker);
-    print::say(b" ");
-    print::small(t.device);
-    print::say(b" ");
-    print::byte(t.error);
-    print::say(b" ");
-    print::buttons(t.buttons);
+fn self_test(output: Stdout, t: SelfTest) {
+    print::say(output, b" gives self-test ");
+    print::small(output, t.revision);
+    print::say(output, b" ");
+    print::small(output, t.maker);
+    print::say(output, b" ");
+    print::small(output, t.device);
+    print::say(output, b" ");
+    print::byte(output, t.error);
+    print::say(output, b" ");
+    print::buttons(output, t.buttons);
 }
 
-fn answer(a: PuckAnswer) {
+fn answer(output: Stdout, a: PuckAnswer) {
     match a {
         PuckAnswer::Nothing => {}
         PuckAnswer::Movement(r) => {
-            print::say(b" gives ");
-            print::report(r);
+            print::say(output, b" gives ");
+            print::report(output, r);
         }
         PuckAnswer::Test(t) => {
-            self_test(t);
+            self_test(output, t);
         }
         PuckAnswer::Dropped(k) => {
-            print::say(b" drops ");
-            print::small(k);
+            print::say(output, b" drops ");
+            print::small(output, k);
         }
     }
 }
 
 // The reader after a word.
-fn heard(r: PuckReader, word: u16) -> PuckReader {
+fn heard(output: Stdout, r: PuckReader, word: u16) -> PuckReader {
     let read = r.step(word);
     let told = read.answer;
-    print::say(b", ");
-    print::word(word);
-    refusal(read.refusal);
-    answer(told);
+    print::say(output, b", ");
+    print::word(output, word);
+    refusal(output, read.refusal);
+    answer(output, told);
     read.next
 }
 
 // A fresh reader's answers to words, one after the other.
-fn answers(words: &[u16]) {
+fn answers(output: Stdout, words: &[u16]) {
     let mut next = PuckReader::fresh();
     let mut i = 0;
     while i < words.len() {
-        next = heard(next, words[i]);
+        next = heard(output, next, words[i]);
         i += 1;
     }
-    print::say(b", keeps ");
-    print::small(next.count);
+    print::say(output, b", keeps ");
+    print::small(output, next.count);
 }
 
 // The same to the first words, where there are so many.
-fn answers_to_first(words: &[u16], count: usize) {
+fn answers_to_first(output: Stdout, words: &[u16], count: usize) {
     if count <= words.len() {
-        answers(&words[..count]);
+        answers(output, &words[..count]);
     }
 }
 
 // The same to the words of a run.
-fn answers_to(run: Run) {
+fn answers_to(output: Stdout, run: Run) {
     let line = run.line;
     let words = line.words;
-    answers_to_first(&words, line.count);
+    answers_to_first(output, &words, line.count);
 }
 
 // "error 3DH and the buttons if any is down".
-fn left_down() {
-    print::say(b"Left down");
-    let r = sends(powered(4), 5);
-    print::say(b"\nLeft down");
-    answers_to(r);
-    print::say(b"\n");
+fn left_down(output: Stdout) {
+    print::say(output, b"Left down");
+    let r = sends(output, powered(output, 4), 5);
+    print::say(output, b"\nLeft down");
+    answers_to(output, r);
+    print::say(output, b"\n");
 }
 
 // T breaks off the report, and "clear[s] all but the buttons": the 9 counted since are in no report.
-fn t_in_a_report() {
-    print::say(b"T in a report");
-    let r = sends(powered(0), 4);
-    let r = on(r, Event::Motion(5, 3));
-    let r = on(r, Event::Host(b'P'));
-    let r = on(r, Event::Latch);
-    let r = sends(r, 1);
-    let r = on(r, Event::Motion(9, 0));
-    let r = on(r, Event::Buttons(1));
-    let r = on(r, Event::Host(b'T'));
-    let r = sends(r, 4);
-    let r = on(r, Event::Host(b'P'));
-    let r = on(r, Event::Latch);
-    let r = sends(r, 3);
-    print::say(b"\nT in a report");
-    answers_to(r);
-    print::say(b"\n");
+fn t_in_a_report(output: Stdout) {
+    print::say(output, b"T in a report");
+    let r = sends(output, powered(output, 0), 4);
+    let r = on(output, r, Event::Motion(5, 3));
+    let r = on(output, r, Event::Host(b'P'));
+    let r = on(output, r, Event::Latch);
+    let r = sends(output, r, 1);
+    let r = on(output, r, Event::Motion(9, 0));
+    let r = on(output, r, Event::Buttons(1));
+    let r = on(output, r, Event::Host(b'T'));
+    let r = sends(output, r, 4);
+    let r = on(output, r, Event::Host(b'P'));
+    let r = on(output, r, Event::Latch);
+    let r = sends(output, r, 3);
+    print::say(output, b"\nT in a report");
+    answers_to(output, r);
+    print::say(output, b"\n");
 }
 
 // "Until its last byte has gone host bytes do nothing": T, R and P are lost, and only the last P is obeyed. Motion counts.
-fn bytes_in_a_test() {
-    print::say(b"Bytes in a test");
-    let r = sends(powered(0), 1);
-    let r = on(r, Event::Host(b'T'));
-    let r = on(r, Event::Host(b'R'));
-    let r = on(r, Event::Motion(7, -2));
-    let r = sends(r, 1);
-    let r = on(r, Event::Host(b'P'));
-    let r = sends(r, 1);
-    let r = on(r, Event::Latch);
-    let r = sends(r, 2);
-    let r = on(r, Event::Host(b'P'));
-    let r = on(r, Event::Latch);
-    let r = sends(r, 3);
-    print::say(b"\nBytes in a test");
-    answers_to(r);
-    print::say(b"\n");
+fn bytes_in_a_test(output: Stdout) {
+    print::say(output, b"Bytes in a test");
+    let r = sends(output, powered(output, 0), 1);
+    let r = on(output, r, Event::Host(b'T'));
+    let r = on(output, r, Event::Host(b'R'));
+    let r = on(output, r, Event::Motion(7, -2));
+    let r = sends(output, r, 1);
+    let r = on(output, r, Event::Host(b'P'));
+    let r = sends(output, r, 1);
+    let r = on(output, r, Event::Latch);
+    let r = sends(output, r, 2);
+    let r = on(output, r, Event::Host(b'P'));
+    let r = on(output, r, Event::Latch);
+    let r = sends(output, r, 3);
+    print::say(output, b"\nBytes in a test");
+    answers_to(output, r);
+    print::say(output, b"\n");
 }
 
 // A self-test of which the first bytes are missing, and one that lost its second: a report behind each.
-fn damaged() {
-    print::say(b"Joined halfway");
+fn damaged(output: Stdout) {
+    print::say(output, b"Joined halfway");
     let joined = [0x3Du16, 0x04, 0x9C, 0x05, 0x03];
-    answers(&joined);
-    print::say(b"\nLost byte");
+    answers(output, &joined);
+    print::say(output, b"\nLost byte");
     let lost = [0xA1u16, 0x3D, 0x04, 0x9C, 0x05, 0x03];
-    answers(&lost);
-    print::say(b"\n");
+    answers(output, &lost);
+    print::say(output, b"\n");
 }
 
-fn six(numbers: &[i16; 6]) {
-    print::signed(numbers[0]);
-    print::say(b" ");
-    print::signed(numbers[1]);
-    print::say(b" ");
-    print::signed(numbers[2]);
-    print::say(b" ");
-    print::signed(numbers[3]);
-    print::say(b" ");
-    print::signed(numbers[4]);
-    print::say(b" ");
-    print::signed(numbers[5]);
+fn six(output: Stdout, numbers: &[i16; 6]) {
+    print::signed(output, numbers[0]);
+    print::say(output, b" ");
+    print::signed(output, numbers[1]);
+    print::say(output, b" ");
+    print::signed(output, numbers[2]);
+    print::say(output, b" ");
+    print::signed(output, numbers[3]);
+    print::say(output, b" ");
+    print::signed(output, numbers[4]);
+    print::say(output, b" ");
+    print::signed(output, numbers[5]);
 }
 
 // 001 section C.6.5: a self-test of revision 0 and maker 0, word by word and in a long read.
-fn tested(device: u16, error: u16, buttons: u16) {
-    print::say(b"001 section C.6.5");
+fn tested(output: Stdout, device: u16, error: u16, buttons: u16) {
+    print::say(output, b"001 section C.6.5");
     let words = [0xA0u16, device, error, buttons];
-    answers(&words);
+    answers(output, &words);
     let mut numbers = [0i16; 6];
     let reader = PuckReader::fresh();
     reader.read(&words, &mut numbers);
-    print::say(b", numbers ");
-    six(&numbers);
-    print::say(b"\n");
+    print::say(output, b", numbers ");
+    six(output, &numbers);
+    print::say(output, b"\n");
 }
 
 // 001 section C.6.6: "100", "101", and two beginnings that the puck has no reports of.
-fn starts() {
-    print::say(b"001 section C.6.6");
+fn starts(output: Stdout) {
+    print::say(output, b"001 section C.6.6");
     let words = [0xA0u16, 0x02, 0x3D, 0x04, 0xC0, 0xE0, 0x94, 0x05, 0x03];
-    answers(&words);
-    print::say(b"\n");
+    answers(output, &words);
+    print::say(output, b"\n");
 }
 
 // 001 section C.7.1: "Read the power-up self-test report"; "Send ASCII S [..] Send ASCII R": S is no command of the puck's.
-fn initialized() {
-    print::say(b"001 section C.7.1");
-    let r = sends(powered(0), 4);
-    let r = on(r, Event::Host(b'S'));
-    let r = on(r, Event::Host(b'R'));
-    let r = on(r, Event::Buttons(4));
-    let r = on(r, Event::Motion(5, -3));
-    let r = on(r, Event::Latch);
-    let r = sends(r, 3);
-    let r = on(r, Event::Motion(1, 0));
-    let r = on(r, Event::Latch);
-    let r = sends(r, 1);
-    let r = on(r, Event::Period);
-    let r = on(r, Event::Latch);
-    sends(r, 3);
-    print::say(b"\n");
+fn initialized(output: Stdout) {
+    print::say(output, b"001 section C.7.1");
+    let r = sends(output, powered(output, 0), 4);
+    let r = on(output, r, Event::Host(b'S'));
+    let r = on(output, r, Event::Host(b'R'));
+    let r = on(output, r, Event::Buttons(4));
+    let r = on(output, r, Event::Motion(5, -3));
+    let r = on(output, r, Event::Latch);
+    let r = sends(output, r, 3);
+    let r = on(output, r, Event::Motion(1, 0));
+    let r = on(output, r, Event::Latch);
+    let r = sends(output, r, 1);
+    let r = on(output, r, Event::Period);
+    let r = on(output, r, Event::Latch);
+    sends(output, r, 3);
+    print::say(output, b"\n");
 }
 
-pub(crate) fn runs() {
-    print::say(b"The VSXXX puck\n");
-    left_down();
-    t_in_a_report();
-    bytes_in_a_test();
-    damaged();
+pub(crate) fn runs(output: Stdout) {
+    print::say(output, b"The VSXXX puck\n");
+    left_down(output);
+    t_in_a_report(output);
+    bytes_in_a_test(output);
+    damaged(output);
     // "04 (hex) would mean a left button error"; ">" a checksum error; "20 (hex) or greater [..] fatal"; "0100 - Indicates tablet data"
-    tested(0x02, 0x3D, 0x04);
-    tested(0x02, 0x3E, 0x00);
-    tested(0x02, 0x20, 0x00);
-    tested(0x02, 0x1F, 0x00);
-    tested(0x04, 0x00, 0x00);
-    starts();
-    initialized();
+    tested(output, 0x02, 0x3D, 0x04);
+    tested(output, 0x02, 0x3E, 0x00);
+    tested(output, 0x02, 0x20, 0x00);
+    tested(output, 0x02, 0x1F, 0x00);
+    tested(output, 0x04, 0x00, 0x00);
+    starts(output);
+    initialized(output);
 }

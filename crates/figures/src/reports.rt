@@ -3,6 +3,7 @@ ghost use Rattle.std.specs.Prelude.{◌≤◌, length};
 ghost use Rattle.figures.specs.Small.{Small};
 
 use crate::print;
+use std::io::Stdout;
 use wire::Report;
 
 // The values of a movement: the lowest, and how many there are.
@@ -141,17 +142,17 @@ pub(crate) fn encoded(letter: u8, report: Report) -> Coded
 }
 
 // A report, and its bytes from the encoder.
-pub(crate) fn show(letter: u8, report: Report) {
+pub(crate) fn show(output: Stdout, letter: u8, report: Report) {
     let coded = encoded(letter, report);
     let bytes = coded.bytes;
     let length = coded.length;
-    print::report(report);
-    print::say(b" is");
+    print::report(output, report);
+    print::say(output, b" is");
     let mut i = 0;
     while i < length {
-        print::say(b" ");
-        print::byte(bytes[i]);
+        print::say(output, b" ");
+        print::byte(output, bytes[i]);
         i += 1;
     }
-    print::say(b"\n");
+    print::say(output, b"\n");
 }

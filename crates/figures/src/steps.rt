@@ -2,59 +2,60 @@
 use crate::print;
 use ballbox::{BallBox, Event};
 use reader::{Answer, Reader};
+use std::io::Stdout;
 
 // A byte of the host's: as its character where it has one, else in hexadecimal.
-fn host(byte: u8) {
+fn host(output: Stdout, byte: u8) {
     if (b' ' < byte) & (byte < 127) {
         let character = [byte];
-        print::say(&character);
+        print::say(output, &character);
     } else {
-        print::byte(byte);
+        print::byte(output, byte);
     }
 }
 
-pub(crate) fn event(e: Event) {
+pub(crate) fn event(output: Stdout, e: Event) {
     match e {
         Event::Motion(dx, dy) => {
-            print::say(b", Motion(");
-            print::signed(dx);
-            print::say(b", ");
-            print::signed(dy);
-            print::say(b")");
+            print::say(output, b", Motion(");
+            print::signed(output, dx);
+            print::say(output, b", ");
+            print::signed(output, dy);
+            print::say(output, b")");
         }
         Event::Buttons(n) => {
-            print::say(b", Buttons ");
-            print::buttons(n);
+            print::say(output, b", Buttons ");
+            print::buttons(output, n);
         }
         Event::Host(byte) => {
-            print::say(b", Host ");
-            host(byte);
+            print::say(output, b", Host ");
+            host(output, byte);
         }
         Event::Latch => {
-            print::say(b", Latch");
+            print::say(output, b", Latch");
         }
         Event::Send => {
-            print::say(b", Send");
+            print::say(output, b", Send");
         }
         Event::Period => {
-            print::say(b", Period");
+            print::say(output, b", Period");
         }
     }
 }
 
 // The word, if one is sent.
-pub(crate) fn sent(count: u8, word: u16) {
+pub(crate) fn sent(output: Stdout, count: u8, word: u16) {
     if count == 1 {
-        print::say(b" gives ");
-        print::word(word);
+        print::say(output, b" gives ");
+        print::word(output, word);
     }
 }
 
 // A refusal, if there is one.
-pub(crate) fn refusal(number: u8) {
+pub(crate) fn refusal(output: Stdout, number: u8) {
     if number != 0 {
-        print::say(b" refusal ");
-        print::small(number);
+        print::say(output, b" refusal ");
+        print::small(output, number);
     }
 }
 
@@ -111,13 +112,13 @@ pub(crate) fn started(b: BallBox) -> Run {
 }
 
 // The run after an event.
-pub(crate) fn on(run: Run, e: Event) -> Run {
+pub(crate) fn on(output: Stdout, run: Run, e: Event) -> Run {
     let b = run.ball;
     let stepped = b.step(e);
     let next = stepped.next;
-    event(e);
-    refusal(stepped.refusal);
-    sent(stepped.sent, stepped.word);
+    event(output, e);
+    refusal(output, stepped.refusal);
+    sent(output, stepped.sent, stepped.word);
     Run {
         ball: next,
         line: noted(run.line, stepped.sent, stepped.word),
@@ -125,90 +126,90 @@ pub(crate) fn on(run: Run, e: Event) -> Run {
 }
 
 // The run after time for so many characters: each is latched for, and sent.
-pub(crate) fn on_slots(run: Run, count: u8) -> Run {
+pub(crate) fn on_slots(output: Stdout, run: Run, count: u8) -> Run {
     let mut next = run;
     let mut left = count;
     while left > 0 {
-        next = on(next, Event::Latch);
-        next = on(next, Event::Send);
+        next = on(output, next, Event::Latch);
+        next = on(output, next, Event::Send);
         left -= 1;
     }
     next
 }
 
 // The box after an event.
-pub(crate) fn after(b: BallBox, e: Event) -> BallBox {
-    let run = on(started(b), e);
+pub(crate) fn after(output: Stdout, b: BallBox, e: Event) -> BallBox {
+    let run = on(output, started(b), e);
     run.ball
 }
 
 // The box after time for so many characters.
-pub(crate) fn slots(b: BallBox, count: u8) -> BallBox {
-    let run = on_slots(started(b), count);
+pub(crate) fn slots(output: Stdout, b: BallBox, count: u8) -> BallBox {
+    let run = on_slots(output, started(b), count);
     run.ball
 }
 
-fn answer(a: Answer) {
+fn answer(output: Stdout, a: Answer) {
     match a {
         Answer::Nothing => {}
         Answer::Report(r) => {
-            print::say(b" gives ");
-            print::report(r);
+            print::say(output, b" gives ");
+            print::report(output, r);
         }
         Answer::Dropped(k) => {
-            print::say(b" drops ");
-            print::small(k);
+            print::say(output, b" drops ");
+            print::small(output, k);
         }
     }
 }
 
 // The reader after a word.
-fn heard(r: Reader, word: u16) -> Reader {
+fn heard(output: Stdout, r: Reader, word: u16) -> Reader {
     let read = r.step(word);
     let told = read.answer;
-    print::say(b", ");
-    print::word(word);
-    refusal(read.refusal);
-    answer(told);
+    print::say(output, b", ");
+    print::word(output, word);
+    refusal(output, read.refusal);
+    answer(output, told);
     read.next
 }
 
 // What the yard check says of words: that they are a box's, or from which on, the first being 0, they are no box's.
-fn judged(letter: u8, words: &[u16]) {
+fn judged(output: Stdout, letter: u8, words: &[u16]) {
     let c = yard::check(letter, words);
     if c.proper == 1 {
-        print::say(b", a box's\n");
+        print::say(output, b", a box's\n");
     } else {
-        print::say(b", no box's from word ");
-        print::number(c.sendable);
-        print::say(b"\n");
+        print::say(output, b", no box's from word ");
+        print::number(output, c.sendable);
+        print::say(output, b"\n");
     }
 }
 
 // A fresh reader's answers to words, one after the other, and what the yard check says of them.
-pub(crate) fn answers(letter: u8, words: &[u16]) {
+pub(crate) fn answers(output: Stdout, letter: u8, words: &[u16]) {
     let new = Reader::fresh(letter);
     let mut next = new.reader;
     let mut i = 0;
     while i < words.len() {
-        next = heard(next, words[i]);
+        next = heard(output, next, words[i]);
         i += 1;
     }
-    print::say(b", keeps ");
-    print::small(next.count);
-    judged(letter, words);
+    print::say(output, b", keeps ");
+    print::small(output, next.count);
+    judged(output, letter, words);
 }
 
 // The same to the first words, where there are so many.
-fn answers_to_first(letter: u8, words: &[u16], count: usize) {
+fn answers_to_first(output: Stdout, letter: u8, words: &[u16], count: usize) {
     if count <= words.len() {
-        answers(letter, &words[..count]);
+        answers(output, letter, &words[..count]);
     }
 }
 
 // The same to the words of a run.
-pub(crate) fn answers_to(letter: u8, run: Run) {
+pub(crate) fn answers_to(output: Stdout, letter: u8, run: Run) {
     let line = run.line;
     let words = line.words;
-    answers_to_first(letter, &words, line.count);
+    answers_to_first(output, letter, &words, line.count);
 }

@@ -12,6 +12,7 @@ ghost use Rattle.mbox.specs.Program.{mbox};
 ghost use Rattle.mbox.specs.Blocks.{On, Left};
 
 use driver::Driver;
+use shell::Streams;
 
 // Where the events stand: the driver, whether more is to be read, and whether each read and write went well.
 #[derive(Drop)]
@@ -24,7 +25,7 @@ struct Went {
 
 // Bytes of the input, and their recording to standard output: a call may stop for room, and is followed by another until all of them are taken and no slot is
 // owed. With nine places each takes a byte or a slot.
-fn drive(turn: &mut u64, driver: Driver, bytes: &[u8], out: &mut [u8]) -> Went
+fn drive(streams: Streams, turn: &mut u64, driver: Driver, bytes: &[u8], out: &mut [u8]) -> Went
     requires kept { Kept driver × (enough ≤ length out.old) × (0 < length bytes.now) }
     requires on { On turn.old (λ q. all_of driver (bytes.now ++ q)) }
     ensures left { Left turn.new result }
@@ -36,7 +37,7 @@ fn drive(turn: &mut u64, driver: Driver, bytes: &[u8], out: &mut [u8]) -> Went
     while well & ((at < bytes.len()) | (here.owed != 0)) {
         let driven = here.feed(&bytes[at..], out);
         let n = driven.written;
-        well = shell::show(turn, b"mbox: standard output", &out[..n]);
+        well = shell::show(streams, turn, b"mbox: standard output", &out[..n]);
         at = at + driven.taken;
         here = driven.next;
     }
@@ -48,13 +49,13 @@ fn drive(turn: &mut u64, driver: Driver, bytes: &[u8], out: &mut [u8]) -> Went
 }
 
 // A block of the input: what a read brought is fed, and where it brought nothing the input is over or cannot be read.
-fn block(turn: &mut u64, driver: Driver, input: &mut [u8], out: &mut [u8]) -> Went
+fn block(streams: Streams, turn: &mut u64, driver: Driver, input: &mut [u8], out: &mut [u8]) -> Went
     requires kept { Kept driver × (enough ≤ length out.old) × (0 < length input.old) }
     requires on { On turn.old (all_of driver) }
     ensures left { Left turn.new result }
     ensures next_bound { result.on ≡ true → most_bytes - passed result.next < most_bytes - passed driver }
 {
-    let got = shell::more(turn, b"mbox: standard input", input);
+    let got = shell::more(streams, turn, b"mbox: standard input", input);
     let n = got.count;
     if n == 0 {
         return Went {
@@ -63,11 +64,11 @@ fn block(turn: &mut u64, driver: Driver, input: &mut [u8], out: &mut [u8]) -> We
             well: got.well,
         };
     }
-    drive(turn, driver, &input[..n], out)
+    drive(streams, turn, driver, &input[..n], out)
 }
 
 // The blocks, one after the other, until the input is over or the recording has ended: nothing is read after its end.
-fn blocks(turn: &mut u64, input: &mut [u8], out: &mut [u8]) -> Went
+fn blocks(streams: Streams, turn: &mut u64, input: &mut [u8], out: &mut [u8]) -> Went
     requires trace { Trace turn.old [] [] [] }
     requires enough_in_bounds { (enough ≤ length out.old) × (0 < length input.old) }
     ensures { Left turn.new result × (result.on ≡ false) }
@@ -78,13 +79,13 @@ fn blocks(turn: &mut u64, input: &mut [u8], out: &mut [u8]) -> Went
         well: true,
     };
     while went.on {
-        went = block(turn, went.next, input, out);
+        went = block(streams, turn, went.next, input, out);
     }
     went
 }
 
 // The end of the input, which only a recording has whose reads and writes all went well; its lines too may stop for room.
-fn end(turn: &mut u64, went: Went, out: &mut [u8]) -> bool
+fn end(streams: Streams, turn: &mut u64, went: Went, out: &mut [u8]) -> bool
     requires { Left turn.old went × (went.on ≡ false) × (went.well ≡ true) × (enough ≤ length out.old) }
     ensures { Ends mbox turn.new result }
 {
@@ -93,28 +94,33 @@ fn end(turn: &mut u64, went: Went, out: &mut [u8]) -> bool
     while well & !here.ended {
         let driven = here.finish(out);
         let n = driven.written;
-        well = shell::show(turn, b"mbox: standard output", &out[..n]);
+        well = shell::show(streams, turn, b"mbox: standard output", &out[..n]);
         here = driven.next;
     }
     well
 }
 
 // All of it: WHAT IS HANDED OUT IS THE RECORDING OF THE SCRIPT.
-fn whole(turn: &mut u64, input: &mut [u8], out: &mut [u8]) -> bool
+fn whole(streams: Streams, turn: &mut u64, input: &mut [u8], out: &mut [u8]) -> bool
     requires trace { Trace turn.old [] [] [] }
     requires enough_in_bounds { (enough ≤ length out.old) × (0 < length input.old) }
     ensures { Ends mbox turn.new result }
 {
-    let went = blocks(turn, input, out);
+    let went = blocks(streams, turn, input, out);
     if went.well {
-        return end(turn, went, out);
+        return end(streams, turn, went, out);
     }
     false
 }
 
-fn main() {
+fn main(rt: HostRuntime) {
+    let streams = Streams {
+        input: rt.stdin(),
+        output: rt.stdout(),
+        errors: rt.stderr(),
+    };
     let mut turn = shell::start();
     let mut input = [0u8; 4096];
     let mut out = [0u8; 65536];
-    whole(&mut turn, &mut input, &mut out);
+    whole(streams, &mut turn, &mut input, &mut out);
 }

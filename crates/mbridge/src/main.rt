@@ -13,6 +13,7 @@ ghost use Rattle.mbridge.specs.Blocks.{most, Puts, Takes, rest_of, Midway, Steps
 
 use bridge::Bridge;
 use listing::{Found, Lister, Scanner};
+use shell::Streams;
 use text::Text;
 
 // The places that a byte of the input needs at most: a report becomes 33 V reports of three bytes, and the line of a byte has six at most.
@@ -153,7 +154,7 @@ fn taken(out: &mut [u8], at: usize, scanner: Scanner, bridge: Bridge, b: u8) -> 
 }
 
 // The same, where it has room: what has been put is shown before a byte that might have none.
-fn byte(turn: &mut u64, out: &mut [u8], went: Went, b: u8) -> Went
+fn byte(streams: Streams, turn: &mut u64, out: &mut [u8], went: Went, b: u8) -> Went
     requires { (good went.bridge ≡ true) × (went.used ≤ length out.old) × (most ≤ length out.old) × (went.on ≡ true) }
     ensures { Steps b turn.old went out.old turn.new result out.new }
 {
@@ -163,7 +164,7 @@ fn byte(turn: &mut u64, out: &mut [u8], went: Went, b: u8) -> Went
     if out.len() - used >= MOST {
         return taken(out, used, scanner, bridge, b);
     }
-    if shell::show(turn, b"mbridge: standard output", &out[..used]) {
+    if shell::show(streams, turn, b"mbridge: standard output", &out[..used]) {
         return taken(out, 0, scanner, bridge, b);
     }
     Went {
@@ -176,7 +177,7 @@ fn byte(turn: &mut u64, out: &mut [u8], went: Went, b: u8) -> Went
 }
 
 // What is left to be shown at the end of a block.
-fn shown(turn: &mut u64, out: &[u8], went: Went) -> Went
+fn shown(streams: Streams, turn: &mut u64, out: &[u8], went: Went) -> Went
     requires { Midway turn.old went out.now [] }
     ensures { Left turn.new result × (result.scanner ≡ went.scanner) × (result.on ≡ true → went.on ≡ true) }
 {
@@ -186,7 +187,7 @@ fn shown(turn: &mut u64, out: &[u8], went: Went) -> Went
     let scanner = went.scanner;
     let bridge = went.bridge;
     let used = went.used;
-    let is_shown = shell::show(turn, b"mbridge: standard output", &out[..used]);
+    let is_shown = shell::show(streams, turn, b"mbridge: standard output", &out[..used]);
     Went {
         scanner: scanner,
         bridge: bridge,
@@ -197,7 +198,14 @@ fn shown(turn: &mut u64, out: &[u8], went: Went) -> Went
 }
 
 // The bytes of a block, one by one, until a write fails or the recording has ended.
-fn bytes(turn: &mut u64, out: &mut [u8], scanner: Scanner, bridge: Bridge, input: &[u8]) -> Went
+fn bytes(
+    streams: Streams,
+    turn: &mut u64,
+    out: &mut [u8],
+    scanner: Scanner,
+    bridge: Bridge,
+    input: &[u8],
+) -> Went
     requires ready { Ready scanner bridge × (0 < length input.now) × (most ≤ length out.old) }
     requires stands { Stands mbridge turn.old (λ q. rest_of scanner bridge (input.now ++ q)) silent }
     ensures left { Left turn.new result }
@@ -212,14 +220,14 @@ fn bytes(turn: &mut u64, out: &mut [u8], scanner: Scanner, bridge: Bridge, input
     };
     let mut i: usize = 0;
     while (i < input.len()) & here.on {
-        here = byte(turn, out, here, input[i]);
+        here = byte(streams, turn, out, here, input[i]);
         i = i + 1;
     }
-    shown(turn, out, here)
+    shown(streams, turn, out, here)
 }
 
 // The last line, which may lack its newline, and the end.
-fn last(turn: &mut u64, out: &mut [u8], scanner: Scanner, bridge: Bridge) -> bool
+fn last(streams: Streams, turn: &mut u64, out: &mut [u8], scanner: Scanner, bridge: Bridge) -> bool
     requires { (good bridge ≡ true) × (2 * most ≤ length out.old) × Closes mbridge turn.old (rest_of scanner bridge []) [] }
     ensures { Ends mbridge turn.new result }
 {
@@ -231,23 +239,30 @@ fn last(turn: &mut u64, out: &mut [u8], scanner: Scanner, bridge: Bridge) -> boo
     let at_end = end.found;
     let all = found(out, put.used, put.next, at_end);
     let used = all.used;
-    shell::show(turn, b"mbridge: standard output", &out[..used])
+    shell::show(streams, turn, b"mbridge: standard output", &out[..used])
 }
 
 // A block of the input: what a read brought, and where it brought nothing the input is over or cannot be read.
-fn block(turn: &mut u64, input: &mut [u8], out: &mut [u8], scanner: Scanner, bridge: Bridge) -> Went
+fn block(
+    streams: Streams,
+    turn: &mut u64,
+    input: &mut [u8],
+    out: &mut [u8],
+    scanner: Scanner,
+    bridge: Bridge,
+) -> Went
     requires ready { Ready scanner bridge × (0 < length input.old) × (2 * most ≤ length out.old) }
     requires stands { Stands mbridge turn.old (rest_of scanner bridge) silent }
     ensures left { Left turn.new result }
     ensures scanner_bound { result.on ≡ true → most_bytes - passed result.scanner < most_bytes - passed scanner }
 {
-    let got = shell::more(turn, b"mbridge: standard input", input);
+    let got = shell::more(streams, turn, b"mbridge: standard input", input);
     let n = got.count;
     if n > 0 {
-        return bytes(turn, out, scanner, bridge, &input[..n]);
+        return bytes(streams, turn, out, scanner, bridge, &input[..n]);
     }
     if got.well {
-        let is_shown = last(turn, out, scanner, bridge);
+        let is_shown = last(streams, turn, out, scanner, bridge);
         return Went {
             scanner: scanner,
             bridge: bridge,
@@ -267,7 +282,7 @@ fn block(turn: &mut u64, input: &mut [u8], out: &mut [u8], scanner: Scanner, bri
 
 // The blocks, one after the other, until the input is over, a read or a write fails, or the recording has ended: WHAT IS HANDED OUT IS THE
 // RECORDING OF V.
-fn whole(turn: &mut u64, input: &mut [u8], out: &mut [u8]) -> bool
+fn whole(streams: Streams, turn: &mut u64, input: &mut [u8], out: &mut [u8]) -> bool
     requires { Trace turn.old [] [] [] × (0 < length input.old) × (2 * most ≤ length out.old) }
     ensures { Ends mbridge turn.new result }
 {
@@ -283,14 +298,19 @@ fn whole(turn: &mut u64, input: &mut [u8], out: &mut [u8]) -> bool
         well: true,
     };
     while went.on {
-        went = block(turn, input, out, went.scanner, went.bridge);
+        went = block(streams, turn, input, out, went.scanner, went.bridge);
     }
     went.well
 }
 
-fn main() {
+fn main(rt: HostRuntime) {
+    let streams = Streams {
+        input: rt.stdin(),
+        output: rt.stdout(),
+        errors: rt.stderr(),
+    };
     let mut turn = shell::start();
     let mut input = [0u8; 4096];
     let mut out = [0u8; 16384];
-    whole(&mut turn, &mut input, &mut out);
+    whole(streams, &mut turn, &mut input, &mut out);
 }

@@ -12,6 +12,7 @@ ghost use Rattle.mlist.specs.Program.{mlist};
 ghost use Rattle.mlist.specs.Blocks.{Left};
 
 use listing::Lister;
+use shell::Streams;
 
 // Where the listing stands: the lister, whether more is to be read, and whether each read and write went well.
 #[derive(Drop)]
@@ -23,7 +24,7 @@ struct Went {
 }
 
 // Bytes of the input, and their text to standard output. With forty places for each of them all are taken.
-fn list(turn: &mut u64, lister: Lister, bytes: &[u8], out: &mut [u8]) -> Went
+fn list(streams: Streams, turn: &mut u64, lister: Lister, bytes: &[u8], out: &mut [u8]) -> Went
     requires lister_value { (good lister ≡ true) × (enough * length bytes.now ≤ length out.old) × (0 < length bytes.now) }
     requires stands { Stands mlist turn.old (λ q. all_of lister (bytes.now ++ q)) silent }
     ensures left { Left turn.new result }
@@ -32,7 +33,7 @@ fn list(turn: &mut u64, lister: Lister, bytes: &[u8], out: &mut [u8]) -> Went
     let listed = lister.feed(bytes, out);
     let next = listed.next;
     let n = listed.written;
-    let is_shown = shell::show(turn, b"mlist: standard output", &out[..n]);
+    let is_shown = shell::show(streams, turn, b"mlist: standard output", &out[..n]);
     Went {
         next: next,
         on: is_shown & !listed.ended,
@@ -41,13 +42,13 @@ fn list(turn: &mut u64, lister: Lister, bytes: &[u8], out: &mut [u8]) -> Went
 }
 
 // A block of the input: what a read brought is listed, and where it brought nothing the input is over or cannot be read.
-fn block(turn: &mut u64, lister: Lister, input: &mut [u8], out: &mut [u8]) -> Went
+fn block(streams: Streams, turn: &mut u64, lister: Lister, input: &mut [u8], out: &mut [u8]) -> Went
     requires lister_value { (good lister ≡ true) × (enough * length input.old ≤ length out.old) × (0 < length input.old) }
     requires stands { Stands mlist turn.old (all_of lister) silent }
     ensures left { Left turn.new result }
     ensures scanner_bound { result.on ≡ true → most_bytes - passed result.next.scanner < most_bytes - passed lister.scanner }
 {
-    let got = shell::more(turn, b"mlist: standard input", input);
+    let got = shell::more(streams, turn, b"mlist: standard input", input);
     let n = got.count;
     if n == 0 {
         return Went {
@@ -56,11 +57,11 @@ fn block(turn: &mut u64, lister: Lister, input: &mut [u8], out: &mut [u8]) -> We
             well: got.well,
         };
     }
-    list(turn, lister, &input[..n], out)
+    list(streams, turn, lister, &input[..n], out)
 }
 
 // The blocks, one after the other, until the input is over or the listing has ended: nothing is read after its end.
-fn blocks(turn: &mut u64, input: &mut [u8], out: &mut [u8]) -> Went
+fn blocks(streams: Streams, turn: &mut u64, input: &mut [u8], out: &mut [u8]) -> Went
     requires { (enough * length input.old ≤ length out.old) × (0 < length input.old) × Trace turn.old [] [] [] }
     ensures { Left turn.new result × (result.on ≡ false) }
 {
@@ -70,37 +71,42 @@ fn blocks(turn: &mut u64, input: &mut [u8], out: &mut [u8]) -> Went
         well: true,
     };
     while went.on {
-        went = block(turn, went.next, input, out);
+        went = block(streams, turn, went.next, input, out);
     }
     went
 }
 
 // The last lines, which only a listing has whose reads and writes all went well.
-fn end(turn: &mut u64, went: Went, out: &mut [u8]) -> bool
+fn end(streams: Streams, turn: &mut u64, went: Went, out: &mut [u8]) -> bool
     requires { Left turn.old went × (went.on ≡ false) × (went.well ≡ true) × (enough ≤ length out.old) }
     ensures { Ends mlist turn.new result }
 {
     let lister = went.next;
     let listed = lister.finish(out);
     let last = listed.written;
-    shell::show(turn, b"mlist: standard output", &out[..last])
+    shell::show(streams, turn, b"mlist: standard output", &out[..last])
 }
 
 // WHAT IS HANDED OUT IS THE LISTING OF THE INPUT.
-fn whole(turn: &mut u64, input: &mut [u8], out: &mut [u8]) -> bool
+fn whole(streams: Streams, turn: &mut u64, input: &mut [u8], out: &mut [u8]) -> bool
     requires { (enough * length input.old ≤ length out.old) × (0 < length input.old) × Trace turn.old [] [] [] }
     ensures { Ends mlist turn.new result }
 {
-    let went = blocks(turn, input, out);
+    let went = blocks(streams, turn, input, out);
     if went.well {
-        return end(turn, went, out);
+        return end(streams, turn, went, out);
     }
     false
 }
 
-fn main() {
+fn main(rt: HostRuntime) {
+    let streams = Streams {
+        input: rt.stdin(),
+        output: rt.stdout(),
+        errors: rt.stderr(),
+    };
     let mut turn = shell::start();
     let mut input = [0u8; 4096];
     let mut out = [0u8; 163840];
-    whole(&mut turn, &mut input, &mut out);
+    whole(streams, &mut turn, &mut input, &mut out);
 }

@@ -19,10 +19,9 @@ use Rattle.shell.proofs.Laws as standing
 use Rattle.hearing.specs.Steps.{Far}
 use Rattle.hearing.proofs.Steps.{stands, all_goes, all_says}
 use Rattle.mrecord.specs.Recording.{line_of, lines_of, full_at_silence, full, gone, end_of, rest, told, first_line, first_lines, fresh, named, mrecord}
-use Rattle.mrecord.specs.Turns.{Here, Goes, Hands}
+use Rattle.mrecord.specs.Turns.{Hands}
 use Rattle.mrecord.specs.declared.Tape.{Tape}
 use Rattle.mrecord.specs.declared.Taped.{Taped}
-use Rattle.mrecord.specs.declared.Went.{Went}
 
 -- a test that was turned round
 pub on : (x : Bool) → not x ≡ false → x ≡ true

@@ -1,18 +1,15 @@
 -- What a byte or a wait puts on the tape.
-use Prim.Native.Nat.{ℕ, ◌+◌, ◌-◌, ◌<◌, ◌≤◌, ◌^◌}
+use Prim.Native.Nat.{ℕ, ◌-◌, ◌<◌, ◌≤◌}
 use mathlib.Core.Path.{◌≡◌, refl, sym, ◌∙◌, ap}
-use mathlib.Core.Bool.{Bool, true, false, cond}
 use mathlib.Core.List.{List, [], ◌∷◌, ◌++◌}
 use native.Mathlib.Omega.{arith}
 use lib.Dec.{eqb}
 use lib.IntN.{pos}
 use lib.ListN.{length, length-append}
-use borrow.Author.Tests.{ne_eqb, eq-eqb}
+use borrow.Author.Tests.{ne_eqb}
 use Rattle.numbers.proofs.Choices.{cases}
-use Rattle.text.specs.Growth.{slice, filled, filled_by}
+use Rattle.text.specs.Growth.{slice, filled_by}
 use Rattle.text.specs.Decimals.{plain, decimal_of}
-use Rattle.text.specs.declared.Text.{Text}
-use Rattle.text.proofs.Filled.{both_filled}
 use Rattle.text.proofs.Digits.{decimal_few}
 use Rattle.frames.specs.Words.{break, silence}
 use Rattle.port.specs.Line.{words_in}
@@ -22,7 +19,7 @@ use Rattle.port.specs.declared.Given.{Given}
 use Rattle.port.specs.declared.Given.TheVariants.{Nothing, Word}
 use Rattle.hearing.specs.Events.{event_of, events_of}
 use Rattle.hearing.specs.Steps.{Step}
-use Rattle.mrecord.specs.Recording.{line_of, behind_line, lines_of, full_behind, gone, end_of, rest, told}
+use Rattle.mrecord.specs.Recording.{line_of, behind_line, lines_of, full_behind, end_of, rest, told}
 use Rattle.mrecord.specs.declared.Tape.{Tape}
 
 -- the line of a break, of a silence, and of a byte

@@ -16,6 +16,7 @@ ghost use Rattle.mrecord.specs.Refusals.{refusal_of, Ended};
 
 use hearing::{Clock, TURNS};
 use port::{Given, Heard, Port};
+use shell::Streams;
 use text::Text;
 use wire::{BREAK, SILENCE};
 
@@ -141,13 +142,13 @@ fn quiet(tape: Tape, out: &mut [u8]) -> Taped
 }
 
 // The lines of a turn, by one write, so that none is cut where the program is stopped.
-fn shown(turn: &mut u64, here: Taped, came: bool, out: &[u8]) -> Went
+fn shown(streams: Streams, turn: &mut u64, here: Taped, came: bool, out: &[u8]) -> Went
     requires { here.at ≤ length out.now }
     ensures { Hands turn.old here out.now turn.new result }
 {
     let tape = here.tape;
     let at = here.at;
-    let is_shown = shell::show(turn, b"mrecord: standard output", &out[..at]);
+    let is_shown = shell::show(streams, turn, b"mrecord: standard output", &out[..at]);
     Went {
         tape: tape,
         came: came,
@@ -157,11 +158,11 @@ fn shown(turn: &mut u64, here: Taped, came: bool, out: &[u8]) -> Went
 }
 
 // A turn: one read, and the lines of what it told.
-fn listen(turn: &mut u64, tape: Tape, input: &mut [u8], out: &mut [u8]) -> Went
+fn listen(streams: Streams, turn: &mut u64, tape: Tape, input: &mut [u8], out: &mut [u8]) -> Went
     requires { (0 < length input.old) × (9 * length input.old ≤ length out.old) }
     ensures { Goes turn.old tape turn.new result }
 {
-    let got = shell::hear(turn, b"mrecord: standard input", input);
+    let got = shell::hear(streams, turn, b"mrecord: standard input", input);
     if !got.well {
         return Went {
             tape: tape,
@@ -173,10 +174,10 @@ fn listen(turn: &mut u64, tape: Tape, input: &mut [u8], out: &mut [u8]) -> Went
     let n = got.count;
     if n == 0 {
         let here = quiet(tape, out);
-        return shown(turn, here, false, out);
+        return shown(streams, turn, here, false, out);
     }
     let here = bytes(tape, &input[..n], out);
-    shown(turn, here, true, out)
+    shown(streams, turn, here, true, out)
 }
 
 // How many bytes a read may bring: no more than lines are left, so that none is read that finds no line.
@@ -195,16 +196,23 @@ fn most(left: u32, room: usize) -> usize
 }
 
 // A turn that reads so many at most.
-fn next_turn(turn: &mut u64, tape: Tape, input: &mut [u8], out: &mut [u8]) -> Went
+fn next_turn(streams: Streams, turn: &mut u64, tape: Tape, input: &mut [u8], out: &mut [u8]) -> Went
     requires { (0 < length input.old) × (9 * length input.old ≤ length out.old) }
     ensures { Goes turn.old tape turn.new result }
 {
     let count = most(tape.left, input.len());
-    listen(turn, tape, &mut input[..count], out)
+    listen(streams, turn, tape, &mut input[..count], out)
 }
 
 // Turn after turn, until the recording is full, the line is gone or something failed; and once a second a note.
-fn turns(turn: &mut u64, tape: Tape, input: &mut [u8], out: &mut [u8]) -> Went
+fn turns(
+    streams: Streams,
+    time: &impl std::rt::Clock,
+    turn: &mut u64,
+    tape: Tape,
+    input: &mut [u8],
+    out: &mut [u8],
+) -> Went
     requires { (0 < length input.old) × (9 * length input.old ≤ length out.old) }
     ensures { Goes turn.old tape turn.new result }
 {
@@ -222,8 +230,8 @@ fn turns(turn: &mut u64, tape: Tape, input: &mut [u8], out: &mut [u8]) -> Went
     let mut noted: i64 = 0;
     let mut left = TURNS;
     while went.on & !clock.gone & (left > 0) {
-        went = next_turn(turn, went.tape, input, out);
-        let now = shell::seconds();
+        went = next_turn(streams, turn, went.tape, input, out);
+        let now = shell::seconds(time);
         clock = clock.turned(went.came, now == since);
         if clock.empty < 2 {
             since = now;
@@ -257,18 +265,22 @@ fn first_lines(letter: u8, begins: u8, out: &mut [u8]) -> usize
 }
 
 // The end: the recording is full, or the line is gone.
-fn end(turn: &mut u64, tape: Tape)
+fn end(streams: Streams, turn: &mut u64, tape: Tape)
     ensures { (p : Program) → Stands p turn.old (rest tape) (told tape) → Left p turn.new }
 {
     if tape.left != 0 {
-        shell::say(turn, b"mrecord: the line is gone\n");
+        shell::say(streams, turn, b"mrecord: the line is gone\n");
         return;
     }
     if tape.last == SILENCE {
-        shell::say(turn, b"mrecord: the recording is full, at a silence\n");
+        shell::say(
+            streams,
+            turn,
+            b"mrecord: the recording is full, at a silence\n",
+        );
         return;
     }
-    shell::say(turn, b"mrecord: the recording is full\n");
+    shell::say(streams, turn, b"mrecord: the recording is full\n");
 }
 
 // A tape on which the first lines stand.
@@ -292,6 +304,8 @@ fn fresh(tenths: u8, begins: u8) -> Tape
 
 // WHAT IS HANDED OUT IS THE RECORDING OF WHAT WAS HEARD.
 fn recorded(
+    streams: Streams,
+    time: &impl std::rt::Clock,
     turn: &mut u64,
     letter: u8,
     tenths: u8,
@@ -303,33 +317,43 @@ fn recorded(
     ensures { Leaves (mrecord letter tenths begins) turn.new result }
 {
     let n = first_lines(letter, begins, out);
-    if !shell::show(turn, b"mrecord: standard output", &out[..n]) {
+    if !shell::show(streams, turn, b"mrecord: standard output", &out[..n]) {
         return false;
     }
     let tape = fresh(tenths, begins);
-    let went = turns(turn, tape, input, out);
+    let went = turns(streams, time, turn, tape, input, out);
     if !went.well {
         return false;
     }
-    end(turn, went.tape);
+    end(streams, turn, went.tape);
     true
 }
 
 // A wrong call: what is wrong.
-fn refuse(turn: &mut u64, letter: u8, tenths: u8) -> bool
+fn refuse(streams: Streams, turn: &mut u64, letter: u8, tenths: u8) -> bool
     ensures { Said turn.old turn.new result (refusal_of letter tenths) }
 {
     if letter == 0 {
-        return shell::say(turn, b"mrecord: LETTER is S, V, A, B, U, T or W\n");
+        return shell::say(streams, turn, b"mrecord: LETTER is S, V, A, B, U, T or W\n");
     }
     if tenths == 0 {
-        return shell::say(turn, b"mrecord: TENTHS is a number from 1 to 255\n");
+        return shell::say(
+            streams,
+            turn,
+            b"mrecord: TENTHS is a number from 1 to 255\n",
+        );
     }
-    shell::say(turn, b"mrecord: behind TENTHS stands Q or nothing\n")
+    shell::say(
+        streams,
+        turn,
+        b"mrecord: behind TENTHS stands Q or nothing\n",
+    )
 }
 
 // The recording, or what is wrong. A letter or a number of tenths that is 0 is wrong, and so is a third word that is 2.
 fn whole(
+    streams: Streams,
+    time: &impl std::rt::Clock,
     turn: &mut u64,
     letter: u8,
     tenths: u8,
@@ -341,10 +365,10 @@ fn whole(
     ensures { Ended letter tenths begins turn.new result }
 {
     if (letter == 0) | (tenths == 0) | (begins == 2) {
-        refuse(turn, letter, tenths);
+        refuse(streams, turn, letter, tenths);
         return false;
     }
-    recorded(turn, letter, tenths, begins, input, out)
+    recorded(streams, time, turn, letter, tenths, begins, input, out)
 }
 
 // The third word: 0 where there is none, 1 for Q, 2 for any other, and where there are more words.
@@ -372,19 +396,26 @@ fn second(count: usize, word: &[u8]) -> u8 {
     hearing::tenths_in(word)
 }
 
-fn main() {
+fn main(rt: HostRuntime) {
+    let streams = Streams {
+        input: rt.stdin(),
+        output: rt.stdout(),
+        errors: rt.stderr(),
+    };
     let mut turn = shell::start();
     let mut input = [0u8; 512];
     let mut out = [0u8; 4608];
     let mut first_word = [0u8; 8];
     let mut second_word = [0u8; 8];
     let mut third_word = [0u8; 8];
-    let count = os::arg_count();
-    let first_size = os::arg(1, &mut first_word);
-    let second_size = os::arg(2, &mut second_word);
-    let third_size = os::arg(3, &mut third_word);
+    let count = shell::word_count(&rt, 5);
+    let first_size = shell::word(&rt, 1, &mut first_word);
+    let second_size = shell::word(&rt, 2, &mut second_word);
+    let third_size = shell::word(&rt, 3, &mut third_word);
     let letter = hearing::letter_in(&first_word[..first_size]);
     let tenths = second(count, &second_word[..second_size]);
     let begins = third(count, &third_word[..third_size]);
-    whole(&mut turn, letter, tenths, begins, &mut input, &mut out);
+    whole(
+        streams, &rt, &mut turn, letter, tenths, begins, &mut input, &mut out,
+    );
 }

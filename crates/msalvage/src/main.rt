@@ -9,6 +9,8 @@ ghost use Rattle.salvaged.specs.Whole.{decides, enough};
 ghost use Rattle.msalvage.specs.Program.{msalvage};
 ghost use Rattle.msalvage.specs.Blocks.{Holds, Left};
 
+use shell::Streams;
+
 // The input so far: how many bytes, whether more is to be read, and whether each read went well.
 #[derive(Drop)]
 #[derive(Clone, Copy)]
@@ -19,13 +21,13 @@ struct Went {
 }
 
 // What a read brings, behind the bytes that are there. Where it brings nothing the input is over or cannot be read.
-fn block(turn: &mut u64, count: usize, input: &mut [u8]) -> Went
+fn block(streams: Streams, turn: &mut u64, count: usize, input: &mut [u8]) -> Went
     requires count_in_bounds { count < length input.old }
     requires holds { Holds turn.old (take count input.old) }
     ensures left { Left turn.new input.new result }
     ensures count_lt_count { result.on ≡ true → count < result.count }
 {
-    let got = shell::behind(turn, b"msalvage: standard input", input, count);
+    let got = shell::behind(streams, turn, b"msalvage: standard input", input, count);
     let n = got.count;
     Went {
         count: count + n,
@@ -35,7 +37,7 @@ fn block(turn: &mut u64, count: usize, input: &mut [u8]) -> Went
 }
 
 // The blocks, one behind the other, until the input is over or the buffer is full.
-fn blocks(turn: &mut u64, input: &mut [u8]) -> Went
+fn blocks(streams: Streams, turn: &mut u64, input: &mut [u8]) -> Went
     requires trace { Trace turn.old [] [] [] }
     requires decides_in_bounds { decides ≤ length input.old }
     ensures count_in_bounds { result.count ≤ length input.new }
@@ -48,39 +50,44 @@ fn blocks(turn: &mut u64, input: &mut [u8]) -> Went
         well: true,
     };
     while went.on & (went.count < input.len()) {
-        went = block(turn, went.count, input);
+        went = block(streams, turn, went.count, input);
     }
     went
 }
 
 // The salvage of bytes, all of it.
-fn show(turn: &mut u64, bytes: &[u8], out: &mut [u8]) -> bool
+fn show(streams: Streams, turn: &mut u64, bytes: &[u8], out: &mut [u8]) -> bool
     requires enough_in_bounds { enough ≤ length out.old }
     requires closes { Closes msalvage turn.old (salvage_of bytes.now) [] }
     ensures { Ends msalvage turn.new result }
 {
     let told = salvaged::list(bytes, out);
     let n = told.written;
-    shell::show(turn, b"msalvage: standard output", &out[..n])
+    shell::show(streams, turn, b"msalvage: standard output", &out[..n])
 }
 
 // All of it: WHAT IS HANDED OUT IS THE SALVAGE OF THE RECORDING. Nothing is written before all is read that matters, and nothing where a read failed.
-fn whole(turn: &mut u64, input: &mut [u8], out: &mut [u8]) -> bool
+fn whole(streams: Streams, turn: &mut u64, input: &mut [u8], out: &mut [u8]) -> bool
     requires trace { Trace turn.old [] [] [] }
     requires decides_in_bounds { (decides ≤ length input.old) × (enough ≤ length out.old) }
     ensures { Ends msalvage turn.new result }
 {
-    let went = blocks(turn, input);
+    let went = blocks(streams, turn, input);
     let n = went.count;
     if went.well {
-        return show(turn, &input[..n], out);
+        return show(streams, turn, &input[..n], out);
     }
     false
 }
 
-fn main() {
+fn main(rt: HostRuntime) {
+    let streams = Streams {
+        input: rt.stdin(),
+        output: rt.stdout(),
+        errors: rt.stderr(),
+    };
     let mut turn = shell::start();
     let mut input = [0u8; 24588];
     let mut out = [0u8; 163920];
-    whole(&mut turn, &mut input, &mut out);
+    whole(streams, &mut turn, &mut input, &mut out);
 }

@@ -18,6 +18,7 @@ ghost use Rattle.mtable.specs.Rows.{Stand, Five, Among, Written};
 ghost use Rattle.mtable.specs.Blocks.{rest, tells, fault_of, Left};
 
 use readback::{Back, Readback};
+use shell::Streams;
 use text::Text;
 
 // Where the table stands: the reader, the bytes of a line that is not whole yet, whether more is to be read, whether each read and write went well, and the
@@ -203,6 +204,7 @@ fn front(reader: Readback, input: &[u8], all: usize, items: &mut [i32]) -> Back
 
 // What is held and what was read: its rows are written, and the rest is held. With five places for each byte all lines are taken.
 fn listed(
+    streams: Streams,
     turn: &mut u64,
     reader: Readback,
     all: usize,
@@ -223,7 +225,7 @@ fn listed(
     let left = all - taken;
     let at = opened((next.salvage == 1) & !before, out);
     let n = rows(items, back.items, out, at);
-    let is_shown = shell::show(turn, b"mtable: standard output", &out[..n]);
+    let is_shown = shell::show(streams, turn, b"mtable: standard output", &out[..n]);
     shell::keep(input, taken, left);
     Went {
         next: next,
@@ -236,6 +238,7 @@ fn listed(
 
 // A block of the listing: the bytes that were held and what a read brings.
 fn block(
+    streams: Streams,
     turn: &mut u64,
     reader: Readback,
     held: usize,
@@ -249,7 +252,7 @@ fn block(
     ensures left { Left turn.new result (take result.held input.new) }
     ensures held_bound { result.on ≡ true → to_go result.next result.held < to_go reader held }
 {
-    let got = shell::behind(turn, b"mtable: standard input", input, held);
+    let got = shell::behind(streams, turn, b"mtable: standard input", input, held);
     if got.count == 0 {
         return Went {
             next: reader,
@@ -259,11 +262,17 @@ fn block(
             fault: 0,
         };
     }
-    listed(turn, reader, held + got.count, input, items, out)
+    listed(streams, turn, reader, held + got.count, input, items, out)
 }
 
 // The blocks, one after the other, until the listing is over or has a fault.
-fn blocks(turn: &mut u64, input: &mut [u8], items: &mut [i32], out: &mut [u8]) -> Went
+fn blocks(
+    streams: Streams,
+    turn: &mut u64,
+    input: &mut [u8],
+    items: &mut [i32],
+    out: &mut [u8],
+) -> Went
     requires input_in_bounds { (5 * length input.old ≤ length items.old) × (40 + 8 * length items.old ≤ length out.old) × (longest < length input.old) }
     requires stands { Stands mtable turn.old (rest fresh []) (tells fresh []) }
     ensures next_value { good result.next ≡ true }
@@ -278,43 +287,44 @@ fn blocks(turn: &mut u64, input: &mut [u8], items: &mut [i32], out: &mut [u8]) -
         fault: 0,
     };
     while went.on {
-        went = block(turn, went.next, went.held, input, items, out);
+        went = block(streams, turn, went.next, went.held, input, items, out);
     }
     went
 }
 
 // A row, to standard output.
-fn show(turn: &mut u64, row: Text) -> bool
+fn show(streams: Streams, turn: &mut u64, row: Text) -> bool
     requires { row.len ≤ capacity }
     ensures { Handed mtable.output turn.old turn.new result (shown row) }
 {
     let bytes = row.bytes;
     let n = row.len;
-    shell::show(turn, b"mtable: standard output", &bytes[..n])
+    shell::show(streams, turn, b"mtable: standard output", &bytes[..n])
 }
 
 // A text, to standard error.
-fn tell(turn: &mut u64, text: Text) -> bool
+fn tell(streams: Streams, turn: &mut u64, text: Text) -> bool
     requires { text.len ≤ capacity }
     ensures { Said turn.old turn.new result (shown text) }
 {
     let bytes = text.bytes;
     let n = text.len;
-    shell::say(turn, &bytes[..n])
+    shell::say(streams, turn, &bytes[..n])
 }
 
 // A fault, in the last row and on standard error.
-fn faulty(turn: &mut u64, line: u32) -> bool
+fn faulty(streams: Streams, turn: &mut u64, line: u32) -> bool
     requires { Closes mtable turn.old (last_row line) (fault_words line) × (line ≡ 0 → ⊥) }
     ensures { Ends mtable turn.new result }
 {
     let none = Text::none();
     let number = line as i64;
     let last = empty(words(none, b"fault,").decimal(1, number), 6).with(b'\n');
-    if !show(turn, last) {
+    if !show(streams, turn, last) {
         return false;
     }
     tell(
+        streams,
         turn,
         words(none, b"mtable: a fault at line ")
             .decimal(1, number)
@@ -323,44 +333,56 @@ fn faulty(turn: &mut u64, line: u32) -> bool
 }
 
 // The last row: the end, or a fault.
-fn last(turn: &mut u64, went: Went) -> bool
+fn last(streams: Streams, turn: &mut u64, went: Went) -> bool
     requires { Closes mtable turn.old (last_row (fault_of went)) (fault_words (fault_of went)) × (good went.next ≡ true) }
     ensures { Ends mtable turn.new result }
 {
     if went.fault != 0 {
-        return faulty(turn, went.fault);
+        return faulty(streams, turn, went.fault);
     }
     let reader = went.next;
     let end = reader.finish(went.held);
     if end.refusal != 0 {
-        return faulty(turn, end.line);
+        return faulty(streams, turn, end.line);
     }
-    shell::show(turn, b"mtable: standard output", b"end,,,,,,,\n")
+    shell::show(streams, turn, b"mtable: standard output", b"end,,,,,,,\n")
 }
 
 // WHAT IS HANDED OUT IS THE TABLE OF THE LISTING, and what is told is the line of its fault.
-fn whole(turn: &mut u64, input: &mut [u8], items: &mut [i32], out: &mut [u8]) -> bool
+fn whole(
+    streams: Streams,
+    turn: &mut u64,
+    input: &mut [u8],
+    items: &mut [i32],
+    out: &mut [u8],
+) -> bool
     requires { (5 * length input.old ≤ length items.old) × (40 + 8 * length items.old ≤ length out.old) × (longest < length input.old) × Trace turn.old [] [] [] }
     ensures { Ends mtable turn.new result }
 {
     if !shell::show(
+        streams,
         turn,
         b"mtable: standard output",
         b"item,line,left,middle,right,x,y,count\n",
     ) {
         return false;
     }
-    let went = blocks(turn, input, items, out);
+    let went = blocks(streams, turn, input, items, out);
     if went.well {
-        return last(turn, went);
+        return last(streams, turn, went);
     }
     false
 }
 
-fn main() {
+fn main(rt: HostRuntime) {
+    let streams = Streams {
+        input: rt.stdin(),
+        output: rt.stdout(),
+        errors: rt.stderr(),
+    };
     let mut turn = shell::start();
     let mut input = [0u8; 4096];
     let mut items = [0i32; 20480];
     let mut out = [0u8; 163880];
-    whole(&mut turn, &mut input, &mut items, &mut out);
+    whole(streams, &mut turn, &mut input, &mut items, &mut out);
 }

@@ -14,10 +14,9 @@ use Rattle.shell.proofs.Laws as standing
 use Rattle.hearing.specs.Steps.{Far}
 use Rattle.hearing.proofs.Steps.{all_goes, all_says}
 use Rattle.mwatch.specs.Watching.{text_of, rest, told, named}
-use Rattle.mwatch.specs.Turns.{Here, Goes, Hands}
+use Rattle.mwatch.specs.Turns.{Hands}
 use Rattle.mwatch.specs.declared.Sight.{Sight}
 use Rattle.mwatch.specs.declared.Seen.{Seen}
-use Rattle.mwatch.specs.declared.Went.{Went}
 
 -- a test that was turned round
 pub on : (x : Bool) → not x ≡ false → x ≡ true

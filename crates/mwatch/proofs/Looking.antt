@@ -1,17 +1,15 @@
 -- What a word tells.
-use Prim.Native.Nat.{ℕ, ◌+◌, ◌<◌, ◌≤◌, ◌^◌}
+use Prim.Native.Nat.{ℕ, ◌+◌, ◌<◌, ◌≤◌}
 use mathlib.Core.Path.{◌≡◌, refl, sym, ◌∙◌, ap, subst}
-use mathlib.Core.Bool.{true, false, cond}
 use mathlib.Core.List.{List, [], ◌∷◌, ◌++◌}
 use native.Mathlib.Omega.{arith}
-use lib.IntN.{ℤ, pos, nat_abs, ◌+ℤ◌}
+use lib.IntN.{ℤ, pos, ◌+ℤ◌}
 use lib.ListN.{length, length-append}
 use mir.Syntax.{w16, w64}
 use mir.Val.{SFits}
 use Rattle.numbers.proofs.Held as held
-use Rattle.text.specs.Growth.{slice, filled, filled_by}
+use Rattle.text.specs.Growth.{slice, filled}
 use Rattle.text.specs.Decimals.{plain, decimal_of}
-use Rattle.text.specs.declared.Text.{Text}
 use Rattle.text.proofs.Digits.{decimal_few, small}
 use Rattle.port.specs.Line.{words_in}
 use Rattle.port.specs.Sessions.{step_of, words_over}

@@ -1,7 +1,6 @@
 -- What a line tells, as it comes: reports, presses and bytes dropped, each with its running count.
 use Rattle.std.specs.Prelude.{ℕ, ◌+◌, ◌/◌, ◌%◌, Bool, cond, List, [], ◌∷◌, ◌++◌, eqb, ltb, ℤ, pos, ◌+ℤ◌}
 use Rattle.text.specs.Decimals.{plain, decimal_of}
-use Rattle.wire.specs.declared.Report.{Report}
 use Rattle.port.specs.Marks.{opened}
 use Rattle.port.specs.Sessions.{words_over}
 use Rattle.reader.specs.Promises.{fresh_of, step_of}

@@ -20,6 +20,7 @@ use hearing::{Clock, TURNS};
 use port::{Given, Heard, Port};
 use reader::{Answer, Reader};
 use saves::Watch;
+use shell::Streams;
 use text::Text;
 use wire::Report;
 
@@ -344,13 +345,13 @@ fn quiet(sight: Sight, out: &mut [u8]) -> Seen
 }
 
 // The lines of a turn, by one write, so that none is cut where the program is stopped.
-fn shown(turn: &mut u64, here: Seen, came: bool, out: &[u8]) -> Went
+fn shown(streams: Streams, turn: &mut u64, here: Seen, came: bool, out: &[u8]) -> Went
     requires { here.at ≤ length out.now }
     ensures { Hands turn.old here out.now turn.new result }
 {
     let sight = here.sight;
     let at = here.at;
-    let is_shown = shell::show(turn, b"mwatch: standard output", &out[..at]);
+    let is_shown = shell::show(streams, turn, b"mwatch: standard output", &out[..at]);
     Went {
         sight: sight,
         came: came,
@@ -360,11 +361,11 @@ fn shown(turn: &mut u64, here: Seen, came: bool, out: &[u8]) -> Went
 }
 
 // A turn: one read, and the lines of what it told.
-fn listen(turn: &mut u64, sight: Sight, input: &mut [u8], out: &mut [u8]) -> Went
+fn listen(streams: Streams, turn: &mut u64, sight: Sight, input: &mut [u8], out: &mut [u8]) -> Went
     requires { (0 < length input.old) × (144 * length input.old ≤ length out.old) }
     ensures { Goes turn.old sight turn.new result }
 {
-    let got = shell::hear(turn, b"mwatch: standard input", input);
+    let got = shell::hear(streams, turn, b"mwatch: standard input", input);
     if !got.well {
         return Went {
             sight: sight,
@@ -376,14 +377,21 @@ fn listen(turn: &mut u64, sight: Sight, input: &mut [u8], out: &mut [u8]) -> Wen
     let n = got.count;
     if n == 0 {
         let here = quiet(sight, out);
-        return shown(turn, here, false, out);
+        return shown(streams, turn, here, false, out);
     }
     let here = bytes(sight, &input[..n], out);
-    shown(turn, here, true, out)
+    shown(streams, turn, here, true, out)
 }
 
 // Turn after turn, until the line is gone or something failed.
-fn turns(turn: &mut u64, sight: Sight, input: &mut [u8], out: &mut [u8]) -> Went
+fn turns(
+    streams: Streams,
+    time: &impl std::rt::Clock,
+    turn: &mut u64,
+    sight: Sight,
+    input: &mut [u8],
+    out: &mut [u8],
+) -> Went
     requires { (0 < length input.old) × (144 * length input.old ≤ length out.old) }
     ensures { Goes turn.old sight turn.new result }
 {
@@ -400,8 +408,8 @@ fn turns(turn: &mut u64, sight: Sight, input: &mut [u8], out: &mut [u8]) -> Went
     let mut since: i64 = 0;
     let mut left = TURNS;
     while went.on & !clock.gone & (left > 0) {
-        went = listen(turn, went.sight, input, out);
-        let now = shell::seconds();
+        went = listen(streams, turn, went.sight, input, out);
+        let now = shell::seconds(time);
         clock = clock.turned(went.came, now == since);
         if clock.empty < 2 {
             since = now;
@@ -430,13 +438,13 @@ fn counts_to(out: &mut [u8], look: Look) -> usize
 }
 
 // The end: the line is gone.
-fn end(turn: &mut u64, sight: Sight, out: &mut [u8])
+fn end(streams: Streams, turn: &mut u64, sight: Sight, out: &mut [u8])
     requires { 144 ≤ length out.old }
     ensures { (p : Program) → Stands p turn.old (rest sight) (told sight) → Left p turn.new }
 {
     let look = sight.look;
     let n = counts_to(out, look);
-    shell::say(turn, &out[..n]);
+    shell::say(streams, turn, &out[..n]);
 }
 
 // A port, a reader and a watch on which nothing has come.
@@ -460,39 +468,55 @@ fn fresh(letter: u8, tenths: u8) -> Sight
 }
 
 // WHAT IS HANDED OUT IS WHAT THE READER AND THE WATCH TELL OF WHAT WAS HEARD.
-fn watched(turn: &mut u64, letter: u8, tenths: u8, input: &mut [u8], out: &mut [u8]) -> bool
+fn watched(
+    streams: Streams,
+    time: &impl std::rt::Clock,
+    turn: &mut u64,
+    letter: u8,
+    tenths: u8,
+    input: &mut [u8],
+    out: &mut [u8],
+) -> bool
     requires { (0 < length input.old) × (144 * length input.old ≤ length out.old) × Trace turn.old [] [] [] }
     ensures { Leaves (mwatch letter tenths) turn.new result }
 {
     let sight = fresh(letter, tenths);
-    let went = turns(turn, sight, input, out);
+    let went = turns(streams, time, turn, sight, input, out);
     if !went.well {
         return false;
     }
-    end(turn, went.sight, out);
+    end(streams, turn, went.sight, out);
     true
 }
 
 // A wrong call: what is wrong.
-fn refuse(turn: &mut u64, letter: u8) -> bool
+fn refuse(streams: Streams, turn: &mut u64, letter: u8) -> bool
     ensures { Said turn.old turn.new result (refusal_of letter) }
 {
     if letter == 0 {
-        return shell::say(turn, b"mwatch: LETTER is S, V, A, B, U, T or W\n");
+        return shell::say(streams, turn, b"mwatch: LETTER is S, V, A, B, U, T or W\n");
     }
-    shell::say(turn, b"mwatch: TENTHS is a number from 1 to 255\n")
+    shell::say(streams, turn, b"mwatch: TENTHS is a number from 1 to 255\n")
 }
 
 // What the line tells, or what is wrong. A letter or a number of tenths that is 0 is wrong.
-fn whole(turn: &mut u64, letter: u8, tenths: u8, input: &mut [u8], out: &mut [u8]) -> bool
+fn whole(
+    streams: Streams,
+    time: &impl std::rt::Clock,
+    turn: &mut u64,
+    letter: u8,
+    tenths: u8,
+    input: &mut [u8],
+    out: &mut [u8],
+) -> bool
     requires { (0 < length input.old) × (144 * length input.old ≤ length out.old) × Trace turn.old [] [] [] }
     ensures { Ended letter tenths turn.new result }
 {
     if (letter == 0) | (tenths == 0) {
-        refuse(turn, letter);
+        refuse(streams, turn, letter);
         return false;
     }
-    watched(turn, letter, tenths, input, out)
+    watched(streams, time, turn, letter, tenths, input, out)
 }
 
 // The second word: one tenth where there is none, and 0 where there are more words.
@@ -506,16 +530,23 @@ fn second(count: usize, word: &[u8]) -> u8 {
     hearing::tenths_in(word)
 }
 
-fn main() {
+fn main(rt: HostRuntime) {
+    let streams = Streams {
+        input: rt.stdin(),
+        output: rt.stdout(),
+        errors: rt.stderr(),
+    };
     let mut turn = shell::start();
     let mut input = [0u8; 256];
     let mut out = [0u8; 36864];
     let mut first_word = [0u8; 8];
     let mut second_word = [0u8; 8];
-    let count = os::arg_count();
-    let first_size = os::arg(1, &mut first_word);
-    let second_size = os::arg(2, &mut second_word);
+    let count = shell::word_count(&rt, 5);
+    let first_size = shell::word(&rt, 1, &mut first_word);
+    let second_size = shell::word(&rt, 2, &mut second_word);
     let letter = hearing::letter_in(&first_word[..first_size]);
     let tenths = second(count, &second_word[..second_size]);
-    whole(&mut turn, letter, tenths, &mut input, &mut out);
+    whole(
+        streams, &rt, &mut turn, letter, tenths, &mut input, &mut out,
+    );
 }

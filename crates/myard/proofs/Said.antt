@@ -29,7 +29,7 @@ use Rattle.yard.proofs.Keeps.{none_good, word_good}
 use Rattle.yard.proofs.Logs.{judged_passes}
 use Rattle.yard.proofs.Goodness.{step_word}
 use Rattle.myard.specs.Judging.{words_in, judged, unless, verdict_in, verdict_on}
-use Rattle.myard.specs.Hearing.{judged_by, verdict_from, waiting, unheard, behind_byte, behind_bytes, last_of}
+use Rattle.myard.specs.Hearing.{judged_by, yard_after, verdict_after, verdict_from, waiting, unheard, behind_byte, behind_bytes, last_of}
 use Rattle.myard.specs.declared.Judge.{Judge}
 use Rattle.myard.specs.declared.Verdict.{Verdict}
 use Rattle.myard.specs.declared.Verdict.TheVariants.{Yes, No}
@@ -47,6 +47,8 @@ behind [] n h = cases (λ (f : Found). Behind n (f ∷ [])) (eqb n 0) (λ _. bad
 behind (l ∷ ls) n h = go (line_in width n (said_by l)) (viewed n l) (behind ls (n + 1) (omega arith))
   where
     go : (f : Found) → View n f → Behind (n + 1) (found_in width (n + 1) ls) → Behind n (f ∷ cond (ends f) [] (found_in width (n + 1) ls))
+    go found.Nothing v b = elim v [ ]
+    go found.End v b = elim v [ ]
     go found.Over is_over b = over
     go (found.Bad m) (is_bad q) b = bad
     go (found.Format f) (is_format z p) b = absurd (omega arith)
@@ -118,6 +120,8 @@ of_lines [] = refl
 of_lines (l ∷ ls) = go (line_in width 0 (said_by l)) (viewed 0 l) (behind ls 1 (omega arith))
   where
     go : (f : Found) → View 0 f → Behind 1 (found_in width 1 ls) → let fs = f ∷ cond (ends f) [] (found_in width 1 ls) in verdict_from waiting Yes fs ≡ verdict_in fs
+    go found.Nothing v b = elim v [ ]
+    go found.End v b = elim v [ ]
     go found.Over is_over b = refl
     go (found.Bad m) (is_bad h) b = refl
     go (found.Format letter) (is_format z k) b =
@@ -133,11 +137,11 @@ told_says : (y : Yard) (v : Verdict) (fs : List Found) → verdict_from y v (sca
 unfolding verdict_from
 told_says y v [] = refl
 told_says y v (found.Nothing ∷ fs) = told_says y v fs
-told_says y v (found.Format f ∷ fs) = told_says _ _ fs
-told_says y v (found.Word n w ∷ fs) = told_says _ _ fs
-told_says y v (found.Bad n ∷ fs) = told_says _ _ fs
-told_says y v (found.Over ∷ fs) = told_says _ _ fs
-told_says y v (found.End ∷ fs) = told_says _ _ fs
+told_says y v (found.Format f ∷ fs) = told_says (yard_after y (found.Format f)) (verdict_after y v (found.Format f)) fs
+told_says y v (found.Word n w ∷ fs) = told_says (yard_after y (found.Word n w)) (verdict_after y v (found.Word n w)) fs
+told_says y v (found.Bad n ∷ fs) = told_says (yard_after y (found.Bad n)) (verdict_after y v (found.Bad n)) fs
+told_says y v (found.Over ∷ fs) = told_says (yard_after y found.Over) (verdict_after y v found.Over) fs
+told_says y v (found.End ∷ fs) = told_says (yard_after y found.End) (verdict_after y v found.End) fs
 
 by_bytes : (j : Judge) (input : List ℕ) → (last_of (behind_bytes j input)).verdict ≡ verdict_from j.yard j.verdict (all_found j.scanner input)
 unfolding last_of behind_bytes behind_byte verdict_from all_found

@@ -11,6 +11,7 @@ ghost use Rattle.myard.specs.Blocks.{On, Within, Left};
 
 use crate::judging::line_for;
 use listing::Scanner;
+use shell::Streams;
 use yard::Yard;
 
 mod judging;
@@ -45,13 +46,13 @@ struct Went {
 
 // A block of the input: what a read brought is judged, and more is to be read where the recording has not ended. Where it brought nothing the input is over
 // or cannot be read.
-fn block(turn: &mut u64, judge: Judge, input: &mut [u8]) -> Went
+fn block(streams: Streams, turn: &mut u64, judge: Judge, input: &mut [u8]) -> Went
     requires within { Within judge × (0 < length input.old) }
     requires on { On turn.old (said_of judge) }
     ensures left { Left turn.new result }
     ensures scanner_bound { result.on ≡ true → most_bytes - passed result.next.scanner < most_bytes - passed judge.scanner }
 {
-    let got = shell::more(turn, b"myard: standard input", input);
+    let got = shell::more(streams, turn, b"myard: standard input", input);
     let n = got.count;
     if n == 0 {
         return Went {
@@ -70,7 +71,7 @@ fn block(turn: &mut u64, judge: Judge, input: &mut [u8]) -> Went
 }
 
 // The blocks, one after the other, until the input is over or the recording has ended: nothing is read after its end.
-fn blocks(turn: &mut u64, input: &mut [u8]) -> Went
+fn blocks(streams: Streams, turn: &mut u64, input: &mut [u8]) -> Went
     requires trace { Trace turn.old [] [] [] }
     requires input_nonzero { 0 < length input.old }
     ensures { Left turn.new result × (result.on ≡ false) }
@@ -81,13 +82,13 @@ fn blocks(turn: &mut u64, input: &mut [u8]) -> Went
         well: true,
     };
     while went.on {
-        went = block(turn, went.next, input);
+        went = block(streams, turn, went.next, input);
     }
     went
 }
 
 // What is said at the end.
-fn say(turn: &mut u64, judge: Judge) -> bool
+fn say(streams: Streams, turn: &mut u64, judge: Judge) -> bool
     requires { Closes myard turn.old (said_of judge []) [] }
     ensures { Ends myard turn.new result }
 {
@@ -96,24 +97,29 @@ fn say(turn: &mut u64, judge: Judge) -> bool
     let text = line_for(verdict);
     let bytes = text.bytes;
     let n = text.len;
-    shell::show(turn, b"myard: standard output", &bytes[..n])
+    shell::show(streams, turn, b"myard: standard output", &bytes[..n])
 }
 
 // All of it, said where all reads went well: WHAT IS HANDED OUT IS THE JUDGEMENT OF THE RECORDING.
-fn whole(turn: &mut u64, input: &mut [u8]) -> bool
+fn whole(streams: Streams, turn: &mut u64, input: &mut [u8]) -> bool
     requires trace { Trace turn.old [] [] [] }
     requires input_nonzero { 0 < length input.old }
     ensures { Ends myard turn.new result }
 {
-    let went = blocks(turn, input);
+    let went = blocks(streams, turn, input);
     if went.well {
-        return say(turn, went.next);
+        return say(streams, turn, went.next);
     }
     false
 }
 
-fn main() {
+fn main(rt: HostRuntime) {
+    let streams = Streams {
+        input: rt.stdin(),
+        output: rt.stdout(),
+        errors: rt.stderr(),
+    };
     let mut turn = shell::start();
     let mut input = [0u8; 4096];
-    whole(&mut turn, &mut input);
+    whole(streams, &mut turn, &mut input);
 }

@@ -3,8 +3,8 @@ ghost use Rattle.std.specs.Prelude.{◌≤◌, length};
 ghost use Rattle.io.specs.Counts.{IsPrefixLen};
 
 use crate::least;
-use libc::STDOUT_FILENO;
 use listing::{Listed, Lister};
+use std::io::Stdout;
 
 // Free places for any of these listings.
 const MANY: usize = 512;
@@ -59,47 +59,50 @@ fn list(first: Lister, recording: &[u8], cut: usize, out: &mut [u8], places: usi
 }
 
 // Whether a cut gives this listing; one that does not is named.
-fn gives(listing: &[u8], first: Lister, recording: &[u8], cut: usize, places: usize) -> bool {
+fn gives(
+    output: Stdout,
+    listing: &[u8],
+    first: Lister,
+    recording: &[u8],
+    cut: usize,
+    places: usize,
+) -> bool {
     let mut out = [0u8; MANY];
     let n = list(first, recording, cut, &mut out, places);
-    if check::same(listing, &out[..n]) {
+    if listing == &out[..n] {
         return true;
     }
-    io::write_all(STDOUT_FILENO, b"cut differs: pieces of ");
-    io::print_decimal(STDOUT_FILENO, cut as u64);
-    io::write_all(STDOUT_FILENO, b" bytes, ");
-    io::print_decimal(STDOUT_FILENO, places as u64);
-    io::write_all(STDOUT_FILENO, b" places\n");
+    let _ = println!(output; "cut differs: pieces of {cut} bytes, {places} places");
     false
 }
 
 // Says so where every cut gives this listing.
-fn compare(listing: &[u8], first: Lister, recording: &[u8]) {
+fn compare(output: Stdout, listing: &[u8], first: Lister, recording: &[u8]) {
     let whole = recording.len();
-    let same = gives(listing, first, recording, 1, MANY)
-        & gives(listing, first, recording, 2, MANY)
-        & gives(listing, first, recording, 3, MANY)
-        & gives(listing, first, recording, 7, MANY)
-        & gives(listing, first, recording, 64, MANY)
-        & gives(listing, first, recording, whole, FEW);
+    let same = gives(output, listing, first, recording, 1, MANY)
+        & gives(output, listing, first, recording, 2, MANY)
+        & gives(output, listing, first, recording, 3, MANY)
+        & gives(output, listing, first, recording, 7, MANY)
+        & gives(output, listing, first, recording, 64, MANY)
+        & gives(output, listing, first, recording, whole, FEW);
     if same {
-        io::write_all(STDOUT_FILENO, b"cuts same\n");
+        let _ = output.write_all(b"cuts same\n");
     }
 }
 
 // A case: its title, what a lister writes of the recording all at once, and whether the cuts give the same.
-pub(crate) fn case_behind(title: &[u8], first: Lister, recording: &[u8]) {
+pub(crate) fn case_behind(output: Stdout, title: &[u8], first: Lister, recording: &[u8]) {
     let mut out = [0u8; MANY];
     let n = list(first, recording, recording.len(), &mut out, MANY);
     let listing = &out[..n];
-    io::write_all(STDOUT_FILENO, b"# ");
-    io::write_all(STDOUT_FILENO, title);
-    io::write_all(STDOUT_FILENO, b"\n");
-    io::write_all(STDOUT_FILENO, listing);
-    compare(listing, first, recording);
+    let _ = output.write_all(b"# ");
+    let _ = output.write_all(title);
+    let _ = output.write_all(b"\n");
+    let _ = output.write_all(listing);
+    compare(output, listing, first, recording);
 }
 
 // The same from the start.
-pub(crate) fn case(title: &[u8], recording: &[u8]) {
-    case_behind(title, Lister::fresh(), recording);
+pub(crate) fn case(output: Stdout, title: &[u8], recording: &[u8]) {
+    case_behind(output, title, Lister::fresh(), recording);
 }

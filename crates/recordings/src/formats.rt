@@ -4,6 +4,7 @@ ghost use Rattle.io.specs.Counts.{IsPrefixLen};
 
 use crate::cuts::case;
 use crate::making::{append, report};
+use std::io::Stdout;
 use wire::Report;
 
 // A format, and a silence.
@@ -37,19 +38,19 @@ fn states(out: &mut [u8], letter: u8, x1: i16, y1: i16, x2: i16, y2: i16) -> usi
 }
 
 // A case for a format.
-fn format(title: &[u8], letter: u8, x1: i16, y1: i16, x2: i16, y2: i16) {
+fn format(output: Stdout, title: &[u8], letter: u8, x1: i16, y1: i16, x2: i16, y2: i16) {
     let mut recording = [0u8; 512];
     let n = states(&mut recording, letter, x1, y1, x2, y2);
-    case(title, &recording[..n]);
+    case(output, title, &recording[..n]);
 }
 
 // Every format, with the least and the most that it holds.
-pub(crate) fn every_format() {
-    format(b"buttons 0 to 7 in S", b'S', 127, -127, 0, 0);
-    format(b"buttons 0 to 7 in V", b'V', -128, 128, 0, 0);
-    format(b"buttons 0 to 7 in A", b'A', 4095, 0, 0, 0);
-    format(b"buttons 0 to 7 in B", b'B', -2048, 2047, 0, 0);
-    format(b"buttons 0 to 7 in U", b'U', -128, 127, -128, 127);
-    format(b"buttons 0 to 7 in T", b'T', -128, 127, 0, 0);
-    format(b"buttons 0 to 7 in W", b'W', 127, -128, 0, 0);
+pub(crate) fn every_format(output: Stdout) {
+    format(output, b"buttons 0 to 7 in S", b'S', 127, -127, 0, 0);
+    format(output, b"buttons 0 to 7 in V", b'V', -128, 128, 0, 0);
+    format(output, b"buttons 0 to 7 in A", b'A', 4095, 0, 0, 0);
+    format(output, b"buttons 0 to 7 in B", b'B', -2048, 2047, 0, 0);
+    format(output, b"buttons 0 to 7 in U", b'U', -128, 127, -128, 127);
+    format(output, b"buttons 0 to 7 in T", b'T', -128, 127, 0, 0);
+    format(output, b"buttons 0 to 7 in W", b'W', 127, -128, 0, 0);
 }

@@ -1,8 +1,8 @@
 // Recordings of as many lines as there may be, and of more. All but the last lines are fed in blocks, once.
 use crate::cuts::case_behind;
 use crate::making::append;
-use libc::STDOUT_FILENO;
 use listing::Lister;
+use std::io::Stdout;
 
 // The 999,997 silences between the first line and line 999,999: so many blocks of so many.
 const BLOCKS: usize = 757;
@@ -40,23 +40,25 @@ fn up_to_last() -> Lister {
 }
 
 // The last line that there may be, and the one behind it.
-pub(crate) fn last_lines() {
-    io::write_all(STDOUT_FILENO, b"# 999,998 lines, and then\n");
+pub(crate) fn last_lines(output: Stdout) {
+    let _ = output.write_all(b"# 999,998 lines, and then\n");
     let lister = up_to_last();
-    case_behind(b"line 999,999", lister, b"B\t5\n");
-    case_behind(b"line 999,999 without its newline", lister, b"B\t5");
-    case_behind(b"line 999,999 is bad", lister, b"Z\n");
+    case_behind(output, b"line 999,999", lister, b"B\t5\n");
+    case_behind(output, b"line 999,999 without its newline", lister, b"B\t5");
+    case_behind(output, b"line 999,999 is bad", lister, b"Z\n");
     case_behind(
+        output,
         b"line 999,999 is bad, and there is a line 1,000,000",
         lister,
         b"Z\nQ\n",
     );
-    case_behind(b"line 1,000,000 is good", lister, b"B\t5\nQ\n");
+    case_behind(output, b"line 1,000,000 is good", lister, b"B\t5\nQ\n");
     case_behind(
+        output,
         b"line 1,000,000 is good and has no newline",
         lister,
         b"B\t5\nQ",
     );
-    case_behind(b"line 1,000,000 is blank", lister, b"B\t5\n\n");
-    case_behind(b"line 1,000,000 is bad", lister, b"B\t5\nZ\n");
+    case_behind(output, b"line 1,000,000 is blank", lister, b"B\t5\n\n");
+    case_behind(output, b"line 1,000,000 is bad", lister, b"B\t5\nZ\n");
 }

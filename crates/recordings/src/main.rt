@@ -16,13 +16,13 @@ pub(crate) fn least(a: usize, b: usize) -> usize
     if a < b { a } else { b }
 }
 
-fn main() {
-    cases::first_lines();
-    cases::later_lines();
-    cases::decimals();
-    cases::words();
-    cases::pairs();
-    cases::ends();
-    formats::every_format();
-    long::last_lines();
+fn main(rt: HostRuntime) {
+    cases::first_lines(rt.stdout());
+    cases::later_lines(rt.stdout());
+    cases::decimals(rt.stdout());
+    cases::words(rt.stdout());
+    cases::pairs(rt.stdout());
+    cases::ends(rt.stdout());
+    formats::every_format(rt.stdout());
+    long::last_lines(rt.stdout());
 }

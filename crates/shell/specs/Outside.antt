@@ -1,4 +1,4 @@
--- What has passed between a program and the system. The contracts of the C library's read and write do not say it, so it is said here,
+-- What has passed between a program and the system. std's read and write say how many bytes they moved and not which, so it is said here,
 -- and believed: `Trace` and `Over` are opened by the proofs of this crate's own functions and by no other.
 use Rattle.std.specs.Prelude.{◌≡◌, ℕ, ◌<◌, Bool, true, false, List, [], ◌∷◌, ◌++◌, length, take}
 use Rattle.shell.specs.declared.Got.{Got}

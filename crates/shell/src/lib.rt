@@ -2,11 +2,26 @@
 // A program holds the moment, a number that each of these moves on. What has passed at a moment is named in specs/Outside.
 #![tactic(auto)]
 
-ghost use Rattle.std.specs.Prelude.{◌≡◌, ◌≤◌, false, [], length};
+mod words;
+
+ghost use Rattle.std.specs.Prelude.{◌≡◌, ℕ, ◌≤◌, false, [], length, take, OnOk, OnErr};
+ghost use Rattle.std.specs.Io.KnownBytes.{Appends};
 ghost use Rattle.shell.specs.Outside.{Trace, Brought, Listened, Handed, Said};
 ghost use Rattle.shell.specs.Buffer.{Behind, Moved};
 
-use libc::{STDERR_FILENO, STDIN_FILENO, STDOUT_FILENO};
+use std::env::FillError;
+use std::io::{Error, ErrorKind, Read, Stderr, Stdin, Stdout, Write};
+use std::rt::{Clock, Env};
+use words::Words;
+
+// The three streams of a program, as `main` has them of its runtime.
+#[derive(Drop)]
+#[derive(Clone, Copy)]
+pub struct Streams {
+    pub input: Stdin,
+    pub output: Stdout,
+    pub errors: Stderr,
+}
 
 // How many bytes a read brought, and whether it went well.
 #[derive(Drop)]
@@ -29,47 +44,74 @@ fn later(turn: &mut u64) {
     *turn = std::num::wrapping_add_u64(t, 1);
 }
 
-// A read of standard input, and where it fails why, on standard error, behind the name.
-fn brought(name: &[u8], part: &mut [u8]) -> Got
+// Bytes to a stream, all or, where a write fails, a front of them. A write that a signal interrupts has failed.
+fn written<W: Write>(stream: &mut W, bytes: &[u8]) -> Result<(), Error>
+    ensures all { OnOk result (Appends (W.contents stream.old) (W.contents stream.new) bytes.now) }
+    ensures front { OnErr result ((n : ℕ) × Appends (W.contents stream.old) (W.contents stream.new) (take n bytes.now)) }
+{
+    let mut done: usize = 0;
+    while done < bytes.len() {
+        let n = stream.write(&bytes[done..])?;
+        if n == 0 {
+            return Err(Error::from(ErrorKind::WriteZero));
+        }
+        done = done + n;
+    }
+    Ok(())
+}
+
+// Why something failed, on standard error, behind the name.
+fn complain(errors: Stderr, name: &[u8], why: Error) {
+    let mut stream = errors;
+    let words = Words::of(why);
+    let _ = written(&mut stream, name);
+    let _ = written(&mut stream, b": ");
+    let _ = written(&mut stream, words.bytes());
+    let _ = written(&mut stream, b"\n");
+}
+
+// One read of standard input, and where it fails why, on standard error, behind the name.
+fn brought(streams: Streams, name: &[u8], part: &mut [u8]) -> Got
     ensures { (result.count ≤ length part.new) × (result.well ≡ false → result.count ≡ 0) }
 {
-    let got = libc::read(STDIN_FILENO, part);
-    let n = io::count(got, part);
-    if got < 0 {
-        os::fail(name);
-        return Got {
-            count: 0,
-            well: false,
-        };
-    }
-    Got {
-        count: n,
-        well: true,
+    let mut input = streams.input;
+    match input.read(part) {
+        Ok(count) => Got {
+            count: count,
+            well: true,
+        },
+        Err(why) => {
+            complain(streams.errors, name, why);
+            Got {
+                count: 0,
+                well: false,
+            }
+        }
     }
 }
 
 // What a read of standard input brings, at the front of a part of a buffer. Where it fails, standard error says why, behind the name.
-pub fn more(turn: &mut u64, name: &[u8], part: &mut [u8]) -> Got
+pub fn more(streams: Streams, turn: &mut u64, name: &[u8], part: &mut [u8]) -> Got
     ensures count_in_bounds { result.count ≤ length part.new }
     ensures brought { Brought name.now turn.old turn.new result part.new }
 {
-    let got = brought(name, part);
+    let got = brought(streams, name, part);
     later(turn);
     got
 }
 
 // The same of a tty that answers an empty read after a tenth of a second: a read that brought nothing is a wait.
-pub fn hear(turn: &mut u64, name: &[u8], part: &mut [u8]) -> Got
+pub fn hear(streams: Streams, turn: &mut u64, name: &[u8], part: &mut [u8]) -> Got
     ensures count_in_bounds { result.count ≤ length part.new }
     ensures listened { Listened name.now turn.old turn.new result part.new }
 {
-    let got = brought(name, part);
+    let got = brought(streams, name, part);
     later(turn);
     got
 }
 
 // The same, behind the bytes of a buffer that are held. Where it has not so many, nothing is read.
-pub fn behind(turn: &mut u64, name: &[u8], input: &mut [u8], held: usize) -> Got
+pub fn behind(streams: Streams, turn: &mut u64, name: &[u8], input: &mut [u8], held: usize) -> Got
     ensures { Behind name.now held turn.old turn.new result input.old input.new }
 {
     if held > input.len() {
@@ -78,26 +120,31 @@ pub fn behind(turn: &mut u64, name: &[u8], input: &mut [u8], held: usize) -> Got
             well: false,
         };
     }
-    more(turn, name, &mut input[held..])
+    more(streams, turn, name, &mut input[held..])
 }
 
 // Bytes to standard output, and whether all went. Where they did not, standard error says why, behind the name.
-pub fn show(turn: &mut u64, name: &[u8], bytes: &[u8]) -> bool
+pub fn show(streams: Streams, turn: &mut u64, name: &[u8], bytes: &[u8]) -> bool
     ensures { Handed name.now turn.old turn.new result bytes.now }
 {
-    let is_shown = io::write_all(STDOUT_FILENO, bytes);
-    if !is_shown {
-        os::fail(name);
-    }
+    let mut output = streams.output;
+    let is_shown = match written(&mut output, bytes) {
+        Ok(_) => true,
+        Err(why) => {
+            complain(streams.errors, name, why);
+            false
+        }
+    };
     later(turn);
     is_shown
 }
 
 // Bytes to standard error, and whether all went.
-pub fn say(turn: &mut u64, bytes: &[u8]) -> bool
+pub fn say(streams: Streams, turn: &mut u64, bytes: &[u8]) -> bool
     ensures { Said turn.old turn.new result bytes.now }
 {
-    let is_said = io::write_all(STDERR_FILENO, bytes);
+    let mut errors = streams.errors;
+    let is_said = written(&mut errors, bytes).is_ok();
     later(turn);
     is_said
 }
@@ -108,9 +155,29 @@ pub fn note(bytes: &[u8]) {
 }
 
 // The seconds since 1970 began, as the system tells them. Nothing is promised of them.
-pub fn seconds() -> i64 {
-    let mut t: i64 = 0;
-    libc::time(&mut t)
+pub fn seconds(clock: &impl Clock) -> i64 {
+    match clock.since_1970() {
+        Ok(time) => i64::try_from(time.as_secs()).unwrap_or(-1),
+        Err(_) => -1,
+    }
+}
+
+// How many words the program was called with, its own name among them: no more than so many.
+pub fn word_count(call: &impl Env, most: usize) -> usize {
+    let mut none = [0u8; 1];
+    for i in 0..most {
+        if let Err(FillError::NotPresent) = call.arg(i, &mut none) {
+            return i;
+        }
+    }
+    most
+}
+
+// One of them at the front of a part of a buffer, and how long it is: 0 where it is missing or longer than the part.
+pub fn word(call: &impl Env, place: usize, part: &mut [u8]) -> usize
+    ensures { result ≤ length part.new }
+{
+    call.arg(place, part).unwrap_or(0)
 }
 
 // So many bytes of a buffer from a place on, moved to its front. Where it has not so many, nothing is moved.

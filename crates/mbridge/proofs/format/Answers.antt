@@ -1,0 +1,10 @@
+-- A fresh bridge, and the line of V.
+use borrow.Author.Rules.{rules}
+use mathlib.Core.Path.{◌≡◌, ◌∙◌, ap}
+use Rattle.bridge.specs.declared.NewBridge.{NewBridge}
+use Rattle.mbridge.specs.Recording.{bridge_behind, lines_for}
+use Rattle.mbridge.proofs.format.Goals as goal
+
+pub returns : goal.returns
+unfolding bridge_behind lines_for
+returns c = record { next = ap (λ (n : NewBridge). n.bridge) c.fresh-new.ensures; lines = c.bytes_to-end.ensures }

@@ -1,0 +1,12 @@
+-- Turn after turn.
+use mathlib.Core.Path.{◌≡◌}
+use lib.ListN.{length}
+use Rattle.mrecord.specs.Turns.{Goes}
+use Rattle.mrecord.proofs.turns.Given as goal
+
+abbrev pub invariant-loop-went : goal.invariant-loop-went
+invariant-loop-went g l =
+    Goes l.initial.turn l.initial.went.tape l.turn l.went × (length l.input ≡ length l.initial.input) × (length l.out ≡ length l.initial.out)
+
+abbrev pub decreases-loop-went : goal.decreases-loop-went
+decreases-loop-went g l = l.left
