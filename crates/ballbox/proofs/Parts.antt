@@ -1,7 +1,7 @@
 -- A good box, part by part, and what latching and sending need of it.
 use Prim.Native.Nat.{◌≤◌}
 use mathlib.Core.Path.{◌≡◌, refl}
-use mathlib.Core.Bool.{true, not, ◌&&◌, ◌||◌}
+use mathlib.Core.Bool.{true, ◌&&◌, ◌||◌}
 use native.Mathlib.Omega.{arith}
 use lib.Dec.{leb, eqb}
 use borrow.Author.Tests.{leb-true, eqb-true}
@@ -9,15 +9,14 @@ use Rattle.numbers.proofs.Choices.{or_else, cases}
 use Rattle.numbers.proofs.Tested.{left, right}
 use Rattle.wire.specs.Line.{size_by, known}
 use Rattle.wire.proofs.Letters.{at_most_five}
-use Rattle.ballbox.specs.Box.{mode_d, going_from}
+use Rattle.ballbox.specs.Box.{mode_d}
 use Rattle.ballbox.specs.Presses.{to_show}
-use Rattle.ballbox.specs.Latching.{latched, second_latched, with_second}
+use Rattle.ballbox.specs.Latching.{second_latched, with_second}
 use Rattle.ballbox.specs.Commands.{is_stream}
-use Rattle.ballbox.specs.Events.{bytes_left, wanted, latching, second_now, with_byte_ready}
+use Rattle.ballbox.specs.Events.{second_now, with_byte_ready}
 use Rattle.ballbox.specs.Good.{good, good_settings, good_track, good_going, dormant_rightly, good_memory, remembers_rightly, shows_rightly, marks}
 use Rattle.ballbox.specs.declared.Settings.{Settings}
 use Rattle.ballbox.specs.declared.BallBox.{BallBox}
-use Rattle.ballbox.proofs.Accepting.{bytes_by_length}
 use Rattle.ballbox.proofs.Remembering.{shown_small}
 use Rattle.ballbox.proofs.Outgoing.{GoodGoing, going_parts, going_again}
 

@@ -5,7 +5,7 @@ use mathlib.Core.Bool.{Bool, true, false, not, ◌&&◌, ◌||◌}
 use mathlib.Core.List.{List, [], ◌∷◌, ◌++◌}
 use native.Mathlib.Omega.{arith}
 use lib.Dec.{eqb, ltb}
-use lib.ListN.{length, take, set, replicate, length-set, length-append}
+use lib.ListN.{take, set, replicate, length-set, length-append}
 use lib.Seq.{length-take-le}
 use borrow.Author.Tests.{eqb-true, leb-true, le-leb, ltb-true, ltb-false, ne_eqb, not-false}
 use Rattle.numbers.proofs.Choices.{both, cases}

@@ -4,13 +4,11 @@ use mathlib.Core.Bool.{true, false}
 use native.Mathlib.Omega.{arith}
 use lib.Dec.{T}
 use lib.IntN.{pos, nat_abs}
-use lib.ListN.{length}
 use Rattle.numbers.specs.Signed.{most, held, excess, sum_excess, held_long}
 use Rattle.frames.specs.Words.{silence}
 use Rattle.wire.specs.Line.{named_by, size_by, known}
-use Rattle.wire.specs.Reading.{at}
 use Rattle.wire.specs.Numbers.{success, bad_state}
-use Rattle.ballbox.specs.Box.{mode_d, pair, zeros, fresh_box, with_track, with_memory, with_mode, with_buttons, with_due, Step, due}
+use Rattle.ballbox.specs.Box.{mode_d, pair, zeros, fresh_box, with_track, with_memory, with_mode, with_buttons, with_due, due}
 use Rattle.ballbox.specs.Presses.{none, remembering, showing_first}
 use Rattle.ballbox.specs.Thrown.{no_sums, added}
 use Rattle.ballbox.specs.Motion.{counted_over, apart, has_moved}

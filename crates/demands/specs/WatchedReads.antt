@@ -1,11 +1,11 @@
 -- What a recorder calls: a long read, and then the watch over the numbers that it wrote.
-use Rattle.std.specs.Prelude.{ℕ, ◌*◌, ◌≤◌, ◌≡◌, refl, List, [], ◌∷◌, ◌++◌, ℤ, length, take, drop}
-use Rattle.std.proofs.Common.{sym, ◌∙◌, ap, arith, take_at}
+use Rattle.std.specs.Prelude.{ℕ, ◌*◌, ◌≤◌, ◌≡◌, refl, List, [], ◌∷◌, ℤ, length, take, drop}
+use Rattle.std.proofs.Common.{◌∙◌, arith, take_at}
 use Rattle.wire.specs.Buttons.{Button, is_down, presses_from, presses_among}
 use Rattle.wire.specs.declared.Report.{Report}
 use Rattle.reader.specs.Counts.{numbers}
 use Rattle.reader.specs.Promises.{ReadPromise}
-use Rattle.reader.specs.DamagedLines.{HandsOutBy, Took}
+use Rattle.reader.specs.DamagedLines.{HandsOutBy}
 use Rattle.reader.specs.declared.Reader.{Reader}
 use Rattle.reader.specs.declared.Reading.{Reading}
 use Rattle.saves.specs.State.{watching, unaware}

@@ -1,28 +1,37 @@
 -- Damage that shows, worked out in T; and for each thing that Shown leaves out a run in which M is never down and a
 -- watch would save: a byte lost without a 256, a break lost without one, and, in an unmarked format, a silence that
 -- comes in.
-use Rattle.std.specs.Prelude.{ℕ, ◌≡◌, refl, true, false, List, [], ◌∷◌, pos}
+use Rattle.std.specs.Prelude.{ℕ, ◌≡◌, refl, true, false, List, [], ◌∷◌, ◌++◌, take, drop, ℤ, pos}
 use Rattle.numbers.specs.Signed.{minus}
 use Rattle.frames.specs.Passages.{silent, finished}
 use Rattle.frames.specs.Damage.{Shown, whole, stays, scar}
 use Rattle.wire.specs.Line.{letter_of}
 use Rattle.wire.specs.Reading.{report}
 use Rattle.wire.specs.Messages.{latched_in, finished_reports}
+use Rattle.wire.specs.Numbers.{bad_word}
 use Rattle.wire.specs.Buttons.{middle, is_down, presses, presses_from}
 use Rattle.wire.specs.declared.Report.{Report}
 use Rattle.wire.specs.declared.Format.TheVariants.{Mm, ThreeByte}
-use Rattle.reader.specs.State.{ready}
+use Rattle.reader.specs.State.{fresh, ready, reader}
+use Rattle.reader.specs.Promises.{read_of}
 use Rattle.reader.specs.DamagedLines.{HandsOutAt, TrueBy, is_ready}
 use Rattle.reader.specs.declared.Answer.TheVariants.{Nothing, Dropped}
 use Rattle.reader.specs.declared.Answer.TheVariants as answer
-use Rattle.reader.proofs.DamagedRuns.{AnsweredBy, computed_by}
+use Rattle.reader.proofs.DamagedRuns.{AnsweredBy, computed_by, Answered, computed}
 use Rattle.ballbox.specs.Box.{fresh_box, mode_o}
+use Rattle.ballbox.specs.Commands.{letterd}
+use Rattle.ballbox.specs.Events.{asleep, woken}
+use Rattle.ballbox.specs.declared.BallBox.{BallBox}
 use Rattle.ballbox.specs.declared.Event.{Event}
-use Rattle.ballbox.specs.declared.Event.TheVariants.{Motion, Host}
+use Rattle.ballbox.specs.declared.Event.TheVariants.{Motion, Buttons, Host, Send}
 use Rattle.history.specs.Runs.{words_given, answers_to}
 use Rattle.history.specs.Asked.{only_asks}
-use Rattle.history.specs.Presses.{buttons_told}
+use Rattle.history.specs.Presses.{buttons_told, box_after}
 use Rattle.history.proofs.Permitted.{answer_permitted, answers_permitted}
+use Rattle.saves.specs.State.{watching}
+use Rattle.saves.specs.Rules.{buttons_among}
+use Rattle.saves.specs.Promises.{over_of}
+use Rattle.saves.proofs.Computing as watch
 use Rattle.demands.specs.Computing.{computing}
 use Rattle.demands.specs.Demand3.{Run, sent, from_then_on}
 use Rattle.demands.specs.Worked.{slots, set_to}
@@ -88,7 +97,8 @@ stays_in_t =
     (finished (latched_in ThreeByte far) ∷ finished (latched_in ThreeByte near) ∷
     []) [] refl tt (scar (0x00 ∷ []) (stays (stays (stays (stays (stays whole)))))) 9 refl
 
--- A byte must not be lost without a 256: the first one is, and M goes down
+-- A byte must not be lost without a 256: the first one is, and M goes down. (So it does where a reader that is ready, not
+-- fresh, comes late and missed it: `true-when-late`.)
 abbrev Saves : List Report → Type 0
 Saves reports = ◌≡◌ {A = ℕ} (presses_from (is_down middle) 0 reports) 1
 
@@ -125,3 +135,84 @@ pub break_needs_trace : (only_asks broken_off ≡ true)
     × Saves (near ∷ false_press ∷ [])
 unfolding computing presses buttons_told
 break_needs_trace = (refl, refl, refl, computed_by (ready (letter_of ThreeByte)) _ _ refl, refl)
+
+-- Nor may a byte become another: S sends 98 05 00, the first arrives as 9A, and M goes down; in U, T and W likewise. And
+-- where words are lost without a trace, the reader must keep none of another line: one that keeps 9A 00 takes 05 for its
+-- last, where 98 is lost.
+pub no_byte_changes : (words_given (answers_to (set_to Mm).next (Motion (pos 5) (pos 0) ∷ slots 3 [])) ≡ 0x98 ∷ 0x05 ∷ 0x00 ∷ [])
+    × AnsweredBy (ready (letter_of Mm)) (0x9A ∷ 0x05 ∷ 0x00 ∷ []) (Nothing ∷ Nothing ∷ answer.Report (report 2 (pos 5) (pos 0)) ∷ [])
+unfolding computing
+no_byte_changes = (refl, computed_by (ready (letter_of Mm)) _ _ refl)
+
+pub none_kept : AnsweredBy (reader (letter_of Mm) (0x9A ∷ 0x00 ∷ 0x00 ∷ 0x00 ∷ 0x00 ∷ []) 2 false) (0x05 ∷ 0x00 ∷ [])
+    (answer.Report (report 2 (pos 0) (pos 5)) ∷ Dropped 1 ∷ [])
+unfolding computing
+none_kept = computed_by (reader (letter_of Mm) (0x9A ∷ 0x00 ∷ 0x00 ∷ 0x00 ∷ 0x00 ∷ []) 2 false) _ _ refl
+
+-- The box must be awake at its letter: a dormant one in U, at the letter of S, wakes, sends an ACK and stays in U. To a
+-- reader of S 87 is a first byte with all three down. (A bad box is refused with 6, and nothing is handed out.)
+abbrev woken_by_s : BallBox
+woken_by_s = box_after fresh_box (Host letterd ∷ Host (letter_of Mm) ∷ [])
+
+pub awake_at_the_letter : (words_given (answers_to woken_by_s (Send ∷ Motion (pos 5) (pos 0) ∷ slots 5 [])) ≡ 0x06 ∷ 0x87 ∷ 0x05 ∷ 0x00 ∷ 0x00 ∷ 0x00 ∷ [])
+    × AnsweredBy (ready (letter_of Mm)) (0x06 ∷ 0x87 ∷ 0x05 ∷ 0x00 ∷ 0x00 ∷ 0x00 ∷ [])
+    (Dropped 1 ∷ Nothing ∷ Nothing ∷ answer.Report (report 7 (minus 5) (pos 0)) ∷ Dropped 1 ∷ Dropped 1 ∷ [])
+unfolding computing asleep woken
+awake_at_the_letter = (refl, computed_by (ready (letter_of Mm)) _ _ refl)
+
+-- A report that stays is handed out in T only behind a silence, with nothing broken off since: 02 00 00 is dropped without
+-- one, and behind one and a report that was broken off.
+pub silence_before_it : Answered ThreeByte (0x02 ∷ 0x00 ∷ 0x00 ∷ []) (Dropped 1 ∷ Dropped 1 ∷ Dropped 1 ∷ [])
+    × Answered ThreeByte (257 ∷ 0x00 ∷ 256 ∷ 0x02 ∷ 0x00 ∷ 0x00 ∷ []) (Nothing ∷ Nothing ∷ Dropped 1 ∷ Dropped 1 ∷ Dropped 1 ∷ Dropped 1 ∷ [])
+unfolding computing
+silence_before_it = (computed ThreeByte _ _ refl, computed ThreeByte _ _ refl)
+
+-- A press behind a stretch (`seen-after-the-stretch`, `seen-after-a-silence`). In T, with no silence between: L is pressed
+-- behind 00 02 E8, of which the first byte is lost; M is handed out, and L is not. In S, where the stretch is the first
+-- byte of the report that shows the press. And where a word of it, or in front, is not legal: a long read stops there,
+-- with 4.
+abbrev last_press : List Event
+last_press = Send ∷ Motion (pos 2) (minus 24) ∷ slots 3 (Buttons 4 ∷ slots 6 [])
+
+pub stretch_before_it : (words_given (answers_to (set_to ThreeByte).next last_press)
+    ≡ 257 ∷ 0x00 ∷ 0x02 ∷ 0xE8 ∷ 0x04 ∷ 0x00 ∷ 0x00 ∷ 257 ∷ 257 ∷ 257 ∷ [])
+    × Answered ThreeByte (257 ∷ 0x02 ∷ 0xE8 ∷ 0x04 ∷ 0x00 ∷ 0x00 ∷ 257 ∷ 257 ∷ 257 ∷ [])
+    (Nothing ∷ Nothing ∷ Nothing ∷ answer.Report (report 2 (minus 24) (pos 4)) ∷ Nothing ∷ Nothing ∷ Dropped 2 ∷ Nothing ∷ Nothing ∷ [])
+    × Answered Mm (0x00 ∷ 0x00 ∷ 257 ∷ 257 ∷ 257 ∷ []) (Dropped 1 ∷ Dropped 1 ∷ Nothing ∷ Nothing ∷ Nothing ∷ [])
+unfolding computing
+stretch_before_it = (refl, computed ThreeByte _ _ refl, computed Mm _ _ refl)
+
+-- Only silences may be left out (`survives-unheard`): of 02 00 00 the first byte is, or a silence comes in behind it. (Where
+-- what was heard was never sent, as an ACK: the words of `reply-in-front`.)
+pub only_silences : AnsweredBy (ready (letter_of ThreeByte)) (0x00 ∷ 0x00 ∷ 257 ∷ []) (Nothing ∷ Nothing ∷ Dropped 2 ∷ [])
+    × AnsweredBy (ready (letter_of ThreeByte)) (0x02 ∷ 257 ∷ 0x00 ∷ 0x00 ∷ 257 ∷ []) (Nothing ∷ Dropped 1 ∷ Nothing ∷ Nothing ∷ Dropped 2 ∷ [])
+unfolding computing
+only_silences = (computed_by (ready (letter_of ThreeByte)) _ _ refl, computed_by (ready (letter_of ThreeByte)) _ _ refl)
+
+abbrev five_zeros : List ℤ
+five_zeros = pos 0 ∷ pos 0 ∷ pos 0 ∷ pos 0 ∷ pos 0 ∷ []
+
+pub legal_needed : (◌≡◌ {A = ℕ} (read_of (fresh (letter_of Mm)) (258 ∷ 0x9A ∷ 0x00 ∷ 0x00 ∷ []) five_zeros).refusal bad_word)
+    × (◌≡◌ {A = ℕ} (read_of (fresh (letter_of Mm)) (258 ∷ 0x9A ∷ 0x00 ∷ 0x00 ∷ []) five_zeros).taken 0)
+unfolding computing
+legal_needed = (refl, refl)
+
+-- A long read, and the watch over what it wrote (WatchedReads): with four places M's report is not written, and with
+-- fifteen the watch must be given the five that were, not what stood in the slice behind them. Nor may they be cut within
+-- a report.
+abbrev old : List ℤ
+old = five_zeros ++ (five_zeros ++ (pos 2 ∷ pos 0 ∷ pos 0 ∷ pos 0 ∷ pos 0 ∷ []))
+
+abbrev wrote : List ℤ → List ℤ
+wrote out = (read_of (ready (letter_of Mm)) (0x9A ∷ 0x00 ∷ 0x00 ∷ []) out).out
+
+abbrev counts : List ℤ → ℕ
+counts numbers = (over_of (watching 0) (buttons_among numbers)).middle
+
+pub room_to_write : (◌≡◌ {A = ℕ} (read_of (ready (letter_of Mm)) (0x9A ∷ 0x00 ∷ 0x00 ∷ []) (pos 0 ∷ pos 0 ∷ pos 0 ∷ pos 0 ∷ [])).counts.reports 0)
+    × (◌≡◌ {A = ℕ} (counts (take 5 (wrote old))) 1)
+    × (◌≡◌ {A = ℕ} (counts (wrote old)) 2)
+    × (◌≡◌ {A = ℕ} (counts (take 3 (wrote old))) 0)
+    × (◌≡◌ {A = ℕ} (counts (drop 3 (take 5 (wrote old)))) 0)
+unfolding computing watch.computing
+room_to_write = (refl, refl, refl, refl, refl)

@@ -10,20 +10,24 @@ use Rattle.wire.specs.Reading.{report}
 use Rattle.wire.specs.Messages.{Message, reply, latched_in, showing_in}
 use Rattle.wire.specs.Buttons.{middle, is_down, presses, presses_from}
 use Rattle.wire.specs.declared.Report.{Report}
-use Rattle.wire.specs.declared.Format.TheVariants.{Mm, ThreeByte}
+use Rattle.wire.specs.declared.Format.{Format}
+use Rattle.wire.specs.declared.Format.TheVariants.{Mm, Microsoft, ThreeByte}
 use Rattle.reader.specs.Counts.{handed_out}
-use Rattle.ballbox.specs.Commands.{space, lettert, byte05}
+use Rattle.ballbox.specs.Box.{fresh_box, mode_o, mode_d}
+use Rattle.ballbox.specs.Commands.{space, lettert, letter_p, byte05}
+use Rattle.ballbox.specs.declared.BallBox.{BallBox}
 use Rattle.ballbox.specs.declared.Event.{Event}
 use Rattle.ballbox.specs.declared.Event.TheVariants.{Motion, Buttons, Host, Send}
-use Rattle.history.specs.Presses.{buttons_told}
+use Rattle.history.specs.Presses.{buttons_told, box_after}
 use Rattle.replies.specs.Replying.{came, none}
-use Rattle.replies.specs.Promises.{FreshPromise}
+use Rattle.replies.specs.Promises.{FreshPromise, fresh_of}
 use Rattle.replies.specs.declared.Asked.TheVariants.{Command}
 use Rattle.replies.specs.declared.Reply.TheVariants as told
 use Rattle.replies.specs.declared.NewToldReader.{NewToldReader}
 use Rattle.tellings.specs.Items.{Item, word, telling, as_items, Done, ItemsPromise, own_answers_of}
 use Rattle.tellings.specs.Lines.{HandsOut, HandsOutAt}
 use Rattle.tellings.specs.Damage.{ShownItems, whole, stays, scar, marked, since, TrueOf}
+use Rattle.tellings.proofs.Apart.{done_of}
 use Rattle.tellings.proofs.Computing as replies
 use Rattle.saves.specs.State.{watching}
 use Rattle.saves.specs.Promises.{HeardAll, times_down}
@@ -31,6 +35,8 @@ use Rattle.saves.specs.declared.Told.{Told}
 use Rattle.demands.specs.Computing.{computing}
 use Rattle.demands.specs.Demand3.{from_then_on}
 use Rattle.demands.specs.Worked.{slots}
+use Rattle.demands.specs.Taps.{box_in}
+use Rattle.demands.specs.WorkedNeeds.{words_of, taps, too_many}
 use Rattle.demands.specs.WorkedReplies.{SendsItems, run_of, Hears, hears}
 use Rattle.demands.specs.Saves.{carries_middle}
 use Rattle.demands.specs.PolledSaves.{handed_out_lem, true_where_damage_shows, stays_behind_a_silence, as_many_saves}
@@ -140,3 +146,50 @@ pub saved_once : (n : NewToldReader) (done : List Done) (told : List Told)
 unfolding computing replies.computing presses buttons_told
 saved_once n done told fresh q =
     as_many_saves (run_of in_s) middle (carries_middle Mm (λ e. omega (arith, ap letter_of e))) n fresh done refl refl refl refl (marked refl) q told
+
+-- What else a polled line needs, in T. A break must not be lost without a 256: two bytes of a report that O broke off and
+-- the next one's first are a report, and another has M down. The reader must not be told of a command that was not sent:
+-- of `t`, behind the first byte of 00 54 4F, it takes the others for letters; behind 00 00 02 and 00 01 00 M is down. (One
+-- that is not told of a space: `untold-T`.) And before a silence it hands out nothing.
+pub break_in_t : Hears ThreeByte (as_items (257 ∷ 0x00 ∷ 0x01 ∷ 0x00 ∷ 0x02 ∷ 0xE8 ∷ 0x00 ∷ 0x01 ∷ 0x00 ∷ [])) [] (near ∷ report 2 (minus 24) (pos 0) ∷ [])
+unfolding computing replies.computing
+break_in_t = hears ThreeByte _ (refl, refl)
+
+pub told_of_none : Hears ThreeByte
+    (word 257 ∷ word 0x00 ∷ telling (Command lettert) ∷ as_items (0x54 ∷ 0x4F ∷ 0x00 ∷ 0x00 ∷ 0x02 ∷ 0x00 ∷ 0x01 ∷ 0x00 ∷ []))
+    (told.Letters 0x54 0x4F ∷ []) (report 0 (pos 0) (pos 0) ∷ report 2 (pos 0) (pos 1) ∷ [])
+unfolding computing replies.computing
+told_of_none = hears ThreeByte _ (refl, refl)
+
+pub silence_first : Hears ThreeByte (as_items (0x02 ∷ 0x00 ∷ 0x00 ∷ [])) [] []
+unfolding computing replies.computing
+silence_first = hears ThreeByte _ (refl, refl)
+
+-- In V a telling of `t` that comes in takes 56, a first byte with R down, for the format letter: the report that stays is
+-- not handed out.
+pub told_in_v : Hears Microsoft (telling (Command lettert) ∷ as_items (0x56 ∷ 0x01 ∷ 0x00 ∷ [])) (told.Broken (came 1 0x56 0) ∷ []) []
+unfolding computing replies.computing
+told_in_v = hears Microsoft _ (refl, refl)
+
+-- The box must be awake at its letter, and none may come among the events: what a box in U then sends, told to a reader
+-- of S behind an ACK or not, has all three down.
+pub letter_in_s : Hears Mm (as_items (0x87 ∷ 0x05 ∷ 0x00 ∷ 0x00 ∷ 0x00 ∷ [])) [] (report 7 (minus 5) (pos 0) ∷ [])
+    × Hears Mm (as_items (0x06 ∷ 0x87 ∷ 0x05 ∷ 0x00 ∷ 0x00 ∷ 0x00 ∷ [])) [] (report 7 (minus 5) (pos 0) ∷ [])
+unfolding computing replies.computing
+letter_in_s = (hears Mm _ (refl, refl), hears Mm _ (refl, refl))
+
+-- As many saves as presses: the runs of WorkedNeeds in which M is tapped twice, read by a fresh told reader, which is told
+-- of no command. In prompt mode, behind P, with all still to be shown, with too many changes, and in V no press is told.
+abbrev saved_of : Format → BallBox → List Event → ℕ
+saved_of f b events = presses_from (is_down middle) 0 (handed_out (own_answers_of (done_of (fresh_of (letter_of f)).reader (as_items (words_of b events)))))
+
+abbrev prompted : BallBox
+prompted = box_after fresh_box (Host mode_d ∷ Host (letter_of Mm) ∷ [])
+
+pub counts_needed : (◌≡◌ {A = ℕ} (saved_of Mm prompted (taps (Host mode_o ∷ slots 6 []))) 0)
+    × (◌≡◌ {A = ℕ} (saved_of Mm (box_in Mm) (taps (Host letter_p ∷ slots 3 []))) 0)
+    × (◌≡◌ {A = ℕ} (saved_of Mm (box_in Mm) (taps (slots 2 []))) 0)
+    × (◌≡◌ {A = ℕ} (saved_of Mm (box_in Mm) too_many) 0)
+    × (◌≡◌ {A = ℕ} (saved_of Microsoft (box_in Microsoft) (taps (slots 12 []))) 0)
+unfolding computing replies.computing presses
+counts_needed = (refl, refl, refl, refl, refl)

@@ -33,7 +33,7 @@ use Rattle.driver.specs.Driving.{Leaves, slots, first_line, later_line, line_don
 use Rattle.driver.specs.Feeding.{longest, unfinished, besides, Turning, taken_of, byte_of, slot_of, end_of, slot_tick, end_tick, tick_of, drives, ticks_from}
 use Rattle.driver.specs.Promises.{enough}
 use Rattle.driver.specs.declared.Record.{Record}
-use Rattle.driver.specs.declared.Record.TheVariants.{Format, Word, Bad}
+use Rattle.driver.specs.declared.Record.TheVariants.{Word, Bad}
 use Rattle.driver.specs.declared.Order.{Order}
 use Rattle.driver.specs.declared.Order.TheVariants as order
 use Rattle.driver.specs.declared.Driver.{Driver}

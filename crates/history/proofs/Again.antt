@@ -17,7 +17,6 @@ use Rattle.ballbox.specs.Presses.{remembered, any_remembered, full}
 use Rattle.ballbox.specs.Latching.{latched_report}
 use Rattle.ballbox.specs.Commands.{command_of, reply_to}
 use Rattle.ballbox.specs.Events.{wanted}
-use Rattle.ballbox.specs.Good.{good}
 use Rattle.ballbox.specs.declared.BallBox.{BallBox}
 use Rattle.ballbox.specs.declared.Event.{Event}
 use Rattle.ballbox.specs.declared.Event.TheVariants.{Motion, Buttons, Host, Latch, Send, Period}

@@ -26,7 +26,6 @@ use Rattle.ballbox.specs.Events.{wanted, latching, sending, dropped, on_host, on
 use Rattle.ballbox.specs.Good.{good}
 use Rattle.ballbox.specs.Promises.{above_seven}
 use Rattle.ballbox.specs.declared.BallBox.{BallBox}
-use Rattle.ballbox.specs.declared.Memory.{Memory}
 use Rattle.ballbox.specs.declared.Settings.{Settings}
 use Rattle.ballbox.specs.declared.Event.{Event}
 use Rattle.ballbox.specs.declared.Event.TheVariants.{Motion, Buttons, Host, Latch, Send, Period}

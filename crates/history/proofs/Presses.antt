@@ -1,5 +1,5 @@
 -- Presses that outlive a busy line: over every run of a box in a stream mode, what is remembered is shown, in order, each state by a report of its own.
-use Prim.Native.Nat.{ℕ, zero, suc, ◌+◌, ◌-◌, ◌≤◌, ◌<◌}
+use Prim.Native.Nat.{ℕ, zero, suc, ◌≤◌, ◌<◌}
 use mathlib.Core.Path.{◌≡◌, refl, sym, ◌∙◌, ap}
 use mathlib.Core.Bool.{Bool, true, false, not, ◌&&◌}
 use mathlib.Core.List.{List, [], ◌∷◌, ◌++◌, append_assoc, append-nil}
@@ -16,7 +16,6 @@ use Rattle.frames.specs.Sender.{told, passages_over}
 use Rattle.frames.proofs.Passages.{finished_append}
 use Rattle.wire.specs.Messages.{Message}
 use Rattle.ballbox.specs.Box.{dormant}
-use Rattle.ballbox.specs.Box as box
 use Rattle.ballbox.specs.Presses.{remembered, full}
 use Rattle.ballbox.specs.Latching.{latched, second_latched}
 use Rattle.ballbox.specs.Commands.{is_stream, command_of, obeyed}

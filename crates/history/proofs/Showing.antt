@@ -8,7 +8,6 @@ use lib.ListN.{length, take, drop}
 use lib.Dec.{eqb, ltb}
 use borrow.Author.Tests.{lt-ltb, le-ltb, ltb-true, eqb-true, eqb-false, leb-true, le-leb}
 use Rattle.numbers.proofs.Choices.{cases, neither}
-use Rattle.numbers.proofs.Tested.{left}
 use Rattle.frames.specs.Passages.{UnderWay, nothing, first}
 use Rattle.frames.specs.Sender.{sent_one, broken_off}
 use Rattle.wire.specs.Line.{known}

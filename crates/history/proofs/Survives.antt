@@ -1,5 +1,5 @@
 -- A press survives: within so many slots a finished report shows it, in the middle of a report too.
-use Prim.Native.Nat.{ℕ, suc, ◌+◌, ◌*◌, ◌≤◌}
+use Prim.Native.Nat.{ℕ, suc, ◌*◌, ◌≤◌}
 use mathlib.Core.Path.{◌≡◌, refl, sym, ◌∙◌, ap, ap₂}
 use mathlib.Core.Bool.{Bool, true, false, not}
 use mathlib.Core.List.{List, [], ◌∷◌, ◌++◌, map, append-nil, append_assoc}
@@ -22,7 +22,6 @@ use Rattle.wire.proofs.Buttons.{carried_in}
 use Rattle.ballbox.specs.Box.{mode_d}
 use Rattle.ballbox.specs.Presses.{remembered, full}
 use Rattle.ballbox.specs.Commands.{is_stream, is_command, asks_for_reports, command_of, letter_p, letterd, space, letterf, lettert, byte05}
-use Rattle.ballbox.specs.Good.{good}
 use Rattle.ballbox.specs.declared.BallBox.{BallBox}
 use Rattle.ballbox.specs.declared.Event.{Event}
 use Rattle.ballbox.specs.declared.Event.TheVariants.{Motion, Buttons, Host, Latch, Send, Period}

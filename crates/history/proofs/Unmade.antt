@@ -11,7 +11,7 @@ use borrow.Author.Tests.{eqb-true, ltb-true, ltb-false, lt-leb, le-leb}
 use Rattle.numbers.proofs.Choices.{cases}
 use Rattle.numbers.proofs.Tested.{left, right}
 use Rattle.frames.specs.Passages.{UnderWay, nothing, first, Sub, none, gone, stays}
-use Rattle.frames.specs.Sender.{sent_one, passages_over, going_over}
+use Rattle.frames.specs.Sender.{sent_one, passages_over}
 use Rattle.frames.proofs.Sub.{sub_all, sub_append}
 use Rattle.frames.proofs.Passages.{finished_append}
 use Rattle.wire.specs.Messages.{Message, report, reply, message_bytes}
@@ -35,9 +35,9 @@ use Rattle.ballbox.proofs.Remembering.{remembered_length}
 use Rattle.ballbox.proofs.Parts.{parts}
 use Rattle.ballbox.proofs.Refusals.{ruled, refused_next}
 use Rattle.ballbox.proofs.Obeying.{dropped_settings}
-use Rattle.history.specs.History.{latched_now, begun, paired_at, is_five, unsent_reply, when_awake, told_by, next_box, passages_of, going_after}
+use Rattle.history.specs.History.{latched_now, begun, paired_at, is_five, unsent_reply, when_awake, told_by, next_box, passages_of}
 use Rattle.history.specs.Asked.{hosts_pass, all_hosts}
-use Rattle.history.specs.Presses.{buttons_told, empties, none_empties, change_to, changes_in, in_place_of_last, noting, states_over, shown_in, shown_by, box_after}
+use Rattle.history.specs.Presses.{buttons_told, empties, none_empties, change_to, changes_in, in_place_of_last, noting, states_over, shown_in, shown_by}
 use Rattle.history.proofs.Bridge.{told_is}
 use Rattle.history.proofs.Asking.{refused_told}
 use Rattle.history.proofs.Presses.{Streams, Step, streams_step}

@@ -1,5 +1,4 @@
 -- What a port tells, as C has it: a count and a word, 0 where there is none.
-use Rattle.std.specs.Prelude.{ℕ}
 use Rattle.port.specs.declared.Port.{Port}
 use Rattle.port.specs.declared.Given.{Given}
 use Rattle.port.specs.declared.Given.TheVariants.{Nothing, Word}

@@ -1,5 +1,4 @@
 -- Worked runs of a port: marks, bit 7, silences and losses.
-use Prim.Native.Nat.{ℕ}
 use mathlib.Core.Path.{◌≡◌, refl}
 use mathlib.Core.List.{List, [], ◌∷◌, ◌++◌}
 use Rattle.numbers.specs.Bits.{number, bit, bits}

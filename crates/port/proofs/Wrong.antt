@@ -1,6 +1,6 @@
 -- Wrong answers, two for each promise, that it does not permit.
 use Prim.Native.Nat.{ℕ}
-use mathlib.Core.Path.{◌≡◌, ap}
+use mathlib.Core.Path.{ap}
 use mathlib.Core.List.{List, [], ◌∷◌}
 use native.Mathlib.Omega.{arith}
 use Rattle.numbers.specs.Bits.{number, bit, bits}
@@ -8,13 +8,12 @@ use Rattle.fold.specs.Fold.{run}
 use Rattle.fold.specs.Calls.{call, sum}
 use Rattle.fold.specs.Calls as calls
 use Rattle.port.specs.Marks.{port, opened, cleared, plain, behind_mark, byte_of, quiet_of}
-use Rattle.port.specs.Line.{words_in, Long}
+use Rattle.port.specs.Line.{Long}
 use Rattle.port.specs.Promises.{FreshPromise, ClearingPromise, BytePromise, QuietPromise, LostPromise, BytesPromise}
 use Rattle.port.specs.declared.Port.{Port}
 use Rattle.port.specs.declared.Given.{Given}
 use Rattle.port.specs.declared.Given.TheVariants.{Nothing, Word}
 use Rattle.port.specs.declared.Heard.{Heard}
-use Rattle.port.specs.declared.Words.{Words}
 
 -- which word was told; 0 stands for none
 abbrev word_in : Given → ℕ

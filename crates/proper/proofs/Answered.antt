@@ -15,7 +15,7 @@ use Rattle.wire.specs.Line.{letter_of, known}
 use Rattle.wire.specs.Numbers.{success, bad_word}
 use Rattle.wire.specs.declared.Format.{Format}
 use Rattle.wire.proofs.Letters.{letter_named}
-use Rattle.ballbox.specs.Box.{Step, fresh_box, dormant}
+use Rattle.ballbox.specs.Box.{fresh_box, dormant}
 use Rattle.ballbox.specs.Good.{good}
 use Rattle.ballbox.specs.Promises.{FreshPromise, StepPromise}
 use Rattle.ballbox.specs.declared.BallBox.{BallBox}

@@ -17,7 +17,6 @@ use Rattle.wire.specs.Messages.{Message, message_bytes, latched_in}
 use Rattle.wire.specs.declared.Report.{Report}
 use Rattle.wire.specs.declared.Format.{Format}
 use Rattle.wire.proofs.Front.{size_between}
-use Rattle.yard.specs.Stands.{stands}
 use Rattle.yard.specs.State.{none_gone}
 use Rattle.yard.specs.Rules.{sent, byte_can, silence_of, word_of}
 use Rattle.yard.specs.Log.{sendable}

@@ -3,7 +3,7 @@ use Prim.Native.Nat.{ℕ}
 use mathlib.Core.Path.{◌≡◌, sym, ◌∙◌}
 use mathlib.Core.Bool.{Bool}
 use Rattle.ballbox.specs.declared.Event.{Event}
-use Rattle.puck.specs.Promises.{outcome, MadePromise, GoodPromise, StepPromise}
+use Rattle.puck.specs.Promises.{MadePromise, GoodPromise, StepPromise}
 use Rattle.puck.specs.declared.Puck.{Puck}
 use Rattle.puck.specs.declared.PuckStepped.{PuckStepped}
 

@@ -15,7 +15,7 @@ use Rattle.ballbox.proofs.Single as single
 use Rattle.puck.specs.Device.{testing, Step}
 use Rattle.puck.specs.Rules.{letter_t, as_box, by_box, by_t, test_byte, in_test, out_of_test, rules}
 use Rattle.puck.specs.Good.{good}
-use Rattle.puck.specs.Promises.{outcome, stepped, step_of, StepPromise}
+use Rattle.puck.specs.Promises.{outcome, step_of, StepPromise}
 use Rattle.puck.specs.declared.Puck.{Puck}
 use Rattle.puck.specs.declared.PuckStepped.{PuckStepped}
 

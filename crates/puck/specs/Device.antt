@@ -1,5 +1,5 @@
 -- The device: a box in S, and beside it its self-test, its revision and its maker.
-use Rattle.std.specs.Prelude.{ℕ, ◌%◌, Bool, false, cond, List, [], eqb, ltb}
+use Rattle.std.specs.Prelude.{ℕ, ◌%◌, Bool, cond, List, [], eqb, ltb}
 use Rattle.wire.specs.Line.{letter_of}
 use Rattle.wire.specs.declared.Format.TheVariants.{Mm}
 use Rattle.ballbox.specs.Box.{mode_d, zeros, nothing}

@@ -31,7 +31,7 @@ use Rattle.history.proofs.Asking.{Asks, Asking, set_sound, asked_step}
 use Rattle.vsxxx.specs.SelfTests.{test_bytes, holds_test}
 use Rattle.vsxxx.specs.Reports.{PuckMessage, of_box_lem, of_test, puck_bytes, HeldByPuck}
 use Rattle.vsxxx.proofs.Bytes.{bytes_are, room_holds}
-use Rattle.puck.specs.Device.{test, with_test, powered_box, powered, made, test_now, Step}
+use Rattle.puck.specs.Device.{with_test, powered_box, powered, made, test_now, Step}
 use Rattle.puck.specs.Rules.{letter_t, as_box, by_box, by_t, less_one, test_byte, in_test, out_of_test, rules}
 use Rattle.puck.specs.Good.{good}
 use Rattle.puck.specs.Promises.{step_of, MadePromise}

@@ -19,7 +19,7 @@ use Rattle.salvaged.specs.Log.{log_of}
 use Rattle.salvaged.specs.Items.{item_of, items_of}
 use Rattle.salvaged.specs.Writing.{Written, written, start, add_all}
 use Rattle.salvaged.specs.Listing.{item_line, lines_of, text_of, salvage_of}
-use Rattle.salvaged.specs.Promises.{Whole, whole, told, list_of, ListPromise}
+use Rattle.salvaged.specs.Promises.{Whole, told, list_of, ListPromise}
 use Rattle.salvaged.specs.Whole.{Account, enough, AllThere}
 use Rattle.salvaged.specs.declared.Salvaged.{Salvaged}
 use Rattle.salvaged.proofs.Walking.{opening_few, items_lines}

@@ -12,7 +12,7 @@ use Rattle.numbers.proofs.Tested.{right}
 use Rattle.text.specs.Growth.{shown, fits_at, put_of}
 use Rattle.text.specs.declared.Text.{Text}
 use Rattle.text.proofs.Laws.{text_shows, text_long, put_none}
-use Rattle.salvaged.specs.Writing.{Written, written, add, add_all, start}
+use Rattle.salvaged.specs.Writing.{Written, add, add_all, start}
 use Rattle.salvaged.specs.Walk.{Stands, Adds, AddsText}
 use Rattle.salvaged.specs.declared.Salvaged.{Salvaged}
 

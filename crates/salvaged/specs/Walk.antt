@@ -1,5 +1,5 @@
 -- The listing in a lent slice, as it is printed: lines, and a walk through the words of a log.
-use Rattle.std.specs.Prelude.{ℕ, ◌+◌, ◌%◌, ◌<◌, ◌≤◌, ◌≡◌, cond, ◌⊎◌, List, [], ◌∷◌, ◌++◌, map, length, drop, get_or, eqb}
+use Rattle.std.specs.Prelude.{ℕ, ◌%◌, ◌<◌, ◌≤◌, ◌≡◌, cond, ◌⊎◌, List, [], ◌∷◌, ◌++◌, map, length, drop, get_or, eqb}
 use Rattle.wire.specs.Line.{size_by}
 use Rattle.text.specs.Growth.{text_of}
 use Rattle.text.specs.declared.Text.{Text}

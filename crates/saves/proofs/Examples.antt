@@ -1,9 +1,9 @@
 -- Worked runs: a tap, M held when the recorder is switched on, and what a fresh watch can miss.
 use mathlib.Core.Path.{◌≡◌, refl}
-use mathlib.Core.List.{List, [], ◌∷◌}
+use mathlib.Core.List.{[], ◌∷◌}
 use Prim.Native.Nat.{ℕ}
 use lib.IntN.{pos, negsuc}
-use Rattle.wire.specs.Buttons.{left, middle, right, is_down, presses_from, presses_among}
+use Rattle.wire.specs.Buttons.{middle, is_down, presses_from, presses_among}
 use Rattle.wire.specs.Reading.{report}
 use Rattle.wire.specs.declared.Report.{Report}
 use Rattle.saves.specs.State.{watching, unaware}

@@ -1,12 +1,12 @@
 -- What a watch tells over reports is how often each button went down in them.
 use Prim.Native.Nat.{ℕ, suc, ◌+◌, ◌≤◌}
-use mathlib.Core.Path.{◌≡◌, refl, sym, ◌∙◌, ap, subst}
+use mathlib.Core.Path.{◌≡◌, refl, ◌∙◌, ap, subst}
 use mathlib.Core.Bool.{Bool, true, false, not, cond, ◌&&◌}
 use mathlib.Core.List.{List, [], ◌∷◌}
 use native.Mathlib.Omega.{arith}
 use Rattle.numbers.specs.Bits.{bit}
 use Rattle.numbers.proofs.Rows.{bit_in}
-use Rattle.wire.specs.Buttons.{Button, left, middle, right, is_down, presses, buttons_of, presses_from, presses_among}
+use Rattle.wire.specs.Buttons.{Button, left, middle, right, is_down, presses, presses_from, presses_among}
 use Rattle.wire.specs.declared.Report.{Report}
 use Rattle.saves.specs.State.{watching, unaware}
 use Rattle.saves.specs.Rules.{is_new, new_in, hears, heard_of}

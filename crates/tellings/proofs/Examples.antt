@@ -11,7 +11,6 @@ use Rattle.frames.specs.Passages as passages
 use Rattle.wire.specs.Reading.{report}
 use Rattle.wire.specs.Messages.{Message, latched_in}
 use Rattle.wire.specs.Messages as messages
-use Rattle.wire.specs.declared.Report.{Report}
 use Rattle.wire.specs.declared.Format.TheVariants.{Microsoft}
 use Rattle.reader.specs.State.{reader, ready, fresh}
 use Rattle.reader.specs.DamagedLines.{no_word}

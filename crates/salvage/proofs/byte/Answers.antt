@@ -1,6 +1,5 @@
 -- `byte`: the test of the word.
 use mathlib.Core.Path.{sym, ◌∙◌}
-use borrow.Author.Rules.{rules}
 use Rattle.salvage.proofs.byte.Goals as goal
 
 pub returns-then-is_byte : goal.returns-then-is_byte

@@ -2,7 +2,6 @@
 use mathlib.Core.Path.{sym, ◌∙◌}
 use native.Mathlib.Omega.{arith}
 use borrow.Author.Tests.{leb-true}
-use borrow.Author.Rules.{rules}
 use Rattle.salvage.specs.Picking.{fits_word}
 use Rattle.salvage.proofs.fits_word.Goals as goal
 

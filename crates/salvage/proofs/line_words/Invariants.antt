@@ -1,12 +1,9 @@
 -- `line_words`: at the loop's head the words passed have been tested, and the rest is to be.
 use Prim.Native.Nat.{◌-◌}
-use mathlib.Core.Path.{◌≡◌, refl, sym, ◌∙◌}
+use mathlib.Core.Path.{◌≡◌}
 use mathlib.Core.Bool.{◌&&◌}
-use native.Mathlib.Omega.{arith}
 use lib.ListN.{length, drop}
-use borrow.Author.Rules.{rules}
 use Rattle.frames.specs.Words.{line_words}
-use Rattle.salvage.proofs.Fitting.{line_more, line_end}
 use Rattle.salvage.proofs.line_words.Given as goal
 
 abbrev pub invariant-loop-i : goal.invariant-loop-i

@@ -5,7 +5,6 @@ use borrow.Author.Tests.{eq-eqb, ne_eqb}
 use Rattle.wire.specs.Numbers.{success}
 use Rattle.salvage.specs.Picking.{refusal_of, pick_of}
 use Rattle.salvage.proofs.Refusals.{taken, sizes, one_of_three}
-use borrow.Author.Rules.{rules}
 use Rattle.salvage.proofs.pick.Goals as goal
 
 pub returns-then-refusal-ne0 : goal.returns-then-refusal-ne0

@@ -1,14 +1,12 @@
-use Prim.Native.Nat.{◌-◌}
 use mathlib.Core.Path.{sym, ◌∙◌}
 use native.Mathlib.Omega.{arith}
-use lib.ListN.{length, get_or}
-use borrow.Author.Rules.{rules}
+use lib.ListN.{get_or}
 use Rattle.fold.proofs.Parts.{rest_is}
 use Rattle.frames.specs.Words.{is_byte}
 use Rattle.wire.specs.Line.{size_by}
 use Rattle.choosing.proofs.Walk.{reaches}
 use Rattle.salvage.specs.Picking.{valid_by}
-use Rattle.salvage.proofs.Loop.{Going, begins, long, one_at_most, run_more, word_more, stops, finishes}
+use Rattle.salvage.proofs.Loop.{begins, one_at_most, run_more, word_more, stops, finishes}
 use Rattle.salvage.proofs.pick_runs.Goals as goal
 
 pub loop-at-init : goal.loop-at-init

@@ -1,6 +1,5 @@
 -- `refusal`: the tests in their order.
 use mathlib.Core.Path.{sym, ◌∙◌}
-use borrow.Author.Rules.{rules}
 use borrow.Author.Tests.{not-true, not-false}
 use Rattle.salvage.proofs.Refusals.{unknown_first, marked_second, long_third, word_fourth, none_left}
 use Rattle.salvage.proofs.refusal.Goals as goal

@@ -1,15 +1,13 @@
-use Prim.Native.Nat.{◌-◌, ◌≤◌, ◌<◌}
+use Prim.Native.Nat.{◌≤◌, ◌<◌}
 use mathlib.Core.Path.{◌≡◌, refl, sym, ◌∙◌}
 use mathlib.Core.Bool.{true, false}
 use native.Mathlib.Omega.{arith}
-use lib.ListN.{length, take, drop, get_or}
+use lib.ListN.{length, take, get_or}
 use lib.Seq.{length-take-le, get_or-take}
-use borrow.Author.Rules.{rules}
 use borrow.Author.Tests.{not-true, not-false}
-use Rattle.wire.specs.Line.{size_by}
 use Rattle.wire.proofs.Letters.{at_most_five}
 use Rattle.salvage.specs.Picking.{fits_word}
-use Rattle.salvage.proofs.Fitting.{fit_from, fit_more, fit_end, starts_fits, starts_short}
+use Rattle.salvage.proofs.Fitting.{fit_more, fit_end, starts_fits, starts_short}
 use Rattle.salvage.proofs.run_starts.Goals as goal
 
 pub returns-then-words-size : goal.returns-then-words-size

@@ -1,16 +1,8 @@
 -- `run_starts`: at the loop's head the words passed fit their places, and the rest of the run is to be tested.
-use Prim.Native.Nat.{◌-◌, ◌≤◌, ◌<◌}
-use mathlib.Core.Path.{◌≡◌, refl, sym, ◌∙◌}
-use mathlib.Core.Bool.{true, false}
-use native.Mathlib.Omega.{arith}
-use lib.ListN.{length, take, drop, get_or}
-use lib.Seq.{length-take-le, get_or-take}
-use borrow.Author.Rules.{rules}
-use borrow.Author.Tests.{not-true, not-false}
-use Rattle.wire.specs.Line.{size_by}
-use Rattle.wire.proofs.Letters.{at_most_five}
-use Rattle.salvage.specs.Picking.{fits_word}
-use Rattle.salvage.proofs.Fitting.{fit_from, fit_more, fit_end, starts_fits, starts_short}
+use Prim.Native.Nat.{◌-◌, ◌≤◌}
+use mathlib.Core.Path.{◌≡◌}
+use lib.ListN.{length, take, drop}
+use Rattle.salvage.proofs.Fitting.{fit_from}
 use Rattle.salvage.proofs.run_starts.Given as goal
 
 abbrev pub invariant-loop-i : goal.invariant-loop-i

@@ -1,7 +1,6 @@
 -- `starts`: none of a letter that is not in the table, and then by its size.
 use mathlib.Core.Path.{sym, ◌∙◌}
 use native.Mathlib.Omega.{arith}
-use borrow.Author.Rules.{rules}
 use Rattle.salvage.proofs.Fitting.{starts_none}
 use Rattle.salvage.proofs.starts.Goals as goal
 

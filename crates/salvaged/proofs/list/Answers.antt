@@ -3,7 +3,6 @@ use mathlib.Core.Path.{sym}
 use native.Mathlib.Omega.{arith}
 use lib.Seq.{length-take-le}
 use Rattle.salvaged.specs.Promises.{list_of}
-use borrow.Author.Rules.{rules}
 use Rattle.salvaged.proofs.list.Goals as goal
 
 pub slice_bounds-print-end : goal.slice_bounds-print-end

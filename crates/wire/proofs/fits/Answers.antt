@@ -1,5 +1,4 @@
 -- `fits`: the first place or a later one.
-use borrow.Author.Rules.{rules}
 use mathlib.Core.Path.{◌∙◌}
 use Rattle.wire.proofs.Letters.{later_place}
 use Rattle.wire.proofs.fits.Goals as goal

@@ -1,5 +1,4 @@
 -- `known`: whether the letter names a format.
-use borrow.Author.Rules.{rules}
 use mathlib.Core.Path.{sym, ◌∙◌}
 use Rattle.wire.specs.Line.{known}
 use Rattle.wire.proofs.known.Goals as goal

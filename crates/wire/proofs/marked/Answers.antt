@@ -1,5 +1,4 @@
 -- `marked`: of the format that the letter names, if it names one.
-use borrow.Author.Rules.{rules}
 use mathlib.Core.Path.{sym, ◌∙◌}
 use Rattle.wire.specs.Line.{marked_by}
 use Rattle.wire.proofs.marked.Goals as goal

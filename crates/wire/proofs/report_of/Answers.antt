@@ -1,5 +1,4 @@
 -- `report_of`: of the format that the letter names, if it names one.
-use borrow.Author.Rules.{rules}
 use mathlib.Core.Path.{sym, ◌∙◌}
 use Rattle.wire.specs.Reading.{report_by}
 use Rattle.wire.proofs.report_of.Goals as goal

@@ -1,5 +1,4 @@
 -- `size`: of the format that the letter names, if it names one.
-use borrow.Author.Rules.{rules}
 use mathlib.Core.Path.{sym, ◌∙◌}
 use Rattle.wire.specs.Line.{size_by}
 use Rattle.wire.proofs.size.Goals as goal

@@ -1,6 +1,5 @@
 -- `check`: 1 for a letter that is not in the table, and then the log.
 use mathlib.Core.Path.{sym, ◌∙◌}
-use borrow.Author.Rules.{rules}
 use borrow.Author.Tests.{not-true, not-false}
 use Rattle.yard.specs.Promises.{check_of}
 use Rattle.yard.proofs.Keeps.{none_good}

@@ -1,9 +1,8 @@
 -- `buttons`: refused by either number, changed, or dormant.
-use borrow.Author.Rules.{rules}
 use borrow.Author.Tests.{not-true, not-false, eq-eqb, ne_eqb, lt-ltb, le-ltb}
-use mathlib.Core.Path.{refl, sym, ap, ◌∙◌}
+use mathlib.Core.Path.{sym, ap, ◌∙◌}
 use mathlib.Core.Bool.{true, false}
-use Rattle.ballbox.specs.Events.{quietly, on_buttons, awake, asleep}
+use Rattle.ballbox.specs.Events.{quietly, awake, asleep}
 use Rattle.ballbox.specs.Promises.{stepped}
 use Rattle.ballbox.specs.declared.BallBox.{BallBox}
 use Rattle.ballbox.specs.declared.Event.TheVariants.{Buttons}

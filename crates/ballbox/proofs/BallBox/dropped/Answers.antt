@@ -1,5 +1,4 @@
 -- `dropped`: bytes left, or none.
-use borrow.Author.Rules.{rules}
 use mathlib.Core.Path.{sym, ◌∙◌}
 use Rattle.ballbox.specs.Events.{dropped}
 use Rattle.ballbox.proofs.BallBox.dropped.Goals as goal

@@ -1,5 +1,4 @@
 -- `fresh`: part by part.
-use borrow.Author.Rules.{rules}
 use Rattle.ballbox.specs.Box.{fresh_box}
 use Rattle.ballbox.proofs.BallBox.fresh.Goals as goal
 

@@ -1,5 +1,4 @@
 -- `good`: its eight parts, each asked where those before it hold.
-use borrow.Author.Rules.{rules}
 use borrow.Author.Tests.{not-true, not-false}
 use mathlib.Core.Bool.{Bool, true, false, not, ◌&&◌}
 use mathlib.Core.Path.{◌≡◌, sym, ◌∙◌}

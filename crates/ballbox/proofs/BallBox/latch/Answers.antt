@@ -1,9 +1,8 @@
 -- `latch`: refused, latching, or dormant.
-use borrow.Author.Rules.{rules}
 use borrow.Author.Tests.{not-true, not-false, eq-eqb, ne_eqb}
 use mathlib.Core.Path.{refl, sym, ap, ◌∙◌}
 use mathlib.Core.Bool.{true, false}
-use Rattle.ballbox.specs.Events.{quietly, latching, awake, asleep}
+use Rattle.ballbox.specs.Events.{quietly, awake, asleep}
 use Rattle.ballbox.specs.Promises.{stepped}
 use Rattle.ballbox.specs.declared.BallBox.{BallBox}
 use Rattle.ballbox.specs.declared.Event.TheVariants.{Latch}

@@ -1,5 +1,4 @@
 -- `latching`: where a report is wanted.
-use borrow.Author.Rules.{rules}
 use Rattle.ballbox.specs.Events.{latching}
 use Rattle.ballbox.proofs.BallBox.latching.Goals as goal
 

@@ -1,5 +1,4 @@
 -- `next_byte`: the byte, and what is going and remembered after it.
-use borrow.Author.Rules.{rules}
 use Rattle.ballbox.specs.Events.{next_byte}
 use Rattle.ballbox.proofs.BallBox.next_byte.Goals as goal
 

@@ -1,5 +1,4 @@
 -- `obeyed`: command by command.
-use borrow.Author.Rules.{rules}
 use Rattle.ballbox.specs.Box.{going_from}
 use Rattle.ballbox.specs.Commands.{obeyed}
 use Rattle.ballbox.proofs.BallBox.obeyed.Goals as goal

@@ -1,5 +1,4 @@
 -- `on_buttons`: the same buttons, or others, in a stream mode or not.
-use borrow.Author.Rules.{rules}
 use borrow.Author.Tests.{eq-eqb, ne_eqb}
 use mathlib.Core.Path.{sym, ◌∙◌}
 use Rattle.ballbox.specs.Events.{on_buttons}

@@ -1,5 +1,4 @@
 -- `on_host`: without a break, or with one.
-use borrow.Author.Rules.{rules}
 use borrow.Author.Tests.{not-true, not-false}
 use mathlib.Core.Path.{sym, ap, ◌∙◌}
 use Rattle.ballbox.specs.Promises.{stepped}

@@ -1,5 +1,4 @@
 -- `on_motion`: counters and position alike.
-use borrow.Author.Rules.{rules}
 use lib.IntN.{ℤ}
 use mir.Syntax.{w16}
 use Rattle.ballbox.specs.Motion.{counted, counted_over, placed, moved_by}

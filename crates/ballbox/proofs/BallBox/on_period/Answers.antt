@@ -1,5 +1,4 @@
 -- `on_period`: due, or moved in a timed mode.
-use borrow.Author.Rules.{rules}
 use mathlib.Core.Bool.{◌&&◌, ◌||◌}
 use Rattle.ballbox.specs.Box.{due}
 use Rattle.ballbox.specs.Commands.{is_timed}

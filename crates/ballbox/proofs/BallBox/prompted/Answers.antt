@@ -1,5 +1,4 @@
 -- `prompted`: the memory emptied.
-use borrow.Author.Rules.{rules}
 use Rattle.ballbox.proofs.Marks.{as_number}
 use Rattle.ballbox.proofs.BallBox.prompted.Goals as goal
 

@@ -1,5 +1,4 @@
 -- `put_to_sleep`: the memory emptied.
-use borrow.Author.Rules.{rules}
 use mathlib.Core.Bool.{true, false}
 use mathlib.Core.Path.{ap}
 use Rattle.ballbox.specs.Box.{with_memory, with_due, with_dormant}

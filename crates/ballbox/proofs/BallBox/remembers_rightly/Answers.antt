@@ -1,5 +1,4 @@
 -- `remembers_rightly`: none, or awake in a stream mode.
-use borrow.Author.Rules.{rules}
 use borrow.Author.Tests.{not-true, not-false}
 use mathlib.Core.Path.{sym, ◌∙◌}
 use Rattle.ballbox.proofs.BallBox.remembers_rightly.Goals as goal

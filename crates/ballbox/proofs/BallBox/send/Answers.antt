@@ -1,5 +1,4 @@
 -- `send`: refused, or the next byte or a silence.
-use borrow.Author.Rules.{rules}
 use borrow.Author.Tests.{not-true, not-false}
 use mathlib.Core.Path.{sym, ap, ◌∙◌}
 use Rattle.ballbox.specs.Promises.{stepped}

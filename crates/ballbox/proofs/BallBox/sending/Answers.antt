@@ -1,5 +1,4 @@
 -- `sending`: bytes are left, or none.
-use borrow.Author.Rules.{rules}
 use borrow.Author.Tests.{ltb-true}
 use mathlib.Core.Path.{sym, ◌∙◌}
 use native.Mathlib.Omega.{arith}

@@ -1,5 +1,4 @@
 -- `to_show`: one is remembered, or none.
-use borrow.Author.Rules.{rules}
 use mathlib.Core.Path.{sym, ◌∙◌}
 use Rattle.ballbox.specs.Presses.{to_show}
 use Rattle.ballbox.proofs.BallBox.to_show.Goals as goal

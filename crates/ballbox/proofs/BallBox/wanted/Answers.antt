@@ -1,5 +1,4 @@
 -- `wanted`: due, or one remembered, or moved in mode O.
-use borrow.Author.Rules.{rules}
 use Rattle.ballbox.proofs.BallBox.wanted.Goals as goal
 
 pub returns : goal.returns

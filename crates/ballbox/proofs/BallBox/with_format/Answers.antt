@@ -1,5 +1,4 @@
 -- `with_format`: the track cleared, the memory emptied.
-use borrow.Author.Rules.{rules}
 use mathlib.Core.Bool.{false}
 use mathlib.Core.Path.{ap, ◌∙◌}
 use Rattle.ballbox.specs.Box.{with_format, with_track, with_memory, with_due}

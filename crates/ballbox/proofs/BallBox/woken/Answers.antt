@@ -1,5 +1,4 @@
 -- `woken`: an ACK.
-use borrow.Author.Rules.{rules}
 use Rattle.ballbox.specs.Box.{going_from}
 use Rattle.ballbox.specs.Events.{woken}
 use Rattle.ballbox.proofs.BallBox.woken.Goals as goal

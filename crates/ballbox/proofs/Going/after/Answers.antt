@@ -1,5 +1,4 @@
 -- `after`: bytes are left behind the next, or none.
-use borrow.Author.Rules.{rules}
 use mathlib.Core.Path.{sym, ◌∙◌}
 use Rattle.ballbox.specs.Events.{after}
 use Rattle.ballbox.proofs.Going.after.Goals as goal

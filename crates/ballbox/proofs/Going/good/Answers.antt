@@ -1,5 +1,4 @@
 -- `good`: its four rules.
-use borrow.Author.Rules.{rules}
 use Rattle.ballbox.specs.Good.{good_going}
 use Rattle.ballbox.proofs.Joined.{empty_going}
 use Rattle.ballbox.proofs.Going.good.Goals as goal

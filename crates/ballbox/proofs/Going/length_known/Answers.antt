@@ -1,5 +1,4 @@
 -- `length_known`: the size is the wire's.
-use borrow.Author.Rules.{rules}
 use Rattle.ballbox.proofs.Going.length_known.Goals as goal
 
 pub returns : goal.returns

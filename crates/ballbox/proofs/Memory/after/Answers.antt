@@ -1,5 +1,4 @@
 -- `after`: bytes are left behind the next, or none.
-use borrow.Author.Rules.{rules}
 use mathlib.Core.Path.{sym, ◌∙◌}
 use Rattle.ballbox.specs.Events.{memory_after}
 use Rattle.ballbox.proofs.Memory.after.Goals as goal

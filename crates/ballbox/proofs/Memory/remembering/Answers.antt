@@ -1,5 +1,4 @@
 -- `remembering`: behind the newest, or in its place.
-use borrow.Author.Rules.{rules}
 use borrow.Author.Tests.{le-leb, lt-leb}
 use Rattle.ballbox.specs.Presses.{remembering}
 use Rattle.ballbox.proofs.Memory.remembering.Goals as goal

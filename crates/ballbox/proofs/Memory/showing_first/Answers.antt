@@ -1,5 +1,4 @@
 -- `showing_first`: whether one is remembered.
-use borrow.Author.Rules.{rules}
 use Rattle.ballbox.proofs.Marks.{as_number}
 use Rattle.ballbox.specs.Presses.{any_remembered, showing_first}
 use Rattle.ballbox.proofs.Memory.showing_first.Goals as goal

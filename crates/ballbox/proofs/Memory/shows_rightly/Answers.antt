@@ -1,5 +1,4 @@
 -- `shows_rightly`: the size is the wire's.
-use borrow.Author.Rules.{rules}
 use borrow.Author.Tests.{eq-eqb, ne_eqb}
 use Rattle.ballbox.proofs.Memory.shows_rightly.Goals as goal
 

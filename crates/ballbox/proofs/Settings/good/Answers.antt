@@ -1,5 +1,4 @@
 -- `good`: letter, mode and buttons.
-use borrow.Author.Rules.{rules}
 use Rattle.ballbox.specs.Good.{good_settings}
 use Rattle.ballbox.proofs.Settings.good.Goals as goal
 

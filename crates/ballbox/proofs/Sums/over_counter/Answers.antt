@@ -1,5 +1,4 @@
 -- `over_counter`: one of the two kinds.
-use borrow.Author.Rules.{rules}
 use Rattle.ballbox.proofs.Sums.over_counter.Goals as goal
 
 pub returns : goal.returns

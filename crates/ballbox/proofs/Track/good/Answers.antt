@@ -1,5 +1,4 @@
 -- `good`: two places on the pad.
-use borrow.Author.Rules.{rules}
 use Rattle.ballbox.specs.Good.{good_track}
 use Rattle.ballbox.proofs.Track.good.Goals as goal
 

@@ -1,5 +1,4 @@
 -- `has_moved`: by the format.
-use borrow.Author.Rules.{rules}
 use borrow.Author.Tests.{eq-eqb, ne_eqb}
 use Rattle.ballbox.specs.Motion.{has_moved}
 use Rattle.ballbox.proofs.Track.has_moved.Goals as goal

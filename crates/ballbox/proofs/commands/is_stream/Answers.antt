@@ -1,5 +1,4 @@
 -- `is_stream`: a timed mode or O.
-use borrow.Author.Rules.{rules}
 use Rattle.ballbox.proofs.commands.is_stream.Goals as goal
 
 pub returns : goal.returns

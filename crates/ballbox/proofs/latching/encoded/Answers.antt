@@ -1,5 +1,4 @@
 -- `encoded`: an accepted report is written.
-use borrow.Author.Rules.{rules}
 use mathlib.Core.Path.{ap, ◌∙◌}
 use Rattle.ballbox.proofs.Accepting.{encoded_bytes}
 use Rattle.wire.specs.Encoder.{Encoding}

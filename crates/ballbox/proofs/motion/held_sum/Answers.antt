@@ -1,5 +1,4 @@
 -- `held_sum`: the sum in 32 bits, held.
-use borrow.Author.Rules.{rules}
 use lib.IntN.{◌+ℤ◌}
 use mathlib.Core.Path.{ap, ◌∙◌}
 use mir.Syntax.{w16, w32}

@@ -1,5 +1,4 @@
 -- No newline is lacking, or one.
-use borrow.Author.Rules.{rules}
 use borrow.Author.Tests.{eq-eqb, ne_eqb}
 use Rattle.driver.proofs.Driver.closed.Goals as goal
 

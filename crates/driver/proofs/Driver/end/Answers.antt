@@ -1,5 +1,4 @@
 -- The end of the input: no first line, or none is missing.
-use borrow.Author.Rules.{rules}
 use native.Mathlib.Omega.{arith}
 use Rattle.driver.specs.Feeding.{end_of}
 use Rattle.driver.proofs.Feeds.{end_records}

@@ -1,5 +1,4 @@
 -- 6 for a driver that is not good, and then the ticks.
-use borrow.Author.Rules.{rules}
 use mathlib.Core.Path.{sym, ◌∙◌}
 use borrow.Author.Tests.{not-true, not-false}
 use Rattle.driver.proofs.Feeds.{feed_refused, feed_good}

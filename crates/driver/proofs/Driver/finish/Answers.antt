@@ -1,5 +1,4 @@
 -- 6 for a driver that is not good; then the newline that the last line lacks, and the end.
-use borrow.Author.Rules.{rules}
 use native.Mathlib.Omega.{arith}
 use Prim.Native.Nat.{◌+◌}
 use mathlib.Core.Path.{sym, ◌∙◌, ap}
@@ -7,7 +6,7 @@ use borrow.Author.Tests.{not-true, not-false}
 use Rattle.driver.specs.declared.Turn.{Turn}
 use Rattle.driver.specs.declared.Driver.{Driver}
 use Rattle.driver.proofs.Feeds.{answer_of, finish_refused}
-use Rattle.driver.proofs.Closing.{finish_long, finish_lacks, finish_stops, finish_room, finish_goes}
+use Rattle.driver.proofs.Closing.{finish_lacks, finish_stops, finish_room, finish_goes}
 use Rattle.driver.proofs.Driver.finish.Goals as goal
 
 pub returns-then-not-good : goal.returns-then-not-good

@@ -1,5 +1,4 @@
 -- At the first line, with a fresh box.
-use borrow.Author.Rules.{rules}
 use mathlib.Core.Path.{◌∙◌, ap}
 use mathlib.Core.Bool.{false}
 use Rattle.driver.specs.Feeding.{at_line}

@@ -1,5 +1,4 @@
 -- The lines, the bytes, the slots and the box.
-use borrow.Author.Rules.{rules}
 use Rattle.driver.specs.Feeding.{good}
 use Rattle.driver.proofs.Driver.good.Goals as goal
 

@@ -1,5 +1,4 @@
 -- A slot, and its word.
-use borrow.Author.Rules.{rules}
 use mathlib.Core.Path.{ap}
 use Rattle.ballbox.specs.Box.{Step}
 use Rattle.driver.specs.Feeding.{slot_of}

@@ -1,5 +1,4 @@
 -- A whole line: ended, the last, or one that has passed.
-use borrow.Author.Rules.{rules}
 use native.Mathlib.Omega.{arith}
 use mathlib.Core.Path.{◌∙◌, ap, sym}
 use Rattle.driver.specs.Driving.{Leaves}

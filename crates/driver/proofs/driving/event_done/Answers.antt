@@ -1,5 +1,4 @@
 -- Obeyed, or refused.
-use borrow.Author.Rules.{rules}
 use native.Mathlib.Omega.{arith}
 use borrow.Author.Tests.{eq-eqb, ne_eqb}
 use Rattle.driver.proofs.driving.event_done.Goals as goal

@@ -1,5 +1,4 @@
 -- The format, or a bad line.
-use borrow.Author.Rules.{rules}
 use mathlib.Core.Path.{ap}
 use Rattle.ballbox.specs.declared.Stepped.{Stepped}
 use Rattle.driver.proofs.driving.first_line.Goals as goal

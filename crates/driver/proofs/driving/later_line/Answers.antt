@@ -1,5 +1,4 @@
 -- A line behind the first, by what it says.
-use borrow.Author.Rules.{rules}
 use mathlib.Core.Path.{◌∙◌, ap}
 use Rattle.ballbox.proofs.Single.{says}
 use Rattle.driver.specs.Driving.{event_done, slots}

@@ -1,5 +1,4 @@
 -- A line too many, the first, or a later one.
-use borrow.Author.Rules.{rules}
 use borrow.Author.Tests.{eq-eqb, ne_eqb, le-leb, lt-leb}
 use Rattle.driver.specs.Driving.{line_done}
 use Rattle.driver.proofs.driving.line_done.Goals as goal

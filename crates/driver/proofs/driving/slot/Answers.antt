@@ -1,5 +1,4 @@
 -- A Latch, and then a Send.
-use borrow.Author.Rules.{rules}
 use mathlib.Core.Path.{◌∙◌, ap}
 use Rattle.ballbox.specs.Promises.{step_of}
 use Rattle.ballbox.specs.declared.Event.TheVariants.{Send}

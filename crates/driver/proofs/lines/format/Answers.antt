@@ -1,5 +1,4 @@
 -- A letter of the table, and no more.
-use borrow.Author.Rules.{rules}
 use mathlib.Core.Path.{sym, ◌∙◌}
 use Rattle.driver.proofs.Reading.{one_letter, no_letter}
 use Rattle.driver.proofs.lines.format.Goals as goal

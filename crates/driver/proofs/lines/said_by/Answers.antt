@@ -1,5 +1,4 @@
 -- What a line says, by its length and the byte behind its letter.
-use borrow.Author.Rules.{rules}
 use mathlib.Core.Path.{◌∙◌, ap}
 use borrow.Author.Tests.{eq-eqb, ne_eqb}
 use Rattle.fold.proofs.Parts.{rest_is}

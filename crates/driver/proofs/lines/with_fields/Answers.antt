@@ -1,5 +1,4 @@
 -- A letter, and its own fields.
-use borrow.Author.Rules.{rules}
 use borrow.Author.Tests.{ne_eqb}
 use Rattle.driver.specs.Lines.{with_fields}
 use Rattle.driver.proofs.lines.with_fields.Goals as goal

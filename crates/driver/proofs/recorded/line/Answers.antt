@@ -1,5 +1,4 @@
 -- A record and a newline, or nothing.
-use borrow.Author.Rules.{rules}
 use native.Mathlib.Omega.{arith}
 use Rattle.driver.proofs.Feeds.{one_line}
 use Rattle.driver.proofs.recorded.line.Goals as goal

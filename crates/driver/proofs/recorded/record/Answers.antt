@@ -1,5 +1,4 @@
 -- The format, a word, or how it ended.
-use borrow.Author.Rules.{rules}
 use native.Mathlib.Omega.{arith}
 use mathlib.Core.Path.{◌∙◌}
 use lib.IntN.{pos}

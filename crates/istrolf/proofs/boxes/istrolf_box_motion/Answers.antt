@@ -1,5 +1,4 @@
 -- The motion as it was handed in.
-use borrow.Author.Rules.{rules}
 use mir.Syntax.{w16}
 use Rattle.ballbox.specs.declared.Event.TheVariants.{Motion}
 use Rattle.numbers.proofs.Machine.{passed}

@@ -1,5 +1,4 @@
 -- The fresh bridge packed.
-use borrow.Author.Rules.{rules}
 use Rattle.istrolf.proofs.bridges.istrolf_bridge_fresh.Goals as goal
 
 pub returns : goal.returns

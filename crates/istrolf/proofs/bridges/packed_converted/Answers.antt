@@ -1,5 +1,4 @@
 -- The next bridge packed.
-use borrow.Author.Rules.{rules}
 use Rattle.istrolf.proofs.bridges.packed_converted.Goals as goal
 
 pub returns : goal.returns

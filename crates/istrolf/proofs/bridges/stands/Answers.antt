@@ -1,5 +1,4 @@
 -- The reader's mark too.
-use borrow.Author.Rules.{rules}
 use Rattle.istrolf.proofs.bridges.stands.Goals as goal
 
 pub returns : goal.returns

@@ -1,5 +1,4 @@
 -- The answer's two numbers.
-use borrow.Author.Rules.{rules}
 use Rattle.istrolf.proofs.encoder.istrolf_encode.Goals as goal
 
 pub returns : goal.returns

@@ -1,5 +1,4 @@
 -- The fresh lister packed.
-use borrow.Author.Rules.{rules}
 use Rattle.istrolf.proofs.listers.istrolf_lister_fresh.Goals as goal
 
 pub returns : goal.returns

@@ -1,5 +1,4 @@
 -- The marks as numbers.
-use borrow.Author.Rules.{rules}
 use Rattle.ballbox.proofs.Marks.{as_number}
 use Rattle.istrolf.proofs.listers.packed.Goals as goal
 

@@ -1,5 +1,4 @@
 -- The mark as a number, and the next lister packed.
-use borrow.Author.Rules.{rules}
 use Rattle.ballbox.proofs.Marks.{as_number}
 use Rattle.istrolf.proofs.listers.packed_listed.Goals as goal
 

@@ -1,5 +1,4 @@
 -- The reader unpacked.
-use borrow.Author.Rules.{rules}
 use Rattle.istrolf.proofs.listers.unpacked.Goals as goal
 
 pub returns : goal.returns

@@ -1,5 +1,4 @@
 -- What the port tells, packed.
-use borrow.Author.Rules.{rules}
 use Rattle.istrolf.proofs.ports.istrolf_port_byte.Goals as goal
 
 pub returns : goal.returns

@@ -1,5 +1,4 @@
 -- By whether a word is told.
-use borrow.Author.Rules.{rules}
 use Rattle.istrolf.proofs.ports.packed.Goals as goal
 
 pub returns-in-Nothing : goal.returns-in-Nothing

@@ -1,5 +1,4 @@
 -- The read below, packed.
-use borrow.Author.Rules.{rules}
 use mathlib.Core.Path.{ap, ◌∙◌}
 use Rattle.istrolf.specs.Pucks.{whole}
 use Rattle.istrolf.specs.declared.ReadPuckWords.{ReadPuckWords}

@@ -1,5 +1,4 @@
 -- The step below, packed.
-use borrow.Author.Rules.{rules}
 use mathlib.Core.Path.{ap, ◌∙◌}
 use Rattle.puckreader.proofs.Permitted.{step_is}
 use Rattle.istrolf.specs.Pucks.{packed_read}

@@ -1,5 +1,4 @@
 -- The fresh reader packed.
-use borrow.Author.Rules.{rules}
 use Rattle.istrolf.proofs.readers.istrolf_reader_fresh.Goals as goal
 
 pub returns : goal.returns

@@ -1,5 +1,4 @@
 -- The mark as a number.
-use borrow.Author.Rules.{rules}
 use Prim.Native.Nat.{ℕ}
 use mathlib.Core.Path.{ap}
 use Rattle.ballbox.proofs.Marks.{as_number}

@@ -1,5 +1,4 @@
 -- By the answer.
-use borrow.Author.Rules.{rules}
 use Rattle.istrolf.proofs.readers.packed_read.Goals as goal
 
 pub returns-in-Nothing : goal.returns-in-Nothing

@@ -1,5 +1,4 @@
 -- The next reader packed.
-use borrow.Author.Rules.{rules}
 use Rattle.istrolf.proofs.readers.packed_reading.Goals as goal
 
 pub returns : goal.returns

@@ -1,5 +1,4 @@
 -- The old reader and no report.
-use borrow.Author.Rules.{rules}
 use Rattle.istrolf.proofs.readers.refused_read.Goals as goal
 
 pub returns : goal.returns

@@ -3,7 +3,6 @@ use mathlib.Core.Path.{ap, ◌∙◌}
 use Rattle.istrolf.specs.Salvages.{whole, packed_whole}
 use Rattle.istrolf.specs.Promises.{salvage_of}
 use Rattle.istrolf.specs.declared.SalvagedBytes.{SalvagedBytes}
-use borrow.Author.Rules.{rules}
 use Rattle.istrolf.proofs.salvages.istrolf_salvage_list.Goals as goal
 
 pub returns : goal.returns

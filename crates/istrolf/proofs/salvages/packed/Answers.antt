@@ -1,5 +1,4 @@
 -- The mark as a number.
-use borrow.Author.Rules.{rules}
 use Rattle.ballbox.proofs.Marks.{as_number}
 use Rattle.istrolf.proofs.salvages.packed.Goals as goal
 

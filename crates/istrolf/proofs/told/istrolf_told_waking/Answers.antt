@@ -1,5 +1,4 @@
 -- 6 for what stands for no reader, and then the telling below.
-use borrow.Author.Rules.{rules}
 use mathlib.Core.Path.{ap, sym, ◌∙◌}
 use borrow.Author.Tests.{not-true, not-false}
 use Rattle.replies.specs.declared.ToldReader.{ToldReader}

@@ -1,5 +1,4 @@
 -- By the answer.
-use borrow.Author.Rules.{rules}
 use Rattle.istrolf.proofs.told.own.Goals as goal
 
 pub returns-in-Nothing : goal.returns-in-Nothing

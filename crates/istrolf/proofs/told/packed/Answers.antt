@@ -1,5 +1,4 @@
 -- The report reader packed, and the number of the reply.
-use borrow.Author.Rules.{rules}
 use Rattle.istrolf.proofs.told.packed.Goals as goal
 
 pub returns : goal.returns

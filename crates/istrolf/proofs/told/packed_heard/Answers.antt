@@ -1,5 +1,4 @@
 -- Reply, answer and next reader packed.
-use borrow.Author.Rules.{rules}
 use Rattle.istrolf.proofs.told.packed_heard.Goals as goal
 
 pub returns : goal.returns

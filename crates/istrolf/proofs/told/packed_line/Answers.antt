@@ -1,5 +1,4 @@
 -- Reply and next reader packed.
-use borrow.Author.Rules.{rules}
 use Rattle.istrolf.proofs.told.packed_line.Goals as goal
 
 pub returns : goal.returns

@@ -1,5 +1,4 @@
 -- By what became of the reply.
-use borrow.Author.Rules.{rules}
 use Rattle.istrolf.proofs.told.packed_reply.Goals as goal
 
 pub returns-in-Nothing : goal.returns-in-Nothing

@@ -1,5 +1,4 @@
 -- The old reader, no reply and no report.
-use borrow.Author.Rules.{rules}
 use Rattle.istrolf.proofs.told.refused_heard.Goals as goal
 
 pub returns : goal.returns

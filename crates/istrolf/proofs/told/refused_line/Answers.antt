@@ -1,5 +1,4 @@
 -- The old reader and no reply.
-use borrow.Author.Rules.{rules}
 use Rattle.istrolf.proofs.told.refused_line.Goals as goal
 
 pub returns : goal.returns

@@ -1,5 +1,4 @@
 -- The report reader, and a number of a reply.
-use borrow.Author.Rules.{rules}
 use Rattle.istrolf.proofs.told.stands.Goals as goal
 
 pub returns : goal.returns

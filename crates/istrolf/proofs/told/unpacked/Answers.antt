@@ -1,5 +1,4 @@
 -- The report reader unpacked, and the reply of the number.
-use borrow.Author.Rules.{rules}
 use Rattle.istrolf.proofs.told.unpacked.Goals as goal
 
 pub returns : goal.returns

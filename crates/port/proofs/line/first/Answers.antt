@@ -1,5 +1,4 @@
 -- `first`: nothing given, a word without room, a word with room.
-use borrow.Author.Rules.{rules}
 use native.Mathlib.Omega.{arith}
 use Rattle.port.proofs.Loop.{stopping, taking}
 use Rattle.port.proofs.line.first.Goals as goal

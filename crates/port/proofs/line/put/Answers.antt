@@ -1,5 +1,4 @@
 -- `put`: one store at the front.
-use borrow.Author.Rules.{rules}
 use mathlib.Core.List.{[], ◌∷◌}
 use lib.Seq.{sets-eq}
 use Rattle.port.proofs.line.put.Goals as goal

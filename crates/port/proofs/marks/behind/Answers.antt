@@ -1,5 +1,4 @@
 -- `behind`: FF, 0, or another byte.
-use borrow.Author.Rules.{rules}
 use borrow.Author.Tests.{eq-eqb, ne_eqb}
 use Rattle.port.specs.Marks.{behind_mark}
 use Rattle.port.proofs.marks.behind.Goals as goal

@@ -1,5 +1,4 @@
 -- `byte_of`: by what is held of a mark.
-use borrow.Author.Rules.{rules}
 use borrow.Author.Tests.{eq-eqb, ne_eqb}
 use Rattle.port.specs.Marks.{byte_of}
 use Rattle.port.proofs.marks.byte_of.Goals as goal

@@ -1,5 +1,4 @@
 -- `plain`: FF, or another byte.
-use borrow.Author.Rules.{rules}
 use borrow.Author.Tests.{eq-eqb, ne_eqb}
 use Rattle.port.specs.Marks.{plain}
 use Rattle.port.proofs.marks.plain.Goals as goal

@@ -1,5 +1,4 @@
 -- `quiet_of`: told already, not yet, or now.
-use borrow.Author.Rules.{rules}
 use borrow.Author.Tests.{eq-eqb, ne_eqb, lt-ltb, le-ltb}
 use Rattle.port.specs.Marks.{quiet_of}
 use Rattle.port.proofs.marks.quiet_of.Goals as goal

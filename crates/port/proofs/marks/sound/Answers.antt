@@ -1,5 +1,4 @@
 -- `sound`: what `cleared` gives.
-use borrow.Author.Rules.{rules}
 use Rattle.port.proofs.marks.sound.Goals as goal
 
 pub returns : goal.returns

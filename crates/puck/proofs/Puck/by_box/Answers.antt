@@ -1,5 +1,4 @@
 -- `by_box`: the box's answer, with the device around it.
-use borrow.Author.Rules.{rules}
 use mathlib.Core.Path.{◌∙◌, ap}
 use Rattle.ballbox.specs.Promises.{stepped, step_of}
 use Rattle.ballbox.specs.declared.Event.{Event}

@@ -1,5 +1,4 @@
 -- `by_t`: with a break, or without.
-use borrow.Author.Rules.{rules}
 use mathlib.Core.Path.{◌∙◌}
 use borrow.Author.Tests.{lt-ltb, le-ltb}
 use Rattle.puck.specs.Rules.{by_t}

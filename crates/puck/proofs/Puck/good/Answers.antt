@@ -1,5 +1,4 @@
 -- `good`: its five parts.
-use borrow.Author.Rules.{rules}
 use Rattle.puck.specs.Good.{good}
 use Rattle.puck.proofs.Puck.good.Goals as goal
 

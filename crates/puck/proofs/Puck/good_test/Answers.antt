@@ -1,5 +1,4 @@
 -- `good_test`: none, or some while the box rests.
-use borrow.Author.Rules.{rules}
 use Rattle.puck.specs.Good.{good_test}
 use Rattle.puck.proofs.Puck.good_test.Goals as goal
 

@@ -1,5 +1,4 @@
 -- `in_test`: event by event.
-use borrow.Author.Rules.{rules}
 use mathlib.Core.Path.{◌∙◌}
 use Rattle.puck.specs.Rules.{in_test}
 use Rattle.puck.proofs.Puck.in_test.Goals as goal

@@ -1,5 +1,4 @@
 -- `out_of_test`: event by event.
-use borrow.Author.Rules.{rules}
 use mathlib.Core.Path.{◌∙◌}
 use borrow.Author.Tests.{eq-eqb, ne_eqb}
 use Rattle.puck.specs.Rules.{out_of_test}

@@ -1,5 +1,4 @@
 -- `test_byte`: the byte, and one less to send.
-use borrow.Author.Rules.{rules}
 use Rattle.puck.specs.Rules.{test_byte}
 use Rattle.puck.proofs.Puck.test_byte.Goals as goal
 

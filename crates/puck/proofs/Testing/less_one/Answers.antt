@@ -1,5 +1,4 @@
 -- `less_one`: the last byte, or another.
-use borrow.Author.Rules.{rules}
 use borrow.Author.Tests.{le-leb, lt-leb}
 use Rattle.puck.proofs.Testing.less_one.Goals as goal
 

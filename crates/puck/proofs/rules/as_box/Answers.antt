@@ -1,5 +1,4 @@
 -- `as_box`: event by event.
-use borrow.Author.Rules.{rules}
 use mathlib.Core.Path.{◌∙◌, sym}
 use Rattle.puck.proofs.rules.as_box.Goals as goal
 

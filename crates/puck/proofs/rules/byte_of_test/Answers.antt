@@ -1,5 +1,4 @@
 -- `byte_of_test`: the rows of the figure, as sums.
-use borrow.Author.Rules.{rules}
 use Prim.Native.Nat.{◌-◌}
 use mathlib.Core.Path.{◌≡◌}
 use native.Mathlib.Omega.{arith}

@@ -1,5 +1,4 @@
 -- `powered`: the box, and beside it the self-test.
-use borrow.Author.Rules.{rules}
 use Rattle.puck.specs.Device.{powered}
 use Rattle.puck.proofs.rules.powered.Goals as goal
 

@@ -1,5 +1,4 @@
 -- `byte`: by the rules.
-use borrow.Author.Rules.{rules}
 use mathlib.Core.Path.{◌∙◌, sym}
 use Rattle.puckreader.proofs.Word.{byte_is}
 use Rattle.puckreader.proofs.PuckReader.byte.Goals as goal

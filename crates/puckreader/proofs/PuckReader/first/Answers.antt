@@ -1,5 +1,4 @@
 -- `first`: each case of the word's answer.
-use borrow.Author.Rules.{rules}
 use native.Mathlib.Omega.{arith}
 use Rattle.puckreader.proofs.Loop.{stopping, taking}
 use Rattle.puckreader.proofs.PuckReader.first.Goals as goal

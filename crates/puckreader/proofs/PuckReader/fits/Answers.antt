@@ -1,5 +1,4 @@
 -- `fits`: at the first place, or behind a first byte.
-use borrow.Author.Rules.{rules}
 use Rattle.puckreader.proofs.Word.{fits_first, fits_later}
 use Rattle.puckreader.proofs.Kept.{held}
 use Rattle.puckreader.proofs.PuckReader.fits.Goals as goal

@@ -1,5 +1,4 @@
 -- `keep`: by how many are kept.
-use borrow.Author.Rules.{rules}
 use mathlib.Core.Path.{◌∙◌, sym}
 use Rattle.puckreader.proofs.Kept.{held}
 use Rattle.puckreader.proofs.Word.{kept_first, kept_second, kept_third, kept_move, kept_last}

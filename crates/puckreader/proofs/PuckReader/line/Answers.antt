@@ -1,13 +1,10 @@
 use Prim.Native.Nat.{◌-◌, ◌+◌, ◌*◌}
-use mathlib.Core.Path.{◌∙◌, ap, ◌≡◌}
-use mathlib.Core.Bool.{true}
+use mathlib.Core.Path.{◌∙◌, ap}
 use native.Mathlib.Omega.{arith}
 use lib.ListN.{length, length-take, length-drop}
-use borrow.Author.Rules.{rules}
 use borrow.Rule.Slice.PartMut.{put_mid}
 use Rattle.fold.specs.Calls.{Stands, counts}
 use Rattle.fold.proofs.Loops as loops
-use Rattle.puckreader.specs.Good.{good}
 use Rattle.puckreader.specs.Line.{whole, reads_line}
 use Rattle.puckreader.proofs.Counting.{lawful}
 use Rattle.puckreader.proofs.Loop.{few, far}

@@ -1,5 +1,4 @@
 -- `lose`: the byte and the kept dropped.
-use borrow.Author.Rules.{rules}
 use native.Mathlib.Omega.{arith}
 use native.Mathlib.Numerals.{add-one}
 use Rattle.puckreader.proofs.Kept.{held, kept_count, count_small}

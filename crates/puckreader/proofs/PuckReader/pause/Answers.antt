@@ -1,5 +1,4 @@
 -- `pause`: the kept dropped.
-use borrow.Author.Rules.{rules}
 use Rattle.puckreader.proofs.Kept.{held, kept_count}
 use Rattle.puckreader.proofs.PuckReader.pause.Goals as goal
 

@@ -1,5 +1,4 @@
 -- `start`: one byte, and the kept dropped.
-use borrow.Author.Rules.{rules}
 use Rattle.puckreader.proofs.Kept.{held, kept_count}
 use Rattle.puckreader.proofs.PuckReader.start.Goals as goal
 

@@ -1,5 +1,4 @@
 -- `step`: 6, and then the word.
-use borrow.Author.Rules.{rules}
 use mathlib.Core.Path.{◌∙◌, sym, ap}
 use borrow.Author.Tests.{not-true, not-false}
 use Rattle.puckreader.specs.Promises.{outcome, step_of}

@@ -1,5 +1,4 @@
 -- `word`: above 257, no byte, or a byte.
-use borrow.Author.Rules.{rules}
 use mathlib.Core.Path.{◌∙◌, sym}
 use Rattle.puckreader.proofs.Word.{bad_is, pause_is}
 use Rattle.puckreader.proofs.PuckReader.word.Goals as goal

@@ -1,5 +1,4 @@
 -- `fits_start`: a first byte of S, or of a self-test.
-use borrow.Author.Rules.{rules}
 use Rattle.wire.specs.Line.{named_by}
 use Rattle.wire.specs.Places.{fits_by, fits_at}
 use Rattle.vsxxx.specs.Reports.{fits_start}

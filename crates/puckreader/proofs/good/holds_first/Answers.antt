@@ -1,5 +1,4 @@
 -- `holds_first`: a kept byte, or 0.
-use borrow.Author.Rules.{rules}
 use borrow.Author.Tests.{lt-ltb, le-ltb}
 use Rattle.puckreader.proofs.good.holds_first.Goals as goal
 

@@ -1,5 +1,4 @@
 -- `size_from`: four, or three.
-use borrow.Author.Rules.{rules}
 use mathlib.Core.Path.{sym, ◌∙◌}
 use Rattle.vsxxx.specs.Reports.{size_from}
 use Rattle.puckreader.proofs.good.size_from.Goals as goal

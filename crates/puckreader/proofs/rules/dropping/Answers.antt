@@ -1,5 +1,4 @@
 -- `dropping`: nothing, or so many.
-use borrow.Author.Rules.{rules}
 use Rattle.puckreader.proofs.Word.{drops_some}
 use Rattle.puckreader.proofs.rules.dropping.Goals as goal
 

@@ -1,5 +1,4 @@
 -- `below`: none has come, or fewer than the reply has.
-use borrow.Author.Rules.{rules}
 use Rattle.replies.proofs.Awaited.below.Goals as goal
 
 pub returns : goal.returns

@@ -1,5 +1,4 @@
 -- `broken`: nothing, where no reply is awaited.
-use borrow.Author.Rules.{rules}
 use mathlib.Core.Path.{sym, ◌∙◌}
 use Rattle.replies.specs.Replying.{broken}
 use Rattle.replies.proofs.Awaited.broken.Goals as goal

@@ -1,5 +1,4 @@
 -- `continues`: a byte that fits.
-use borrow.Author.Rules.{rules}
 use borrow.Author.Tests.{le-leb, lt-leb}
 use Rattle.replies.proofs.Awaited.continues.Goals as goal
 

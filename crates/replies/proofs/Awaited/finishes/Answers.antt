@@ -1,5 +1,4 @@
 -- `finishes`: one more is as many as the reply has.
-use borrow.Author.Rules.{rules}
 use Rattle.replies.proofs.Awaited.finishes.Goals as goal
 
 pub returns : goal.returns

@@ -1,5 +1,4 @@
 -- `good`: each rule.
-use borrow.Author.Rules.{rules}
 use Rattle.replies.specs.Replying.{good}
 use Rattle.replies.proofs.Awaited.good.Goals as goal
 

@@ -1,5 +1,4 @@
 -- `holds`: by whether a byte has come to the place.
-use borrow.Author.Rules.{rules}
 use borrow.Author.Tests.{lt-ltb, le-ltb}
 use Rattle.replies.specs.Replying.{placed}
 use Rattle.replies.proofs.Awaited.holds.Goals as goal

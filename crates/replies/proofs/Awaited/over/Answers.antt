@@ -1,12 +1,9 @@
-use Prim.Native.Nat.{◌-◌, ◌≤◌}
-use mathlib.Core.Path.{◌≡◌, sym, ◌∙◌}
+use mathlib.Core.Path.{sym, ◌∙◌}
 use native.Mathlib.Nat.{zero-add}
 use native.Mathlib.Omega.{arith}
-use lib.ListN.{length, drop}
 use borrow.Author.Tests.{not-true, not-false}
-use Rattle.replies.specs.Fronts.{ahead, front_of}
+use Rattle.replies.specs.Fronts.{front_of}
 use Rattle.replies.proofs.Fronts.{byte_same, not_its, its_last, its_next, no_more}
-use borrow.Author.Rules.{rules}
 use Rattle.replies.proofs.Awaited.over.Goals as goal
 
 pub loop-at-init : goal.loop-at-init

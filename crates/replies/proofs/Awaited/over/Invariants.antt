@@ -1,13 +1,8 @@
 -- `over`: what is left of the line gives what is left of the reply.
 use Prim.Native.Nat.{◌-◌, ◌≤◌}
-use mathlib.Core.Path.{◌≡◌, sym, ◌∙◌}
-use native.Mathlib.Nat.{zero-add}
-use native.Mathlib.Omega.{arith}
+use mathlib.Core.Path.{◌≡◌}
 use lib.ListN.{length, drop}
-use borrow.Author.Tests.{not-true, not-false}
 use Rattle.replies.specs.Fronts.{ahead, front_of}
-use Rattle.replies.proofs.Fronts.{byte_same, not_its, its_last, its_next, no_more}
-use borrow.Author.Rules.{rules}
 use Rattle.replies.proofs.Awaited.over.Given as goal
 
 abbrev pub invariant-loop-at : goal.invariant-loop-at

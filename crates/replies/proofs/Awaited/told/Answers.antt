@@ -1,5 +1,4 @@
 -- `told`: by the reply that is awaited.
-use borrow.Author.Rules.{rules}
 use Rattle.replies.proofs.Awaited.told.Goals as goal
 
 pub returns-in-Code : goal.returns-in-Code

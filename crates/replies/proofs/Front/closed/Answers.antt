@@ -1,5 +1,4 @@
 -- `closed`: by whether the report reader took a word.
-use borrow.Author.Rules.{rules}
 use borrow.Author.Tests.{ne_eqb}
 use Rattle.replies.specs.Fronts.{closed}
 use Rattle.replies.proofs.Front.closed.Goals as goal

@@ -1,5 +1,4 @@
 -- `fresh`: a fresh report reader.
-use borrow.Author.Rules.{rules}
 use Rattle.replies.proofs.ToldReader.fresh.Goals as goal
 
 pub returns : goal.returns

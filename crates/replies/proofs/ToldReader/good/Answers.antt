@@ -1,5 +1,4 @@
 -- `good`: the report reader, and the reply.
-use borrow.Author.Rules.{rules}
 use Rattle.replies.specs.Good.{good}
 use Rattle.replies.proofs.ToldReader.good.Goals as goal
 

@@ -1,5 +1,4 @@
 -- `keep`: the last byte tells the reply.
-use borrow.Author.Rules.{rules}
 use mathlib.Core.Path.{sym, ◌∙◌}
 use Rattle.replies.specs.Rules.{keep}
 use Rattle.replies.proofs.ToldReader.keep.Goals as goal

@@ -1,5 +1,4 @@
 -- `line`: the reply at the front, and the report reader's own long read.
-use borrow.Author.Rules.{rules}
 use Prim.Native.Nat.{◌≤◌}
 use mathlib.Core.Path.{sym, ◌∙◌, ap}
 use native.Mathlib.Omega.{arith}

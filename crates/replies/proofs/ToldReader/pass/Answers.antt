@@ -1,5 +1,4 @@
 -- `pass`: what the report reader makes of the word.
-use borrow.Author.Rules.{rules}
 use borrow.Author.Tests.{eq-eqb, ne_eqb}
 use Rattle.reader.proofs.Permitted.{step_is}
 use Rattle.replies.specs.Rules.{pass}

@@ -1,5 +1,4 @@
 -- `step`: 6 for a reader that is not good, and then the word.
-use borrow.Author.Rules.{rules}
 use mathlib.Core.Path.{ap, sym, ◌∙◌}
 use borrow.Author.Tests.{not-true, not-false}
 use Rattle.replies.specs.Promises.{outcome, step_of}

@@ -1,5 +1,4 @@
 -- `tell`: 6, and then 12.
-use borrow.Author.Rules.{rules}
 use mathlib.Core.Path.{sym, ◌∙◌}
 use borrow.Author.Tests.{not-true, not-false}
 use Rattle.replies.specs.Promises.{tell_of}

@@ -1,5 +1,4 @@
 -- `word`: the next byte of the reply, or a word for the report reader.
-use borrow.Author.Rules.{rules}
 use mathlib.Core.Path.{sym, ◌∙◌}
 use Rattle.replies.specs.Rules.{word_of}
 use Rattle.replies.proofs.Fronts.{byte_same}

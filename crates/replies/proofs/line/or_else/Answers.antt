@@ -1,5 +1,4 @@
 -- `or_else`: by the first.
-use borrow.Author.Rules.{rules}
 use Rattle.replies.proofs.line.or_else.Goals as goal
 
 pub returns-in-Format : goal.returns-in-Format

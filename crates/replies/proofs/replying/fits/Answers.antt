@@ -1,5 +1,4 @@
 -- `fits`: by the reply.
-use borrow.Author.Rules.{rules}
 use Rattle.replies.specs.Replying.{fits}
 use Rattle.replies.proofs.replying.fits.Goals as goal
 

@@ -1,5 +1,4 @@
 -- `letter_fits`: a format, and then a mode.
-use borrow.Author.Rules.{rules}
 use borrow.Author.Tests.{ne_eqb}
 use Rattle.replies.specs.Replying.{letter_fits}
 use Rattle.replies.proofs.replying.letter_fits.Goals as goal

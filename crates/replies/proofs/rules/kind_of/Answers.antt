@@ -1,5 +1,4 @@
 -- `kind_of`: a command, or a waking.
-use borrow.Author.Rules.{rules}
 use Rattle.replies.proofs.rules.kind_of.Goals as goal
 
 pub returns-in-Command : goal.returns-in-Command

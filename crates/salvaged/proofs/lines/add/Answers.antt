@@ -9,7 +9,6 @@ use Prim.Native.Nat.{◌+◌}
 use Rattle.numbers.proofs.Tested.{right}
 use Rattle.text.specs.Growth.{fits_at}
 use Rattle.salvaged.proofs.Writing.{text_behind, text_put, text_unput}
-use borrow.Author.Rules.{rules}
 use Rattle.salvaged.proofs.lines.add.Goals as goal
 
 pub returns-then-not-told : goal.returns-then-not-told

@@ -3,7 +3,6 @@ use native.Mathlib.Omega.{arith}
 use Rattle.listing.specs.Scanning.{width}
 use Rattle.listing.specs.Printing.{form_of, line_of}
 use Rattle.listing.proofs.Few.{few_form, most_item}
-use borrow.Author.Rules.{rules}
 use Rattle.salvaged.proofs.lines.item.Goals as goal
 
 pub returns : goal.returns

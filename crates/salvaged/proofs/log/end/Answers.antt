@@ -1,6 +1,5 @@
 -- `end`: the last line, and then the end.
 use Rattle.salvaged.proofs.Hearing.{closed_numbered, end_numbered, then}
-use borrow.Author.Rules.{rules}
 use Rattle.salvaged.proofs.log.end.Goals as goal
 
 pub hear-behind-requires : goal.hear-behind-requires

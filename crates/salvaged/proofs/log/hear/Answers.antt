@@ -1,7 +1,6 @@
 -- `hear`: where nothing stands alone yet, what is found.
 use Rattle.salvaged.specs.Hearing.{log_in}
 use Rattle.salvaged.proofs.Hearing.{as_it_was, heard_new, heard_behind}
-use borrow.Author.Rules.{rules}
 use Rattle.salvaged.proofs.log.hear.Goals as goal
 
 pub returns-in-Nothing : goal.returns-in-Nothing

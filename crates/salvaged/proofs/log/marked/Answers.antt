@@ -1,7 +1,6 @@
 -- `marked`: the test of the format.
 use mathlib.Core.Path.{sym, ◌∙◌}
 use Rattle.salvaged.specs.Log.{marked}
-use borrow.Author.Rules.{rules}
 use Rattle.salvaged.proofs.log.marked.Goals as goal
 
 pub returns-then-marked : goal.returns-then-marked

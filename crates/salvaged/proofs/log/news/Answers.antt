@@ -1,6 +1,5 @@
 -- `news`: by the case of what is found.
 use Rattle.salvaged.proofs.Hearing.{beside, as_it_was, marked_short}
-use borrow.Author.Rules.{rules}
 use Rattle.salvaged.proofs.log.news.Goals as goal
 
 pub returns-in-Nothing : goal.returns-in-Nothing

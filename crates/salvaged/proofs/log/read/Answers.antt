@@ -1,15 +1,11 @@
-use borrow.Author.Rules.{rules}
-use Prim.Native.Nat.{◌-◌}
 use mathlib.Core.Path.{◌≡◌, refl, sym, ap, ◌∙◌}
 use mathlib.Core.List.{[]}
 use native.Mathlib.Omega.{arith}
-use lib.ListN.{length, drop, drop_of_length-le, get_or}
-use Rattle.listing.specs.Scanning.{unfed, scanned_byte}
+use lib.ListN.{drop, drop_of_length-le, get_or}
+use Rattle.listing.specs.Scanning.{scanned_byte}
 use Rattle.listing.specs.declared.Scan.{Scan}
 use Rattle.listing.specs.declared.Found.TheVariants as found
-use Rattle.listing.proofs.Scanned.{all_found}
-use Rattle.salvaged.specs.Log.{empty, heard_all}
-use Rattle.salvaged.specs.Hearing.{log_in, Fine}
+use Rattle.salvaged.specs.Hearing.{log_in}
 use Rattle.salvaged.proofs.Hearing.{byte_numbered, byte_heard, heard_nothing, end_heard, all_heard}
 use Rattle.salvaged.proofs.log.read.Goals as goal
 

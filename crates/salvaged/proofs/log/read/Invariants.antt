@@ -1,17 +1,11 @@
 -- `read`: at the loop's head the bytes passed have been heard, and the others are still to be.
-use borrow.Author.Rules.{rules}
 use Prim.Native.Nat.{◌-◌}
-use mathlib.Core.Path.{◌≡◌, refl, sym, ap, ◌∙◌}
-use mathlib.Core.List.{[]}
-use native.Mathlib.Omega.{arith}
-use lib.ListN.{length, drop, drop_of_length-le, get_or}
-use Rattle.listing.specs.Scanning.{unfed, scanned_byte}
-use Rattle.listing.specs.declared.Scan.{Scan}
-use Rattle.listing.specs.declared.Found.TheVariants as found
+use mathlib.Core.Path.{◌≡◌}
+use lib.ListN.{length, drop}
+use Rattle.listing.specs.Scanning.{unfed}
 use Rattle.listing.proofs.Scanned.{all_found}
 use Rattle.salvaged.specs.Log.{empty, heard_all}
 use Rattle.salvaged.specs.Hearing.{log_in, Fine}
-use Rattle.salvaged.proofs.Hearing.{byte_numbered, byte_heard, heard_nothing, end_heard, all_heard}
 use Rattle.salvaged.proofs.log.read.Given as goal
 
 abbrev pub invariant-loop-at : goal.invariant-loop-at

@@ -1,6 +1,5 @@
 -- `word`: a place more, or one too many.
 use Rattle.salvaged.proofs.Hearing.{word_over, word_more}
-use borrow.Author.Rules.{rules}
 use Rattle.salvaged.proofs.log.word.Goals as goal
 
 pub returns-then-n-ge-MOST : goal.returns-then-n-ge-MOST

@@ -1,7 +1,6 @@
 -- `five`: the bytes of three words or of five.
 use native.Mathlib.Omega.{arith}
 use Rattle.reader.proofs.WholeReports.{three_or_more, or_five}
-use borrow.Author.Rules.{rules}
 use Rattle.salvaged.proofs.walk.five.Goals as goal
 
 pub bounds-words-0 : goal.bounds-words-0

@@ -1,7 +1,6 @@
 -- `items`: what stands alone, or the pieces and the end.
 use Rattle.salvaged.proofs.Writing.{adds_both}
 use Rattle.salvaged.proofs.Walking.{items_lines}
-use borrow.Author.Rules.{rules}
 use Rattle.salvaged.proofs.walk.items.Goals as goal
 
 pub item-requires-in-One : goal.item-requires-in-One

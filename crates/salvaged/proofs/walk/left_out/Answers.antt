@@ -1,6 +1,5 @@
 -- `left_out`: no line, or that of the last byte left out.
 use Rattle.salvaged.proofs.Walking.{none_left, some_left}
-use borrow.Author.Rules.{rules}
 use Rattle.salvaged.proofs.walk.left_out.Goals as goal
 
 pub returns-then-left-eq0 : goal.returns-then-left-eq0

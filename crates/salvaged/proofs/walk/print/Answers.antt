@@ -4,7 +4,6 @@ use Rattle.listing.specs.Printing.{opening_s, line_of}
 use Rattle.salvaged.specs.Writing.{start}
 use Rattle.salvaged.proofs.Writing.{adds_both, begins}
 use Rattle.salvaged.proofs.Walking.{opening_few, in_the_end}
-use borrow.Author.Rules.{rules}
 use Rattle.salvaged.proofs.walk.print.Goals as goal
 
 pub returns : goal.returns

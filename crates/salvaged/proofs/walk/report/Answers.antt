@@ -3,7 +3,6 @@ use native.Mathlib.Omega.{arith}
 use Rattle.fold.proofs.Parts.{rest_is}
 use Rattle.salvaged.specs.Items.{item_of}
 use Rattle.salvaged.proofs.Runs.{within, run_of, report_is}
-use borrow.Author.Rules.{rules}
 use Rattle.salvaged.proofs.walk.report.Goals as goal
 
 pub five-bytes-requires : goal.five-bytes-requires

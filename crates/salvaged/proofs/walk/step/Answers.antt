@@ -6,7 +6,6 @@ use borrow.Author.Tests.{le-leb, lt-leb}
 use Rattle.fold.proofs.Parts.{rest_is}
 use Rattle.salvaged.proofs.Runs.{within, run_short}
 use Rattle.salvaged.proofs.Walking.{run_step, byte_step, mark_step}
-use borrow.Author.Rules.{rules}
 use Rattle.salvaged.proofs.walk.step.Goals as goal
 
 pub report-found-requires : goal.report-found-requires

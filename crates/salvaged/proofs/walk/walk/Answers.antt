@@ -1,10 +1,9 @@
 use borrow.Author.Rules.{rules}
-use Prim.Native.Nat.{◌-◌}
 use mathlib.Core.Path.{◌≡◌, refl, ap, ◌∙◌}
 use native.Mathlib.Omega.{arith}
 use lib.ListN.{length}
 use Rattle.salvaged.specs.declared.Step.{Step}
-use Rattle.salvaged.proofs.Walking.{Walking, begins, goes_on, all_printed}
+use Rattle.salvaged.proofs.Walking.{begins, goes_on, all_printed}
 use Rattle.salvaged.proofs.walk.walk.Goals as goal
 
 pub loop-s-init : goal.loop-s-init

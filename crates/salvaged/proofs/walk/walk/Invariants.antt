@@ -1,11 +1,8 @@
 -- `walk`: at the loop's head some pieces are printed, and the others are left.
-use borrow.Author.Rules.{rules}
 use Prim.Native.Nat.{◌-◌}
-use mathlib.Core.Path.{◌≡◌, refl, ap, ◌∙◌}
-use native.Mathlib.Omega.{arith}
+use mathlib.Core.Path.{◌≡◌}
 use lib.ListN.{length}
-use Rattle.salvaged.specs.declared.Step.{Step}
-use Rattle.salvaged.proofs.Walking.{Walking, begins, goes_on, all_printed}
+use Rattle.salvaged.proofs.Walking.{Walking}
 use Rattle.salvaged.proofs.walk.walk.Given as goal
 
 abbrev pub invariant-loop-s : goal.invariant-loop-s

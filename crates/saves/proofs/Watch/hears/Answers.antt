@@ -1,5 +1,4 @@
 -- By whether the buttons are known.
-use borrow.Author.Rules.{rules}
 use borrow.Author.Tests.{eq-eqb, ne_eqb}
 use Rattle.saves.specs.Rules.{hears}
 use Rattle.saves.proofs.Watch.hears.Goals as goal

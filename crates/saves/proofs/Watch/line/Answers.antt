@@ -1,5 +1,4 @@
-use borrow.Author.Rules.{rules}
-use Prim.Native.Nat.{◌≤◌, ◌<◌, ◌-◌}
+use Prim.Native.Nat.{◌<◌}
 use mathlib.Core.Path.{◌≡◌, sym, ◌∙◌, ap}
 use native.Mathlib.Omega.{arith}
 use lib.ListN.{length, drop, get_or, length-drop}
@@ -8,7 +7,6 @@ use mir.Syntax.{w16}
 use mir.Val.{to_z, of_z}
 use mir.Facts.{to_z-of_z}
 use Rattle.saves.specs.Rules.{low_three, buttons_among}
-use Rattle.saves.specs.Promises.{over_of}
 use Rattle.saves.specs.Parts.{with_report}
 use Rattle.saves.specs.declared.Watched.{Watched}
 use Rattle.saves.proofs.Counting.{going, from_none, with_few, one_more_lem, none_more}

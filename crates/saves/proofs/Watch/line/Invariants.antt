@@ -1,18 +1,10 @@
 -- What is counted so far, and then what the numbers from here on give, is what all of them give.
-use borrow.Author.Rules.{rules}
-use Prim.Native.Nat.{◌≤◌, ◌<◌, ◌-◌}
-use mathlib.Core.Path.{◌≡◌, sym, ◌∙◌, ap}
-use native.Mathlib.Omega.{arith}
-use lib.ListN.{length, drop, get_or, length-drop}
-use lib.IntN.{pos}
-use mir.Syntax.{w16}
-use mir.Val.{to_z, of_z}
-use mir.Facts.{to_z-of_z}
-use Rattle.saves.specs.Rules.{low_three, buttons_among}
+use Prim.Native.Nat.{◌≤◌, ◌-◌}
+use mathlib.Core.Path.{◌≡◌}
+use lib.ListN.{length, drop}
+use Rattle.saves.specs.Rules.{buttons_among}
 use Rattle.saves.specs.Promises.{over_of}
-use Rattle.saves.specs.Parts.{with_report}
-use Rattle.saves.specs.declared.Watched.{Watched}
-use Rattle.saves.proofs.Counting.{going, from_none, with_few, one_more_lem, none_more}
+use Rattle.saves.proofs.Counting.{going}
 use Rattle.saves.proofs.Watch.line.Given as goal
 
 abbrev pub invariant-loop-at : goal.invariant-loop-at

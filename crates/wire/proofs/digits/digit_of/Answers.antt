@@ -1,5 +1,4 @@
 -- `digit_of`: the two ranges of digits.
-use borrow.Author.Rules.{rules}
 use borrow.Author.Tests.{lt-ltb, le-ltb}
 use native.Mathlib.Omega.{arith}
 use Rattle.wire.specs.Digits.{digit}

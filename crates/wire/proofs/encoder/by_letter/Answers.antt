@@ -1,5 +1,4 @@
 -- `by_letter`: each refusal in its turn, and then the bytes.
-use borrow.Author.Rules.{rules}
 use borrow.Author.Tests.{lt-leb, le-leb}
 use mathlib.Core.Path.{◌≡◌, sym, ◌∙◌}
 use mathlib.Core.Bool.{not, cond}

@@ -1,13 +1,7 @@
 -- `put`: after i turns the first i bytes stand at the front of the buffer, and what follows is as it was.
-use Prim.Native.Nat.{ℕ, ◌+◌, ◌-◌, ◌≤◌, ◌<◌}
-use mathlib.Core.Path.{◌≡◌, sym, ◌∙◌, ap}
-use mathlib.Core.List.{List, ◌++◌}
-use native.Mathlib.Omega.{arith}
-use native.Mathlib.Nat.{zero-add}
-use native.Mathlib.Numerals.{add-one}
-use borrow.Author.Rules.{rules}
-use lib.ListN.{length, take, drop, get_or, set}
-use lib.Seq.{paste, paste-zero, paste-suc, length-paste}
+use Prim.Native.Nat.{◌-◌, ◌≤◌}
+use mathlib.Core.Path.{◌≡◌}
+use lib.Seq.{paste}
 use Rattle.wire.proofs.encoder.put.Given as goal
 
 abbrev pub invariant-loop-i : goal.invariant-loop-i

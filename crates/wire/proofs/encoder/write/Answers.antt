@@ -1,5 +1,4 @@
 -- `write`: the bytes, where they have room.
-use borrow.Author.Rules.{rules}
 use borrow.Author.Tests.{lt-ltb, le-ltb}
 use Rattle.wire.proofs.Front.{size_small, front}
 use Rattle.wire.proofs.encoder.write.Goals as goal

@@ -1,5 +1,4 @@
 -- `second_range`: the row of each format.
-use borrow.Author.Rules.{rules}
 use mathlib.Core.Path.{ap, sym}
 use Rattle.wire.specs.Holds.{second_range}
 use Rattle.wire.proofs.holds.second_range.Goals as goal

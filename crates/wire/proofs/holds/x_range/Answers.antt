@@ -1,5 +1,4 @@
 -- `x_range`: the row of each format.
-use borrow.Author.Rules.{rules}
 use mathlib.Core.Path.{ap, sym}
 use Rattle.wire.specs.Holds.{x_range}
 use Rattle.wire.proofs.holds.x_range.Goals as goal

@@ -1,5 +1,4 @@
 -- `y_range`: the row of each format.
-use borrow.Author.Rules.{rules}
 use mathlib.Core.Path.{ap, sym}
 use Rattle.wire.specs.Holds.{y_range}
 use Rattle.wire.proofs.holds.y_range.Goals as goal

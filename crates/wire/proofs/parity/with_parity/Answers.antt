@@ -1,5 +1,4 @@
 -- `with_parity`: the arm that is taken is the case of `evened`.
-use borrow.Author.Rules.{rules}
 use mathlib.Core.Path.{sym, ◌∙◌}
 use Rattle.numbers.specs.Parity.{evened}
 use Rattle.wire.proofs.parity.with_parity.Goals as goal

@@ -1,5 +1,4 @@
 -- `first_by`: of the format that the letter names, if it names one.
-use borrow.Author.Rules.{rules}
 use mathlib.Core.Path.{sym, ◌∙◌}
 use Rattle.wire.specs.Places.{fits_at, fits_by}
 use Rattle.wire.proofs.places.first_by.Goals as goal

@@ -1,6 +1,5 @@
 -- `fits_first`: the test of each format.
 use Prim.Native.Nat.{ℕ, ◌<◌}
-use borrow.Author.Rules.{rules}
 use mathlib.Core.Path.{◌≡◌, ◌∙◌, ap, sym}
 use Rattle.wire.proofs.FixedBits.{first_test, first_tested}
 use Rattle.wire.specs.Places.{fits_first}

@@ -1,6 +1,5 @@
 -- `fits_later`: the test of each format.
 use Prim.Native.Nat.{ℕ, ◌<◌}
-use borrow.Author.Rules.{rules}
 use mathlib.Core.Path.{◌≡◌, ◌∙◌, ap, sym}
 use Rattle.wire.proofs.FixedBits.{later_test, later_tested}
 use Rattle.wire.specs.Places.{fits_later}

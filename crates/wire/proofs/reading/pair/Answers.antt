@@ -1,6 +1,5 @@
 -- `pair`: four bits above four.
 use Prim.Native.Nat.{◌<◌}
-use borrow.Author.Rules.{rules}
 use native.Mathlib.Omega.{arith}
 use Rattle.wire.proofs.Fields.{undigit_below, pair_of}
 use Rattle.wire.specs.Digits.{undigit}

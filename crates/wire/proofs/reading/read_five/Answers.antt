@@ -1,5 +1,4 @@
 -- `read_five`: the fields of U.
-use borrow.Author.Rules.{rules}
 use mir.Syntax.{w16}
 use Rattle.numbers.proofs.Machine.{kept}
 use Rattle.wire.proofs.Fields.{buttons_u}

@@ -1,5 +1,4 @@
 -- `read_hexadecimal`: the fields of W.
-use borrow.Author.Rules.{rules}
 use mathlib.Core.Path.{◌∙◌}
 use mir.Syntax.{w16}
 use Rattle.numbers.proofs.Machine.{kept}

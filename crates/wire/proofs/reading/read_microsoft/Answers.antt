@@ -1,6 +1,5 @@
 -- `read_microsoft`: the fields of V.
 use Prim.Native.Nat.{◌<◌}
-use borrow.Author.Rules.{rules}
 use lib.IntN.{pos, neg_ℤ, ◌-ℤ◌}
 use lib.Signed.{mag}
 use mathlib.Core.List.{◌++◌}

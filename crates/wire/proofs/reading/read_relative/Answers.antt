@@ -1,5 +1,4 @@
 -- `read_relative`: the fields of B.
-use borrow.Author.Rules.{rules}
 use mathlib.Core.Path.{refl, ◌∙◌}
 use mathlib.Core.Logic.{inr}
 use mir.Syntax.{w16}

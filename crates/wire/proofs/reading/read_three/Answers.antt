@@ -1,5 +1,4 @@
 -- `read_three`: the fields of T.
-use borrow.Author.Rules.{rules}
 use mathlib.Core.Path.{◌∙◌}
 use mir.Syntax.{w16}
 use Rattle.numbers.proofs.Machine.{kept}

@@ -1,5 +1,4 @@
 -- `report_in`: the fields of each format.
-use borrow.Author.Rules.{rules}
 use Rattle.wire.proofs.reading.report_in.Goals as goal
 
 pub returns-in-Mm : goal.returns-in-Mm

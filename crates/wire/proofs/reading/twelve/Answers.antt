@@ -1,5 +1,4 @@
 -- `twelve`: six bits above six.
-use borrow.Author.Rules.{rules}
 use Rattle.wire.proofs.Fields.{twelve_of}
 use Rattle.wire.proofs.reading.twelve.Goals as goal
 

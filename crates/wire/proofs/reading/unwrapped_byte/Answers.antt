@@ -2,7 +2,6 @@
 use mathlib.Core.Path.{refl}
 use mathlib.Core.Logic.{inl}
 use native.Mathlib.Omega.{arith}
-use borrow.Author.Rules.{rules}
 use Rattle.wire.proofs.reading.unwrapped_byte.Goals as goal
 
 pub unwrapped-requires : goal.unwrapped-requires

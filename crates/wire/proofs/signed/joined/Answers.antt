@@ -1,5 +1,4 @@
 -- `joined`: the magnitude, or its negation.
-use borrow.Author.Rules.{rules}
 use lib.IntN.{pos}
 use mathlib.Core.Path.{◌≡◌}
 use mir.Facts.{to_z_pos}

@@ -1,5 +1,4 @@
 -- `magnitude`: either sign's arm gives the distance from zero.
-use borrow.Author.Rules.{rules}
 use lib.IntN.{pos, nat_abs, neg_ℤ, ◌-ℤ◌}
 use mathlib.Core.Path.{◌≡◌, ap, ◌∙◌}
 use mir.Facts.{to_z-of_z}

@@ -1,5 +1,4 @@
 -- `wrapped`: two's complement by a magnitude and a sign.
-use borrow.Author.Rules.{rules}
 use lib.IntN.{nat_abs}
 use mathlib.Core.Path.{◌≡◌, ◌∙◌, sym}
 use mir.Facts.{to_z-of_z}

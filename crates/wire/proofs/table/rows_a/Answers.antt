@@ -1,6 +1,5 @@
 -- `rows_a`: the rows of A and B, each under its parity.
 use Prim.Native.Nat.{ℕ}
-use borrow.Author.Rules.{rules}
 use lib.ListN.{length}
 use mathlib.Core.Bool.{Bool}
 use mathlib.Core.List.{List}

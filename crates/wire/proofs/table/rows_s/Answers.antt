@@ -1,6 +1,5 @@
 -- `rows_s`: the row of S, and the two magnitudes.
 use Prim.Native.Nat.{◌≤◌}
-use borrow.Author.Rules.{rules}
 use lib.IntN.{nat_abs}
 use lib.Signed.{non_neg}
 use mathlib.Core.Path.{◌≡◌}

@@ -1,5 +1,4 @@
 -- `rows_v`: the rows of V.
-use borrow.Author.Rules.{rules}
 use mathlib.Core.Path.{ap}
 use Rattle.wire.proofs.Sums.{rows_v_lem}
 use Rattle.wire.specs.Table.{five}

@@ -1,5 +1,4 @@
 -- `rows_w`: the digits of W.
-use borrow.Author.Rules.{rules}
 use Rattle.wire.proofs.Sums.{low_four, high_four}
 use Rattle.wire.specs.Table.{rows_w}
 use Rattle.wire.proofs.table.rows_w.Goals as goal

@@ -1,5 +1,4 @@
 -- `wrapped_byte`: two's complement at 128 is a byte.
-use borrow.Author.Rules.{rules}
 use mathlib.Core.Path.{◌≡◌}
 use mir.Facts.{to_z-of_z}
 use Rattle.numbers.proofs.Twos.{twos_below}

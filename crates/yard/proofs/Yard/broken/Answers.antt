@@ -1,5 +1,4 @@
 -- `broken`: nothing has gone behind it.
-use borrow.Author.Rules.{rules}
 use Rattle.yard.proofs.Yard.broken.Goals as goal
 
 pub returns : goal.returns

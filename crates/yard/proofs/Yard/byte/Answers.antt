@@ -1,5 +1,4 @@
 -- `byte`: one that cannot stand, the last of a report, one more.
-use borrow.Author.Rules.{rules}
 use mathlib.Core.Path.{sym, ◌∙◌}
 use borrow.Author.Tests.{not-true, not-false, eq-eqb, ne_eqb}
 use Rattle.yard.specs.Rules.{byte_can}

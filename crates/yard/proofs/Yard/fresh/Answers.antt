@@ -1,5 +1,4 @@
 -- `fresh`: a letter that is not in the table is refused.
-use borrow.Author.Rules.{rules}
 use mathlib.Core.Path.{sym, ◌∙◌}
 use borrow.Author.Tests.{not-true, not-false}
 use Rattle.yard.specs.Promises.{fresh_of}

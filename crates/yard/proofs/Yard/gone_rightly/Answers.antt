@@ -1,5 +1,4 @@
 -- `gone_rightly`: with one gone, or more.
-use borrow.Author.Rules.{rules}
 use borrow.Author.Tests.{eq-eqb, ne_eqb}
 use Rattle.yard.specs.Good.{gone_rightly}
 use Rattle.yard.proofs.Yard.gone_rightly.Goals as goal

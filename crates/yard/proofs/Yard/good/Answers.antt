@@ -1,5 +1,4 @@
 -- `good`: what is below the size is of a known format.
-use borrow.Author.Rules.{rules}
 use borrow.Author.Tests.{eq-eqb, ne_eqb}
 use Rattle.wire.proofs.Letters.{known_below}
 use Rattle.yard.specs.Good.{good}

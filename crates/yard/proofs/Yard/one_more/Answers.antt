@@ -1,5 +1,4 @@
 -- `one_more`: fewer than five have gone.
-use borrow.Author.Rules.{rules}
 use native.Mathlib.Omega.{arith}
 use Rattle.wire.proofs.Letters.{at_most_five}
 use Rattle.yard.specs.Rules.{one_more}

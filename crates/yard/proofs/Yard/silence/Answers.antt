@@ -1,5 +1,4 @@
 -- `silence`: between reports, or not.
-use borrow.Author.Rules.{rules}
 use borrow.Author.Tests.{eq-eqb, ne_eqb}
 use Rattle.yard.specs.Rules.{silence_of}
 use Rattle.yard.proofs.Yard.silence.Goals as goal

@@ -1,5 +1,4 @@
 -- `step`: 6 for a check that is not good, and then the word.
-use borrow.Author.Rules.{rules}
 use mathlib.Core.Path.{sym, ◌∙◌}
 use borrow.Author.Tests.{not-true, not-false}
 use Rattle.yard.specs.Promises.{step_of}

@@ -1,5 +1,4 @@
 -- `word`: a word above 257, one behind the end, a byte, a break, a silence.
-use borrow.Author.Rules.{rules}
 use borrow.Author.Tests.{le-leb, lt-leb, eq-eqb, ne_eqb}
 use Rattle.yard.specs.Rules.{word_of}
 use Rattle.yard.proofs.Yard.word.Goals as goal

@@ -1,4 +1,4 @@
-use Prim.Native.Nat.{ℕ, suc, ◌+◌, ◌-◌, ◌<◌, ◌≤◌}
+use Prim.Native.Nat.{ℕ, suc, ◌+◌, ◌<◌}
 use mathlib.Core.Path.{◌≡◌, refl, sym, ap, ◌∙◌}
 use mathlib.Core.Bool.{Bool, true, false}
 use mathlib.Core.List.{List, ◌∷◌}
@@ -6,11 +6,9 @@ use native.Mathlib.Omega.{arith}
 use lib.ListN.{length, drop, drop_of_length-le, get_or}
 use lib.Seq.{drop-cons}
 use lib.Dec.{eqb}
-use borrow.Author.Rules.{rules}
 use mir.Val.{bool_byte}
 use Rattle.numbers.specs.Bits.{value}
 use Rattle.wire.specs.Numbers.{success}
-use Rattle.yard.specs.Good.{good}
 use Rattle.yard.specs.Rules.{word_of}
 use Rattle.yard.specs.Log.{checked_of}
 use Rattle.yard.specs.declared.Yard.{Yard}

@@ -1,5 +1,4 @@
 -- `barred`: each letter that has such bytes; of another none.
-use borrow.Author.Rules.{rules}
 use mathlib.Core.Path.{◌≡◌, refl}
 use mathlib.Core.Bool.{false}
 use lib.Dec.{eqb}

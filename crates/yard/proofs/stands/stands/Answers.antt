@@ -1,5 +1,4 @@
 -- `stands`: it fits, and is not barred.
-use borrow.Author.Rules.{rules}
 use Rattle.yard.specs.Stands.{stands_by}
 use Rattle.yard.proofs.stands.stands.Goals as goal
 
