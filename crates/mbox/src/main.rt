@@ -114,11 +114,7 @@ fn whole(streams: Streams, turn: &mut u64, input: &mut [u8], out: &mut [u8]) -> 
 }
 
 fn main(rt: HostRuntime) {
-    let streams = Streams {
-        input: rt.stdin(),
-        output: rt.stdout(),
-        errors: rt.stderr(),
-    };
+    let streams = Streams::of(rt.stdin(), rt.stdout(), rt.stderr());
     let mut turn = shell::start();
     let mut input = [0u8; 4096];
     let mut out = [0u8; 65536];

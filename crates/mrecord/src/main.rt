@@ -397,11 +397,7 @@ fn second(count: usize, word: &[u8]) -> u8 {
 }
 
 fn main(rt: HostRuntime) {
-    let streams = Streams {
-        input: rt.stdin(),
-        output: rt.stdout(),
-        errors: rt.stderr(),
-    };
+    let streams = Streams::of(rt.stdin(), rt.stdout(), rt.stderr());
     let mut turn = shell::start();
     let mut input = [0u8; 512];
     let mut out = [0u8; 4608];

@@ -375,11 +375,7 @@ fn whole(
 }
 
 fn main(rt: HostRuntime) {
-    let streams = Streams {
-        input: rt.stdin(),
-        output: rt.stdout(),
-        errors: rt.stderr(),
-    };
+    let streams = Streams::of(rt.stdin(), rt.stdout(), rt.stderr());
     let mut turn = shell::start();
     let mut input = [0u8; 4096];
     let mut items = [0i32; 20480];

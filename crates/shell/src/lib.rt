@@ -14,13 +14,23 @@ use std::io::{Error, ErrorKind, Read, Stderr, Stdin, Stdout, Write};
 use std::rt::{Clock, Env};
 use words::Words;
 
-// The three streams of a program, as `main` has them of its runtime.
+// The three streams of a program, as `main` has them of its runtime. Nothing outside this crate reads or writes one of them.
 #[derive(Drop)]
 #[derive(Clone, Copy)]
 pub struct Streams {
-    pub input: Stdin,
-    pub output: Stdout,
-    pub errors: Stderr,
+    input: Stdin,
+    output: Stdout,
+    errors: Stderr,
+}
+
+impl Streams {
+    pub fn of(input: Stdin, output: Stdout, errors: Stderr) -> Streams {
+        Streams {
+            input: input,
+            output: output,
+            errors: errors,
+        }
+    }
 }
 
 // How many bytes a read brought, and whether it went well.
