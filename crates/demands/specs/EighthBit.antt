@@ -1,5 +1,5 @@
 -- The eighth bit of a Microsoft byte: "In V the reader shall clear bit 7 first: 108 and 236 are the same first byte". What demand 2 says of it stands in
--- `encoded-again`; demand 3 stands.
+-- `encoded_again`; demand 3 stands.
 use Rattle.std.specs.Prelude.{ℕ, ◌<◌, ◌≡◌, refl, true, List, [], ◌∷◌, ◌++◌, length, ℤ, pos}
 use Rattle.std.proofs.Common.{◌∙◌, ap, arith}
 use Rattle.frames.specs.Passages as passages

@@ -1,5 +1,5 @@
 -- Silences that are left out are no damage: what is left are the words of a run of demand 3 again, so that all of demand 3
--- speaks of them. (That a press is seen as before is said beside it: survives-unheard in Saves.)
+-- speaks of them. (That a press is seen as before is said beside it: survives_unheard in Saves.)
 use Rattle.std.specs.Prelude.{ℕ, List}
 use Rattle.frames.specs.Damage.{Fewer}
 use Rattle.wire.specs.declared.Format.{Format}

@@ -98,7 +98,7 @@ stays_in_t =
     []) [] refl tt (scar (0x00 ∷ []) (stays (stays (stays (stays (stays whole)))))) 9 refl
 
 -- A byte must not be lost without a 256: the first one is, and M goes down. (So it does where a reader that is ready, not
--- fresh, comes late and missed it: `true-when-late`.)
+-- fresh, comes late and missed it: `true_when_late`.)
 abbrev Saves : List Report → Type 0
 Saves reports = ◌≡◌ {A = ℕ} (presses_from (is_down middle) 0 reports) 1
 
@@ -167,7 +167,7 @@ pub silence_before_it : Answered ThreeByte (0x02 ∷ 0x00 ∷ 0x00 ∷ []) (Drop
 unfolding computing
 silence_before_it = (computed ThreeByte _ _ refl, computed ThreeByte _ _ refl)
 
--- A press behind a stretch (`seen-after-the-stretch`, `seen-after-a-silence`). In T, with no silence between: L is pressed
+-- A press behind a stretch (`seen_after_the_stretch`, `seen_after_a_silence`). In T, with no silence between: L is pressed
 -- behind 00 02 E8, of which the first byte is lost; M is handed out, and L is not. In S, where the stretch is the first
 -- byte of the report that shows the press. And where a word of it, or in front, is not legal: a long read stops there,
 -- with 4.
@@ -182,8 +182,8 @@ pub stretch_before_it : (words_given (answers_to (set_to ThreeByte).next last_pr
 unfolding computing
 stretch_before_it = (refl, computed ThreeByte _ _ refl, computed Mm _ _ refl)
 
--- Only silences may be left out (`survives-unheard`): of 02 00 00 the first byte is, or a silence comes in behind it. (Where
--- what was heard was never sent, as an ACK: the words of `reply-in-front`.)
+-- Only silences may be left out (`survives_unheard`): of 02 00 00 the first byte is, or a silence comes in behind it. (Where
+-- what was heard was never sent, as an ACK: the words of `reply_in_front`.)
 pub only_silences : AnsweredBy (ready (letter_of ThreeByte)) (0x00 ∷ 0x00 ∷ 257 ∷ []) (Nothing ∷ Nothing ∷ Dropped 2 ∷ [])
     × AnsweredBy (ready (letter_of ThreeByte)) (0x02 ∷ 257 ∷ 0x00 ∷ 0x00 ∷ 257 ∷ []) (Nothing ∷ Dropped 1 ∷ Nothing ∷ Nothing ∷ Dropped 2 ∷ [])
 unfolding computing

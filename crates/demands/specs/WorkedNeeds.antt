@@ -1,5 +1,5 @@
--- What the theorems of Saves ask for, one by one: for each condition of `a-press-survives`, of `as-many-saves` and of
--- `no-save-unmade` a run that lacks this one alone, and what a reader hands out of it. Which conditions a run lacks is
+-- What the theorems of Saves ask for, one by one: for each condition of `a_press_survives`, of `as_many_saves` and of
+-- `no_save_unmade` a run that lacks this one alone, and what a reader hands out of it. Which conditions a run lacks is
 -- computed with it, by a list that leaves none out.
 use Rattle.std.specs.Prelude.{ℕ, suc, ◌*◌, ◌≡◌, refl, Bool, true, false, not, cond, ◌||◌, List, [], ◌∷◌, ◌++◌, eqb, leb, pos, length}
 use Rattle.std.proofs.Common.{ap, arith, leb-true, eqb-true}
@@ -90,7 +90,7 @@ none_lacking (a ∷ more) e = go a.met refl (none_lacking more) e
     go true is rest none = (is, rest none)
     go false is rest none = absurd (omega (arith, ap length none))
 
--- what `a-press-survives` asks of a press
+-- what `a_press_survives` asks of a press
 abbrev asks_of : Format → BallBox → List Event → ℕ → List Event → List Asked
 asks_of f b front n back =
     let c = box_after b front in
@@ -290,7 +290,7 @@ pub since_needed : (buttons_of (handed (fresh (letter_of ThreeByte)) (words_of (
 unfolding computing
 since_needed = (refl, refl)
 
--- what `as-many-saves` and `one-missed-at-most` ask of counts; `no-save-unmade` and `never-a-second-save` ask for less
+-- what `as_many_saves` and `one_missed_at_most` ask of counts; `no_save_unmade` and `never_a_second_save` ask for less
 abbrev asks_in : Format → BallBox → List Event → List Asked
 asks_in f b events =
     asks is_good (good b)
@@ -306,7 +306,7 @@ asks_in f b events =
     ∷ asks is_shown (eqb (length (remembered (box_after b events).memory)) 0)
     ∷ []
 
--- all that `as-many-saves` asks of the box, the events and M
+-- all that `as_many_saves` asks of the box, the events and M
 pub record Counts (f : Format) (b : BallBox) (events : List Event) : Type 0 where
   pub begins : Begins f b
   pub hosts : all_unanswered events ≡ true
@@ -348,7 +348,7 @@ pub record Miscounted (f : Format) (b : BallBox) (events : List Event) (lacks : 
   pub telling : presses_from (is_down middle) b.settings.buttons (handed (ready (letter_of f)) (words_of b events)) ≡ told
   pub telling_fresh : presses_among (is_down middle) (handed (ready (letter_of f)) (words_of b events)) ≡ fresh
 
--- That f carries the button is needed of counts (`taps-untold`, of M in V), and of `no-press-unmade` for tests that none of
+-- That f carries the button is needed of counts (`taps_untold`, of M in V), and of `no_press_unmade` for tests that none of
 -- the three is: "M is up" comes true in the reports of V, while M is held.
 abbrev is_up : ℕ → Bool
 is_up n = not (is_down middle n)

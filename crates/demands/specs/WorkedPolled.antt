@@ -150,7 +150,7 @@ saved_once n done told fresh q =
 -- What else a polled line needs, in T. A break must not be lost without a 256: two bytes of a report that O broke off and
 -- the next one's first are a report, and another has M down. The reader must not be told of a command that was not sent:
 -- of `t`, behind the first byte of 00 54 4F, it takes the others for letters; behind 00 00 02 and 00 01 00 M is down. (One
--- that is not told of a space: `untold-T`.) And before a silence it hands out nothing.
+-- that is not told of a space: `untold_t`.) And before a silence it hands out nothing.
 pub break_in_t : Hears ThreeByte (as_items (257 ∷ 0x00 ∷ 0x01 ∷ 0x00 ∷ 0x02 ∷ 0xE8 ∷ 0x00 ∷ 0x01 ∷ 0x00 ∷ [])) [] (near ∷ report 2 (minus 24) (pos 0) ∷ [])
 unfolding computing replies.computing
 break_in_t = hears ThreeByte _ (refl, refl)

@@ -1,5 +1,5 @@
--- What the theorems of Saves ask for, one by one: for each condition of a device's `a-press-survives`, `as-many-saves`,
--- `one-missed-at-most` and `never-a-second-save` a run that lacks this one alone, and what a fresh reader hands out of it.
+-- What the theorems of Saves ask for, one by one: for each condition of a device's `a_press_survives`, `as_many_saves`,
+-- `one_missed_at_most` and `never_a_second_save` a run that lacks this one alone, and what a fresh reader hands out of it.
 use Rattle.std.specs.Prelude.{ℕ, suc, ◌*◌, ◌≡◌, refl, not, ◌||◌, List, [], ◌∷◌, ◌++◌, map, eqb, leb, pos, length}
 use Rattle.std.proofs.Common.{leb-true}
 use Rattle.std.proofs.lemmas.Bool.{eqb-false, not-true}
@@ -48,7 +48,7 @@ streams later = tested (Host mode_r ∷ later)
 abbrev start : Puck
 start = made 0 1 3
 
--- what `a-press-survives` asks of a press
+-- what `a_press_survives` asks of a press
 abbrev asks_of : List Event → ℕ → List Event → List Asked
 asks_of front n back =
     let c = (puck_after start front).ball in
@@ -184,7 +184,7 @@ unfolding computing remembered all_hosts never_ninth answers_over presses button
 ninth_untold = record { lacked = refl; pressing = refl; telling = refl; telling_fresh = refl }
 
 -- Nobody presses, and a watch saves: 9A 00 00 is going at the start, in a device whose M is up (no run leads to it, and it
--- is good); and the device has yet to show M down and up. So too where `never-a-second-save` is not from the making on.
+-- is good); and the device has yet to show M down and up. So too where `never_a_second_save` is not from the making on.
 pub nobody_pressed : Miscounted (with_ball (with_going (going_from (0x9A ∷ 0x00 ∷ 0x00 ∷ [])) streaming.ball) streaming) (slots 3 []) (is_idle ∷ []) 0 1 0
     × Miscounted (puck_after streaming (Buttons 2 ∷ Buttons 0 ∷ [])) (slots 6 []) (is_none ∷ []) 0 1 0
 unfolding computing remembered all_hosts never_ninth answers_over presses buttons_told
@@ -193,7 +193,7 @@ nobody_pressed = (
   record { lacked = refl; pressing = refl; telling = refl; telling_fresh = refl },
 )
 
--- The stretch must be over at the press (`seen-after-the-stretch`): here it is the first byte of the report that shows it.
+-- The stretch must be over at the press (`seen_after_the_stretch`): here it is the first byte of the report that shows it.
 pub stretch_before_it : (puck_words start (streams (Buttons 2 ∷ slots 6 [])) ≡ 0xA1 ∷ 0x32 ∷ 0x00 ∷ 0x00 ∷ 0x9A ∷ 0x00 ∷ 0x00 ∷ 257 ∷ 257 ∷ 257 ∷ [])
     × (handed (0xA1 ∷ 0x32 ∷ 0x00 ∷ 0x00 ∷ 0x00 ∷ 0x00 ∷ 257 ∷ 257 ∷ 257 ∷ []) ≡ [])
 unfolding computing answers_over

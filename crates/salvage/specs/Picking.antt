@@ -16,7 +16,7 @@ valid_by letter bytes = of_named false (λ f. valid f bytes) (named_by letter)
 abbrev pub starts_by : ℕ → List ℕ → Bool
 starts_by letter words = starts (size_by letter) (valid_by letter) words
 
--- the starting places that are picked; that they are the best choice is `best-of-all` in proofs/Picks.antt
+-- the starting places that are picked; that they are the best choice is `best_of_all` in proofs/Picks.antt
 abbrev pub picked_by : ℕ → List ℕ → List ℕ
 picked_by letter words = earliest (size_by letter) (valid_by letter) words
 
