@@ -24,7 +24,9 @@ pub struct Streams {
 }
 
 impl Streams {
-    pub fn of(input: Stdin, output: Stdout, errors: Stderr) -> Streams {
+    pub fn of(input: Stdin, output: Stdout, errors: Stderr) -> Streams
+        ensures { result ≡ record { input = input; output = output; errors = errors } }
+    {
         Streams {
             input: input,
             output: output,
@@ -173,7 +175,9 @@ pub fn seconds(clock: &impl Clock) -> i64 {
 }
 
 // How many words the program was called with, its own name among them: no more than so many.
-pub fn word_count(call: &impl Env, most: usize) -> usize {
+pub fn word_count(call: &impl Env, most: usize) -> usize
+    ensures { result ≤ most }
+{
     let mut none = [0u8; 1];
     for i in 0..most {
         if let Err(FillError::NotPresent) = call.arg(i, &mut none) {
