@@ -44,8 +44,7 @@ pub(crate) const MOST_BUTTONS: u8 = 7;
 
 // A movement or a place, x and y.
 #[repr(C)]
-#[derive(Drop)]
-#[derive(Clone, Copy)]
+#[derive(Clone, Copy, Drop)]
 pub struct Pair {
     pub x: i16,
     pub y: i16,
@@ -53,8 +52,7 @@ pub struct Pair {
 
 // What is set: the format's letter, the mode's letter, and the buttons as 4L+2M+R.
 #[repr(C)]
-#[derive(Drop)]
-#[derive(Clone, Copy)]
+#[derive(Clone, Copy, Drop)]
 pub struct Settings {
     pub format: u8,
     pub mode: u8,
@@ -63,8 +61,7 @@ pub struct Settings {
 
 // What is counted: the counters, the position, and the position last reported.
 #[repr(C)]
-#[derive(Drop)]
-#[derive(Clone, Copy)]
+#[derive(Clone, Copy, Drop)]
 pub struct Track {
     pub counter: Pair,
     pub position: Pair,
@@ -73,8 +70,7 @@ pub struct Track {
 
 // What is going: the bytes of a report or a reply, how many they are, and how many of them are sent.
 #[repr(C)]
-#[derive(Drop)]
-#[derive(Clone, Copy)]
+#[derive(Clone, Copy, Drop)]
 pub struct Going {
     pub length: u8,
     pub sent: u8,
@@ -84,8 +80,7 @@ pub struct Going {
 // What is remembered: button states that reports have yet to show, oldest first, how many they are, and whether the report that is going
 // shows the first, 0 or 1.
 #[repr(C)]
-#[derive(Drop)]
-#[derive(Clone, Copy)]
+#[derive(Clone, Copy, Drop)]
 pub struct Memory {
     pub states: [u8; 8],
     pub count: u8,
@@ -93,8 +88,7 @@ pub struct Memory {
 }
 
 // A number held between two ends, and the excess, with its sign.
-#[derive(Drop)]
-#[derive(Clone, Copy)]
+#[derive(Clone, Copy, Drop)]
 pub struct Bounded {
     pub value: i16,
     pub excess: i64,
@@ -102,16 +96,14 @@ pub struct Bounded {
 
 // An excess, or a sum of excesses, x and y.
 #[repr(C)]
-#[derive(Drop)]
-#[derive(Clone, Copy)]
+#[derive(Clone, Copy, Drop)]
 pub struct Excess {
     pub x: i64,
     pub y: i64,
 }
 
 // Two numbers held, and the excess of either.
-#[derive(Drop)]
-#[derive(Clone, Copy)]
+#[derive(Clone, Copy, Drop)]
 pub struct BoundedPair {
     pub value: Pair,
     pub excess: Excess,
@@ -119,8 +111,7 @@ pub struct BoundedPair {
 
 // What was thrown away, added up: over the report's limit, and over the counter's 16 bits.
 #[repr(C)]
-#[derive(Drop)]
-#[derive(Clone, Copy)]
+#[derive(Clone, Copy, Drop)]
 pub struct Sums {
     pub limit: Excess,
     pub counter: Excess,
@@ -128,8 +119,7 @@ pub struct Sums {
 
 // What is set, counted, going, remembered and thrown away; whether a report is due, and whether the box is dormant: 0 or 1.
 #[repr(C)]
-#[derive(Drop)]
-#[derive(Clone, Copy)]
+#[derive(Clone, Copy, Drop)]
 pub struct BallBox {
     pub settings: Settings,
     pub track: Track,
@@ -143,8 +133,7 @@ pub struct BallBox {
 // "Events: Motion(dx, dy), 16-bit signed; Buttons(n); Host(byte); [..] Period (the report interval is over)." and, for "Slot (time for one
 // character)", "Latch, which does the latching when nothing is going and sends no word, and Send, which sends the next byte".
 // Buttons are 4L+2M+R.
-#[derive(Drop)]
-#[derive(Clone, Copy)]
+#[derive(Clone, Copy, Drop)]
 pub enum Event {
     Motion(i16, i16),
     Buttons(u8),
@@ -157,8 +146,7 @@ pub enum Event {
 // What a step hands back: the number of the refusal, 0 for success; how many words are sent, 0 or 1; the word, 0 where
 // there is none; 0; and the box.
 #[repr(C)]
-#[derive(Drop)]
-#[derive(Clone, Copy)]
+#[derive(Clone, Copy, Drop)]
 pub struct Stepped {
     pub refusal: u8,
     pub sent: u8,
@@ -168,8 +156,7 @@ pub struct Stepped {
 }
 
 // What a byte of the host's asks for.
-#[derive(Drop)]
-#[derive(Clone, Copy)]
+#[derive(Clone, Copy, Drop)]
 pub enum Command {
     SetFormat(u8),
     SetStream(u8),

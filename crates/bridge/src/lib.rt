@@ -12,8 +12,7 @@ mod remembered;
 mod splitting;
 
 // The position of the last report of A, where there was one.
-#[derive(Drop)]
-#[derive(Clone, Copy)]
+#[derive(Clone, Copy, Drop)]
 pub struct Base {
     pub set: bool,
     pub x: i16,
@@ -21,8 +20,7 @@ pub struct Base {
 }
 
 // What is remembered of the reports so far: the base, whether the middle button was down in the last, and how often it was pressed.
-#[derive(Drop)]
-#[derive(Clone, Copy)]
+#[derive(Clone, Copy, Drop)]
 pub struct Past {
     pub base: Base,
     pub middle: bool,
@@ -30,32 +28,28 @@ pub struct Past {
 }
 
 // The reader of the format that comes in, and what is remembered of its reports.
-#[derive(Drop)]
-#[derive(Clone, Copy)]
+#[derive(Clone, Copy, Drop)]
 pub struct Bridge {
     pub reader: Reader,
     pub past: Past,
 }
 
 // A movement on both axes, north positive.
-#[derive(Drop)]
-#[derive(Clone, Copy)]
+#[derive(Clone, Copy, Drop)]
 pub struct Move {
     pub x: i32,
     pub y: i32,
 }
 
 // A new bridge, or why there is none of this letter.
-#[derive(Drop)]
-#[derive(Clone, Copy)]
+#[derive(Clone, Copy, Drop)]
 pub struct NewBridge {
     pub refusal: u8,
     pub bridge: Bridge,
 }
 
 // What a long call gives back: also the words taken, the reports that came in, the V reports written and the bytes dropped.
-#[derive(Drop)]
-#[derive(Clone, Copy)]
+#[derive(Clone, Copy, Drop)]
 pub struct Converted {
     pub refusal: u8,
     pub next: Bridge,

@@ -3,8 +3,7 @@ use crate::{draws, mixes};
 use ballbox::{BallBox, Event, Excess, Going, Memory, Pair, Settings, Sums, Track};
 
 // The sum so far, and the box that came back.
-#[derive(Drop)]
-#[derive(Clone, Copy)]
+#[derive(Clone, Copy, Drop)]
 pub(crate) struct Stand {
     pub sum: u64,
     pub next: BallBox,

@@ -5,8 +5,7 @@ use crate::{draws, mixes, readers};
 use listing::{Listed, Lister, Scanner};
 
 // The sum so far, the lister that came back, and how far in the text it is.
-#[derive(Drop)]
-#[derive(Clone, Copy)]
+#[derive(Clone, Copy, Drop)]
 pub(crate) struct Stand {
     pub sum: u64,
     pub next: Lister,

@@ -3,8 +3,7 @@ use crate::{draws, mixes};
 use reader::{Reader, Reading};
 
 // The sum so far, and the reader that came back.
-#[derive(Drop)]
-#[derive(Clone, Copy)]
+#[derive(Clone, Copy, Drop)]
 pub(crate) struct Stand {
     pub sum: u64,
     pub next: Reader,

@@ -14,8 +14,7 @@ mod recorded;
 pub(crate) const MOST_LINES: u32 = 999_999;
 
 // What a line says: nothing that a line may say; a format; an event; or so many slots, each a Latch and a Send.
-#[derive(Drop)]
-#[derive(Clone, Copy)]
+#[derive(Clone, Copy, Drop)]
 pub(crate) enum Order {
     Bad,
     Format(u8),
@@ -25,8 +24,7 @@ pub(crate) enum Order {
 
 // How far the events have come: the lines passed, whether it has ended, the bytes of the unfinished line, the slots of the last line that are still to come, and
 // the box.
-#[derive(Drop)]
-#[derive(Clone, Copy)]
+#[derive(Clone, Copy, Drop)]
 pub struct Driver {
     pub line: u32,
     pub ended: bool,
@@ -37,8 +35,7 @@ pub struct Driver {
 }
 
 // What a call gives back: 0, or 6 for a driver that breaks its rules; the next driver; the bytes taken and written; and whether it has ended.
-#[derive(Drop)]
-#[derive(Clone, Copy)]
+#[derive(Clone, Copy, Drop)]
 pub struct Driven {
     pub refusal: u8,
     pub next: Driver,
@@ -48,8 +45,7 @@ pub struct Driven {
 }
 
 // What is recorded: the format, a word, or how it ended: the number of a line that is bad or was refused, or a line too many.
-#[derive(Drop)]
-#[derive(Clone, Copy)]
+#[derive(Clone, Copy, Drop)]
 pub(crate) enum Record {
     Format(u8),
     Word(u16),
@@ -57,16 +53,14 @@ pub(crate) enum Record {
     Over,
 }
 
-#[derive(Drop)]
-#[derive(Clone, Copy)]
+#[derive(Clone, Copy, Drop)]
 pub(crate) enum Given {
     Nothing,
     One(Record),
 }
 
 // What a line leaves: the box, what is recorded, and whether it is the last.
-#[derive(Drop)]
-#[derive(Clone, Copy)]
+#[derive(Clone, Copy, Drop)]
 pub(crate) struct Done {
     pub next: BallBox,
     pub given: Given,
@@ -74,16 +68,14 @@ pub(crate) struct Done {
 }
 
 // A driver, and the text that it writes.
-#[derive(Drop)]
-#[derive(Clone, Copy)]
+#[derive(Clone, Copy, Drop)]
 pub(crate) struct Turn {
     pub next: Driver,
     pub text: Text,
 }
 
 // The bytes of a piece that are taken together, one or none, and the turn that they make.
-#[derive(Drop)]
-#[derive(Clone, Copy)]
+#[derive(Clone, Copy, Drop)]
 pub(crate) struct Tick {
     pub taken: usize,
     pub turn: Turn,

@@ -4,16 +4,14 @@ ghost use Rattle.std.specs.Prelude.{◌+◌, ◌*◌, ◌≤◌, length};
 use reader::{Reader, Reading};
 
 // How a line is handed over: at most so many words and so many places in a call.
-#[derive(Drop)]
-#[derive(Clone, Copy)]
+#[derive(Clone, Copy, Drop)]
 pub(crate) struct Cut {
     pub(crate) words: usize,
     pub(crate) places: usize,
 }
 
 // What the calls gave: how many they were, the words taken, the reports written and the bytes dropped.
-#[derive(Drop)]
-#[derive(Clone, Copy)]
+#[derive(Clone, Copy, Drop)]
 pub(crate) struct Pass {
     pub(crate) calls: usize,
     pub(crate) taken: usize,

@@ -8,8 +8,7 @@ use std::io::Stdout;
 use vsxxx::SelfTest;
 
 // A run of a puck: the puck, and the words that it gave.
-#[derive(Drop)]
-#[derive(Clone, Copy)]
+#[derive(Clone, Copy, Drop)]
 struct Run {
     puck: Puck,
     line: Line,

@@ -7,16 +7,14 @@ use std::io::Stdout;
 use wire::Report;
 
 // The values of a movement: the lowest, and how many there are.
-#[derive(Drop)]
-#[derive(Clone, Copy)]
+#[derive(Clone, Copy, Drop)]
 pub(crate) struct Values {
     pub(crate) low: i16,
     pub(crate) count: u16,
 }
 
 // The values of x, of y, and of either number of the second pair.
-#[derive(Drop)]
-#[derive(Clone, Copy)]
+#[derive(Clone, Copy, Drop)]
 pub(crate) struct Ranges {
     pub(crate) x: Values,
     pub(crate) y: Values,
@@ -24,8 +22,7 @@ pub(crate) struct Ranges {
 }
 
 // The bytes of a report, and how many they are.
-#[derive(Drop)]
-#[derive(Clone, Copy)]
+#[derive(Clone, Copy, Drop)]
 pub(crate) struct Coded {
     pub(crate) bytes: [u8; 5],
     pub(crate) length: usize,

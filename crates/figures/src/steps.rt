@@ -63,8 +63,7 @@ pub(crate) fn refusal(output: Stdout, number: u8) {
 const ROOM: usize = 32;
 
 // The words that a run gave, as many as there is room for.
-#[derive(Drop)]
-#[derive(Clone, Copy)]
+#[derive(Clone, Copy, Drop)]
 pub(crate) struct Line {
     pub(crate) words: [u16; ROOM],
     pub(crate) count: usize,
@@ -96,8 +95,7 @@ pub(crate) fn noted(line: Line, count: u8, word: u16) -> Line {
 }
 
 // A run of the box: the box, and the words that it gave.
-#[derive(Drop)]
-#[derive(Clone, Copy)]
+#[derive(Clone, Copy, Drop)]
 pub(crate) struct Run {
     pub(crate) ball: BallBox,
     pub(crate) line: Line,

@@ -49,8 +49,7 @@ pub fn tenths_in(word: &[u8]) -> u8
 }
 
 // The reads in a row that brought nothing, and whether the line is gone.
-#[derive(Drop)]
-#[derive(Clone, Copy)]
+#[derive(Clone, Copy, Drop)]
 pub struct Clock {
     pub empty: u8,
     pub gone: bool,

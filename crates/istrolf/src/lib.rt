@@ -23,8 +23,7 @@ pub mod yards;
 
 // A reader as C holds it: the mark that it awaits a silence is 0 or 1.
 #[repr(C)]
-#[derive(Drop)]
-#[derive(Clone, Copy)]
+#[derive(Clone, Copy, Drop)]
 pub struct HeldReader {
     pub format: u8,
     pub kept: [u8; 5],
@@ -34,8 +33,7 @@ pub struct HeldReader {
 
 // A new reader, or why there is none of this letter.
 #[repr(C)]
-#[derive(Drop)]
-#[derive(Clone, Copy)]
+#[derive(Clone, Copy, Drop)]
 pub struct FreshReader {
     pub refusal: u8,
     pub reader: HeldReader,
@@ -43,8 +41,7 @@ pub struct FreshReader {
 
 // What a word is answered by: how many reports, 0 or 1, how many bytes dropped, and the report, zeros where there is none.
 #[repr(C)]
-#[derive(Drop)]
-#[derive(Clone, Copy)]
+#[derive(Clone, Copy, Drop)]
 pub struct ReadWord {
     pub refusal: u8,
     pub reports: u8,
@@ -55,8 +52,7 @@ pub struct ReadWord {
 
 // What a long read gives back.
 #[repr(C)]
-#[derive(Drop)]
-#[derive(Clone, Copy)]
+#[derive(Clone, Copy, Drop)]
 pub struct ReadWords {
     pub refusal: u8,
     pub next: HeldReader,
@@ -67,8 +63,7 @@ pub struct ReadWords {
 
 // What a byte, a wait or a loss gives back to the port: how many words it tells, 0 or 1, the word, 0 where there is none, and the port.
 #[repr(C)]
-#[derive(Drop)]
-#[derive(Clone, Copy)]
+#[derive(Clone, Copy, Drop)]
 pub struct PortWord {
     pub words: u8,
     pub word: u16,
@@ -77,8 +72,7 @@ pub struct PortWord {
 
 // What the encoder answers: 0 or a refusal, and how many bytes it wrote.
 #[repr(C)]
-#[derive(Drop)]
-#[derive(Clone, Copy)]
+#[derive(Clone, Copy, Drop)]
 pub struct Encoding {
     pub refusal: u8,
     pub length: usize,
@@ -86,8 +80,7 @@ pub struct Encoding {
 
 // A lister as C holds it: whether it has ended is 0 or 1.
 #[repr(C)]
-#[derive(Drop)]
-#[derive(Clone, Copy)]
+#[derive(Clone, Copy, Drop)]
 pub struct HeldLister {
     pub line: u32,
     pub ended: u8,
@@ -98,8 +91,7 @@ pub struct HeldLister {
 
 // What a call gives back.
 #[repr(C)]
-#[derive(Drop)]
-#[derive(Clone, Copy)]
+#[derive(Clone, Copy, Drop)]
 pub struct ListedBytes {
     pub refusal: u8,
     pub ended: u8,
@@ -110,8 +102,7 @@ pub struct ListedBytes {
 
 // A bridge as C holds it: whether there is a base and whether the middle was down are 0 or 1; the base stands at the end.
 #[repr(C)]
-#[derive(Drop)]
-#[derive(Clone, Copy)]
+#[derive(Clone, Copy, Drop)]
 pub struct HeldBridge {
     pub reader: HeldReader,
     pub based: u8,
@@ -123,8 +114,7 @@ pub struct HeldBridge {
 
 // A new bridge, or why there is none of this letter.
 #[repr(C)]
-#[derive(Drop)]
-#[derive(Clone, Copy)]
+#[derive(Clone, Copy, Drop)]
 pub struct FreshBridge {
     pub refusal: u8,
     pub bridge: HeldBridge,
@@ -132,8 +122,7 @@ pub struct FreshBridge {
 
 // What a long call gives back.
 #[repr(C)]
-#[derive(Drop)]
-#[derive(Clone, Copy)]
+#[derive(Clone, Copy, Drop)]
 pub struct ConvertedWords {
     pub refusal: u8,
     pub next: HeldBridge,
@@ -145,8 +134,7 @@ pub struct ConvertedWords {
 
 // What a salvage tells: whether every line had room is 0 or 1.
 #[repr(C)]
-#[derive(Drop)]
-#[derive(Clone, Copy)]
+#[derive(Clone, Copy, Drop)]
 pub struct SalvagedBytes {
     pub whole: u8,
     pub written: usize,
@@ -154,8 +142,7 @@ pub struct SalvagedBytes {
 
 // A reader that is told of replies, as C holds it: the reply that is awaited is a number, 0 where none is.
 #[repr(C)]
-#[derive(Drop)]
-#[derive(Clone, Copy)]
+#[derive(Clone, Copy, Drop)]
 pub struct HeldTold {
     pub reader: HeldReader,
     pub awaited: u8,
@@ -164,8 +151,7 @@ pub struct HeldTold {
 
 // What became of a reply, by its number: 0 nothing yet, 1 ACK, 2 a format, 3 a format and a mode, 4 buttons, 5 broken behind the bytes that had come; zeros elsewhere.
 #[repr(C)]
-#[derive(Drop)]
-#[derive(Clone, Copy)]
+#[derive(Clone, Copy, Drop)]
 pub struct HeldReply {
     pub kind: u8,
     pub format: u8,
@@ -176,8 +162,7 @@ pub struct HeldReply {
 
 // A new reader that is told of replies, or why there is none of this letter.
 #[repr(C)]
-#[derive(Drop)]
-#[derive(Clone, Copy)]
+#[derive(Clone, Copy, Drop)]
 pub struct FreshTold {
     pub refusal: u8,
     pub told: HeldTold,
@@ -185,8 +170,7 @@ pub struct FreshTold {
 
 // What a telling gives back: also how many bytes of an unfinished reply it discards.
 #[repr(C)]
-#[derive(Drop)]
-#[derive(Clone, Copy)]
+#[derive(Clone, Copy, Drop)]
 pub struct ToldCommand {
     pub refusal: u8,
     pub discarded: u8,
@@ -195,8 +179,7 @@ pub struct ToldCommand {
 
 // What a word is answered by: what became of the reply, and the report reader's own answer as in ReadWord.
 #[repr(C)]
-#[derive(Drop)]
-#[derive(Clone, Copy)]
+#[derive(Clone, Copy, Drop)]
 pub struct HeardWord {
     pub refusal: u8,
     pub reports: u8,
@@ -208,8 +191,7 @@ pub struct HeardWord {
 
 // What a long read gives back, and what became of the reply.
 #[repr(C)]
-#[derive(Drop)]
-#[derive(Clone, Copy)]
+#[derive(Clone, Copy, Drop)]
 pub struct HeardWords {
     pub refusal: u8,
     pub reply: HeldReply,
@@ -220,8 +202,7 @@ pub struct HeardWords {
 }
 
 // The reports, 0 or 1, and the bytes dropped of an answer, and the report, zeros where there is none.
-#[derive(Drop)]
-#[derive(Clone, Copy)]
+#[derive(Clone, Copy, Drop)]
 pub(crate) struct Own {
     pub reports: u8,
     pub dropped: u8,
@@ -230,8 +211,7 @@ pub(crate) struct Own {
 
 // What a word is answered by: how many movements and how many self-tests, 0 or 1, how many bytes dropped, and the report, zeros where there is none.
 #[repr(C)]
-#[derive(Drop)]
-#[derive(Clone, Copy)]
+#[derive(Clone, Copy, Drop)]
 pub struct ReadPuckWord {
     pub refusal: u8,
     pub movements: u8,
@@ -244,8 +224,7 @@ pub struct ReadPuckWord {
 
 // What a long read gives back.
 #[repr(C)]
-#[derive(Drop)]
-#[derive(Clone, Copy)]
+#[derive(Clone, Copy, Drop)]
 pub struct ReadPuckWords {
     pub refusal: u8,
     pub next: PuckReader,

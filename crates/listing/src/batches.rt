@@ -24,8 +24,7 @@ const MANY: usize = 32;
 const ROOM: usize = 40;
 
 // How many words were gathered, and the place behind their lines.
-#[derive(Drop)]
-#[derive(Clone, Copy)]
+#[derive(Clone, Copy, Drop)]
 struct Batch {
     count: usize,
     end: usize,
@@ -97,8 +96,7 @@ fn plain(number: i16) -> u16
 }
 
 // The buttons, x and y of a report told at a place.
-#[derive(Drop)]
-#[derive(Clone, Copy)]
+#[derive(Clone, Copy, Drop)]
 struct Movement {
     buttons: Buttons,
     x: i64,
@@ -177,8 +175,7 @@ fn shown(line: u32, reader: Reader, words: &[u16], told: &[i16], out: &mut [u8],
 }
 
 // What words left: whether all were taken, the reader behind them, and the place behind what they give.
-#[derive(Drop)]
-#[derive(Clone, Copy)]
+#[derive(Clone, Copy, Drop)]
 struct Printing {
     all: bool,
     next: Reader,
@@ -216,8 +213,7 @@ fn printed(
 }
 
 // Lines of silences: how many, and the place behind them.
-#[derive(Drop)]
-#[derive(Clone, Copy)]
+#[derive(Clone, Copy, Drop)]
 struct Silences {
     count: u32,
     end: usize,

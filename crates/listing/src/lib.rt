@@ -20,8 +20,7 @@ mod stamped;
 pub(crate) const WIDTH: u8 = 6;
 
 // What a line says.
-#[derive(Drop)]
-#[derive(Clone, Copy)]
+#[derive(Clone, Copy, Drop)]
 pub(crate) enum Line {
     Bad,
     Format(u8),
@@ -29,8 +28,7 @@ pub(crate) enum Line {
 }
 
 // How far a recording has been scanned: the lines passed, whether it has ended, and the bytes of the unfinished line.
-#[derive(Drop)]
-#[derive(Clone, Copy)]
+#[derive(Clone, Copy, Drop)]
 pub struct Scanner {
     pub line: u32,
     pub ended: bool,
@@ -39,8 +37,7 @@ pub struct Scanner {
 }
 
 // What is found in a recording: its format; the number of a line and its word; the number of a bad line; a line too many; and its end.
-#[derive(Drop)]
-#[derive(Clone, Copy)]
+#[derive(Clone, Copy, Drop)]
 pub enum Found {
     Nothing,
     Format(u8),
@@ -51,24 +48,21 @@ pub enum Found {
 }
 
 // A scanner, and what it found.
-#[derive(Drop)]
-#[derive(Clone, Copy)]
+#[derive(Clone, Copy, Drop)]
 pub struct Scan {
     pub next: Scanner,
     pub found: Found,
 }
 
 // The middle button, which is not known in V.
-#[derive(Drop)]
-#[derive(Clone, Copy)]
+#[derive(Clone, Copy, Drop)]
 pub enum Middle {
     Up,
     Down,
     Unknown,
 }
 
-#[derive(Drop)]
-#[derive(Clone, Copy)]
+#[derive(Clone, Copy, Drop)]
 pub struct Buttons {
     pub left: bool,
     pub middle: Middle,
@@ -77,8 +71,7 @@ pub struct Buttons {
 
 // What a line of the listing shows, by its letter: D, a line and the bytes dropped; R, a line, the buttons, x and y; H, the bytes kept; E, a bad
 // line or `over`.
-#[derive(Drop)]
-#[derive(Clone, Copy)]
+#[derive(Clone, Copy, Drop)]
 pub enum Item {
     D(u32, u16),
     R(u32, Buttons, i64, i64),
@@ -88,24 +81,21 @@ pub enum Item {
 }
 
 // What is given: nothing, or an item.
-#[derive(Drop)]
-#[derive(Clone, Copy)]
+#[derive(Clone, Copy, Drop)]
 pub enum Given {
     Nothing,
     One(Item),
 }
 
 // A reader, and what it gave.
-#[derive(Drop)]
-#[derive(Clone, Copy)]
+#[derive(Clone, Copy, Drop)]
 pub(crate) struct Gave {
     pub next: Reader,
     pub given: Given,
 }
 
 // A field of a line: the number of a line, a number, buttons, or `over`.
-#[derive(Drop)]
-#[derive(Clone, Copy)]
+#[derive(Clone, Copy, Drop)]
 pub enum Field {
     Line(u32),
     Number(i64),
@@ -114,16 +104,14 @@ pub enum Field {
 }
 
 // The scanner, and the reader of what it finds.
-#[derive(Drop)]
-#[derive(Clone, Copy)]
+#[derive(Clone, Copy, Drop)]
 pub struct Lister {
     pub scanner: Scanner,
     pub reader: Reader,
 }
 
 // What a call gives back: 0, or 6 for a lister that breaks its rules; the next lister; the bytes taken and written; and whether it has ended.
-#[derive(Drop)]
-#[derive(Clone, Copy)]
+#[derive(Clone, Copy, Drop)]
 pub struct Listed {
     pub refusal: u8,
     pub next: Lister,
@@ -133,16 +121,14 @@ pub struct Listed {
 }
 
 // A lister, and the text that it writes.
-#[derive(Drop)]
-#[derive(Clone, Copy)]
+#[derive(Clone, Copy, Drop)]
 pub(crate) struct Turn {
     pub next: Lister,
     pub text: Text,
 }
 
 // The bytes at the front of a piece that are taken together: the lister behind them, how many they are, and the places of their text.
-#[derive(Drop)]
-#[derive(Clone, Copy)]
+#[derive(Clone, Copy, Drop)]
 pub(crate) struct Front {
     pub next: Lister,
     pub taken: usize,
@@ -150,16 +136,14 @@ pub(crate) struct Front {
 }
 
 // The bytes of a line with its newline, 0 where there is none, and its word.
-#[derive(Drop)]
-#[derive(Clone, Copy)]
+#[derive(Clone, Copy, Drop)]
 pub(crate) struct Told {
     pub taken: usize,
     pub word: u16,
 }
 
 // The number of a line between tabs, but for its last digit, which stands beside.
-#[derive(Drop)]
-#[derive(Clone, Copy)]
+#[derive(Clone, Copy, Drop)]
 pub(crate) struct Stamp {
     pub bytes: [u8; 8],
     pub last: u8,

@@ -15,8 +15,7 @@ use driver::Driver;
 use shell::Streams;
 
 // Where the events stand: the driver, whether more is to be read, and whether each read and write went well.
-#[derive(Drop)]
-#[derive(Clone, Copy)]
+#[derive(Clone, Copy, Drop)]
 struct Went {
     next: Driver,
     on: bool,

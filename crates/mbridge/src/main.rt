@@ -20,8 +20,7 @@ use text::Text;
 const MOST: usize = 594;
 
 // The bridge, and the place behind the lines that were put.
-#[derive(Drop)]
-#[derive(Clone, Copy)]
+#[derive(Clone, Copy, Drop)]
 struct Put {
     next: Bridge,
     used: usize,
@@ -29,8 +28,7 @@ struct Put {
 
 // The scanner of the recording and the bridge of its format, the bytes that are to be shown, whether more is to be read, and whether each read and
 // write went well.
-#[derive(Drop)]
-#[derive(Clone, Copy)]
+#[derive(Clone, Copy, Drop)]
 struct Went {
     scanner: Scanner,
     bridge: Bridge,

@@ -15,8 +15,7 @@ use listing::Lister;
 use shell::Streams;
 
 // Where the listing stands: the lister, whether more is to be read, and whether each read and write went well.
-#[derive(Drop)]
-#[derive(Clone, Copy)]
+#[derive(Clone, Copy, Drop)]
 struct Went {
     next: Lister,
     on: bool,

@@ -23,8 +23,7 @@ use wire::{BREAK, SILENCE};
 mod notes;
 
 // The port, how many lines are left, and the word of the last line.
-#[derive(Drop)]
-#[derive(Clone, Copy)]
+#[derive(Clone, Copy, Drop)]
 struct Tape {
     port: Port,
     left: u32,
@@ -32,16 +31,14 @@ struct Tape {
 }
 
 // A tape, and the place behind its text in a slice.
-#[derive(Drop)]
-#[derive(Clone, Copy)]
+#[derive(Clone, Copy, Drop)]
 struct Taped {
     tape: Tape,
     at: usize,
 }
 
 // Where the recording stands: the tape, whether bytes came, whether it goes on, and whether each read and write went well.
-#[derive(Drop)]
-#[derive(Clone, Copy)]
+#[derive(Clone, Copy, Drop)]
 struct Went {
     tape: Tape,
     came: bool,

@@ -7,8 +7,7 @@ use text::Text;
 const LAST: i64 = 253_402_300_799;
 
 // A day and its year, or its month.
-#[derive(Drop)]
-#[derive(Clone, Copy)]
+#[derive(Clone, Copy, Drop)]
 struct Day {
     of: u32,
     day: u32,

@@ -12,8 +12,7 @@ ghost use Rattle.msalvage.specs.Blocks.{Holds, Left};
 use shell::Streams;
 
 // The input so far: how many bytes, whether more is to be read, and whether each read went well.
-#[derive(Drop)]
-#[derive(Clone, Copy)]
+#[derive(Clone, Copy, Drop)]
 struct Went {
     count: usize,
     on: bool,

@@ -23,8 +23,7 @@ use text::Text;
 
 // Where the table stands: the reader, the bytes of a line that is not whole yet, whether more is to be read, whether each read and write went well, and the
 // place of a faulty line.
-#[derive(Drop)]
-#[derive(Clone, Copy)]
+#[derive(Clone, Copy, Drop)]
 struct Went {
     next: Readback,
     held: usize,

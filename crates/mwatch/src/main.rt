@@ -25,8 +25,7 @@ use text::Text;
 use wire::Report;
 
 // A reader and a watch behind it, and how many reports, presses and dropped bytes there were.
-#[derive(Drop)]
-#[derive(Clone, Copy)]
+#[derive(Clone, Copy, Drop)]
 struct Look {
     reader: Reader,
     watch: Watch,
@@ -36,39 +35,34 @@ struct Look {
 }
 
 // And the port before them.
-#[derive(Drop)]
-#[derive(Clone, Copy)]
+#[derive(Clone, Copy, Drop)]
 struct Sight {
     port: Port,
     look: Look,
 }
 
 // The same, and the place behind its text in a slice.
-#[derive(Drop)]
-#[derive(Clone, Copy)]
+#[derive(Clone, Copy, Drop)]
 struct Looked {
     look: Look,
     at: usize,
 }
 
-#[derive(Drop)]
-#[derive(Clone, Copy)]
+#[derive(Clone, Copy, Drop)]
 struct Seen {
     sight: Sight,
     at: usize,
 }
 
 // A count, and the place behind the text.
-#[derive(Drop)]
-#[derive(Clone, Copy)]
+#[derive(Clone, Copy, Drop)]
 struct Tally {
     count: u32,
     at: usize,
 }
 
 // Where the watching stands: whether bytes came, whether it goes on, and whether each read and write went well.
-#[derive(Drop)]
-#[derive(Clone, Copy)]
+#[derive(Clone, Copy, Drop)]
 struct Went {
     sight: Sight,
     came: bool,

@@ -19,8 +19,7 @@ use text::Text;
 
 // Where the rewriting stands: the reader, the bytes of a line that is not whole yet, whether more is to be read, whether each read and write went well, and
 // what was refused, with its line.
-#[derive(Drop)]
-#[derive(Clone, Copy)]
+#[derive(Clone, Copy, Drop)]
 struct Went {
     next: Readback,
     held: usize,

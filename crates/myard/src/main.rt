@@ -17,8 +17,7 @@ use yard::Yard;
 mod judging;
 
 // What is to be said: yes; no, with the line of the first word that cannot be sent; a bad line; a line too many.
-#[derive(Drop)]
-#[derive(Clone, Copy)]
+#[derive(Clone, Copy, Drop)]
 pub(crate) enum Verdict {
     Yes,
     No(u32),
@@ -27,8 +26,7 @@ pub(crate) enum Verdict {
 }
 
 // How far a recording has been judged: the scanner, the check behind it, and what is to be said.
-#[derive(Drop)]
-#[derive(Clone, Copy)]
+#[derive(Clone, Copy, Drop)]
 pub(crate) struct Judge {
     pub scanner: Scanner,
     pub yard: Yard,
@@ -36,8 +34,7 @@ pub(crate) struct Judge {
 }
 
 // How far the recording has been judged, whether more is to be read, and whether each read went well.
-#[derive(Drop)]
-#[derive(Clone, Copy)]
+#[derive(Clone, Copy, Drop)]
 struct Went {
     next: Judge,
     on: bool,

@@ -14,8 +14,7 @@ mod marks;
 // How far a mark has come: 0 none, 1 FF, else FF 00. Whether bit 7 of every byte is cleared: 0 if not. How long nothing
 // must come for a silence, 0 for never; and how much of that is left, 0 once it was told.
 #[repr(C)]
-#[derive(Drop)]
-#[derive(Clone, Copy)]
+#[derive(Clone, Copy, Drop)]
 pub struct Port {
     pub held: u8,
     pub clears: u8,
@@ -24,16 +23,14 @@ pub struct Port {
 }
 
 // What a byte, a wait or a loss tells: nothing, or a word.
-#[derive(Drop)]
-#[derive(Clone, Copy)]
+#[derive(Clone, Copy, Drop)]
 pub enum Given {
     Nothing,
     Word(u16),
 }
 
 // What a byte, a wait or a loss gives back.
-#[derive(Drop)]
-#[derive(Clone, Copy)]
+#[derive(Clone, Copy, Drop)]
 pub struct Heard {
     pub next: Port,
     pub given: Given,
@@ -41,8 +38,7 @@ pub struct Heard {
 
 // What many bytes give back: how many were taken, and how many words were written.
 #[repr(C)]
-#[derive(Drop)]
-#[derive(Clone, Copy)]
+#[derive(Clone, Copy, Drop)]
 pub struct Words {
     pub next: Port,
     pub taken: usize,

@@ -13,8 +13,7 @@ mod rules;
 
 // The self-test that is going: how many of its four bytes are left to be sent, 0 where none is going, and the buttons as they were at its start.
 #[repr(C)]
-#[derive(Drop)]
-#[derive(Clone, Copy)]
+#[derive(Clone, Copy, Drop)]
 pub struct Testing {
     pub left: u8,
     pub buttons: u8,
@@ -22,8 +21,7 @@ pub struct Testing {
 
 // A box in S, and beside it the self-test, the firmware's revision and the maker's location.
 #[repr(C)]
-#[derive(Drop)]
-#[derive(Clone, Copy)]
+#[derive(Clone, Copy, Drop)]
 pub struct Puck {
     pub ball: BallBox,
     pub test: Testing,
@@ -33,8 +31,7 @@ pub struct Puck {
 
 // What a step hands back, as the box's: the number of the refusal, how many words are sent, the word, 0, and the device.
 #[repr(C)]
-#[derive(Drop)]
-#[derive(Clone, Copy)]
+#[derive(Clone, Copy, Drop)]
 pub struct PuckStepped {
     pub refusal: u8,
     pub sent: u8,

@@ -13,16 +13,14 @@ mod rules;
 
 // The bytes kept and how many.
 #[repr(C)]
-#[derive(Drop)]
-#[derive(Clone, Copy)]
+#[derive(Clone, Copy, Drop)]
 pub struct PuckReader {
     pub kept: [u8; 3],
     pub count: u8,
 }
 
 // What a word is answered by: nothing, a movement, a self-test, or a number of bytes dropped.
-#[derive(Drop)]
-#[derive(Clone, Copy)]
+#[derive(Clone, Copy, Drop)]
 pub enum PuckAnswer {
     Nothing,
     Movement(Report),
@@ -31,8 +29,7 @@ pub enum PuckAnswer {
 }
 
 // What a step gives back.
-#[derive(Drop)]
-#[derive(Clone, Copy)]
+#[derive(Clone, Copy, Drop)]
 pub struct PuckRead {
     pub refusal: u8,
     pub next: PuckReader,
@@ -40,8 +37,7 @@ pub struct PuckRead {
 }
 
 // What a long read gives back: also the words taken, the reports written and the bytes dropped.
-#[derive(Drop)]
-#[derive(Clone, Copy)]
+#[derive(Clone, Copy, Drop)]
 pub struct PuckReading {
     pub refusal: u8,
     pub next: PuckReader,

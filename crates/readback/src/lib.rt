@@ -11,8 +11,7 @@ mod rewriting;
 mod steps;
 
 // The kinds of fields: the number of a line, a count, a number, buttons, and `over`.
-#[derive(Drop)]
-#[derive(Clone, Copy)]
+#[derive(Clone, Copy, Drop)]
 pub(crate) enum Kind {
     Line,
     Count,
@@ -22,16 +21,14 @@ pub(crate) enum Kind {
 }
 
 // What the bytes of a field say: whether they are of its kind, and their value.
-#[derive(Drop)]
-#[derive(Clone, Copy)]
+#[derive(Clone, Copy, Drop)]
 pub(crate) struct Value {
     pub good: bool,
     pub value: i64,
 }
 
 // A field of a line, behind its tab, and the place behind it.
-#[derive(Drop)]
-#[derive(Clone, Copy)]
+#[derive(Clone, Copy, Drop)]
 pub(crate) struct Took {
     pub good: bool,
     pub value: i64,
@@ -39,8 +36,7 @@ pub(crate) struct Took {
 }
 
 // An item as five numbers: its kind (1 R, 2 D, 3 H, 4 E, 5 E over), its line, and three values.
-#[derive(Drop)]
-#[derive(Clone, Copy)]
+#[derive(Clone, Copy, Drop)]
 pub(crate) struct Five {
     pub kind: i32,
     pub line: i32,
@@ -52,8 +48,7 @@ pub(crate) struct Five {
 // How far a listing has been read: the width of its line numbers, 0 before its first line; whether its last line has
 // come, and whether it is a salvage's, each 0 or 1; the last line number; and the lines passed.
 #[repr(C)]
-#[derive(Drop)]
-#[derive(Clone, Copy)]
+#[derive(Clone, Copy, Drop)]
 pub struct Readback {
     pub width: u8,
     pub ended: u8,
@@ -63,8 +58,7 @@ pub struct Readback {
 }
 
 // What a line does: whether it may stand there, the next reader, and its item, if it has one.
-#[derive(Drop)]
-#[derive(Clone, Copy)]
+#[derive(Clone, Copy, Drop)]
 pub(crate) struct Step {
     pub good: bool,
     pub next: Readback,
@@ -74,8 +68,7 @@ pub(crate) struct Step {
 // What rewriting gives back: 0, 6 or 7 as above, or 15 for a line number that does not fit the other width; the next reader; the bytes taken and written; and
 // the place of the line that was not rewritten among the lines, counted from 1, or 0.
 #[repr(C)]
-#[derive(Drop)]
-#[derive(Clone, Copy)]
+#[derive(Clone, Copy, Drop)]
 pub struct Rewritten {
     pub refusal: u8,
     pub line: u32,
@@ -87,8 +80,7 @@ pub struct Rewritten {
 // What a call gives back: 0, 6 for a reader that breaks its rules, or 7 for a faulty line; the next reader; the bytes taken and the items written; and the
 // place of the faulty line among the lines, counted from 1, or 0.
 #[repr(C)]
-#[derive(Drop)]
-#[derive(Clone, Copy)]
+#[derive(Clone, Copy, Drop)]
 pub struct Back {
     pub refusal: u8,
     pub line: u32,

@@ -16,8 +16,7 @@ mod telling;
 mod whole;
 
 // A format by its letter, the bytes kept and how many, and whether it awaits a silence.
-#[derive(Drop)]
-#[derive(Clone, Copy)]
+#[derive(Clone, Copy, Drop)]
 pub struct Reader {
     pub format: u8,
     pub kept: [u8; 5],
@@ -26,8 +25,7 @@ pub struct Reader {
 }
 
 // What a word is answered by: nothing, a report, or a number of bytes dropped.
-#[derive(Drop)]
-#[derive(Clone, Copy)]
+#[derive(Clone, Copy, Drop)]
 pub enum Answer {
     Nothing,
     Report(Report),
@@ -35,16 +33,14 @@ pub enum Answer {
 }
 
 // A new reader, or why there is none of this letter.
-#[derive(Drop)]
-#[derive(Clone, Copy)]
+#[derive(Clone, Copy, Drop)]
 pub struct NewReader {
     pub refusal: u8,
     pub reader: Reader,
 }
 
 // What a step gives back.
-#[derive(Drop)]
-#[derive(Clone, Copy)]
+#[derive(Clone, Copy, Drop)]
 pub struct Read {
     pub refusal: u8,
     pub next: Reader,
@@ -52,8 +48,7 @@ pub struct Read {
 }
 
 // What a long read gives back: also the words taken, the reports written and the bytes dropped.
-#[derive(Drop)]
-#[derive(Clone, Copy)]
+#[derive(Clone, Copy, Drop)]
 pub struct Reading {
     pub refusal: u8,
     pub next: Reader,
@@ -63,8 +58,7 @@ pub struct Reading {
 }
 
 // What a telling of answers gives back: the words taken, and the numbers written.
-#[derive(Drop)]
-#[derive(Clone, Copy)]
+#[derive(Clone, Copy, Drop)]
 pub struct Answers {
     pub refusal: u8,
     pub next: Reader,

@@ -12,8 +12,7 @@ use crate::rules::entered;
 use wire::SILENCE;
 
 // The words passed, and the places of their reports.
-#[derive(Drop)]
-#[derive(Clone, Copy)]
+#[derive(Clone, Copy, Drop)]
 pub(crate) struct Run {
     pub taken: usize,
     pub used: usize,

@@ -17,16 +17,14 @@ mod rules;
 pub(crate) const NO_REPLY: u8 = 12;
 
 // What was just sent: a command, by its byte, or a byte of any kind that woke a dormant box.
-#[derive(Drop)]
-#[derive(Clone, Copy)]
+#[derive(Clone, Copy, Drop)]
 pub enum Asked {
     Command(u8),
     Waking,
 }
 
 // The reply that is awaited: none, or that to a space or a waking byte, to `f`, to `t` or to 05H.
-#[derive(Drop)]
-#[derive(Clone, Copy)]
+#[derive(Clone, Copy, Drop)]
 pub enum Kind {
     Nothing,
     Ack,
@@ -37,8 +35,7 @@ pub enum Kind {
 
 // The bytes of a reply that have come: how many, at most two, and 0 in the places behind them.
 #[repr(C)]
-#[derive(Drop)]
-#[derive(Clone, Copy)]
+#[derive(Clone, Copy, Drop)]
 pub struct Came {
     pub count: u8,
     pub first: u8,
@@ -46,24 +43,21 @@ pub struct Came {
 }
 
 // A reply that is awaited, and what has come of it.
-#[derive(Drop)]
-#[derive(Clone, Copy)]
+#[derive(Clone, Copy, Drop)]
 pub struct Awaited {
     pub kind: Kind,
     pub came: Came,
 }
 
 // The report reader, and the reply that is awaited before it is given a word.
-#[derive(Drop)]
-#[derive(Clone, Copy)]
+#[derive(Clone, Copy, Drop)]
 pub struct ToldReader {
     pub reader: Reader,
     pub awaited: Awaited,
 }
 
 // What became of a reply: nothing yet; it is whole, with the format, the format and the mode, or the buttons that it tells; it was broken, behind these bytes.
-#[derive(Drop)]
-#[derive(Clone, Copy)]
+#[derive(Clone, Copy, Drop)]
 pub enum Reply {
     Nothing,
     Ack,
@@ -74,16 +68,14 @@ pub enum Reply {
 }
 
 // A new reader, or why there is none of this letter.
-#[derive(Drop)]
-#[derive(Clone, Copy)]
+#[derive(Clone, Copy, Drop)]
 pub struct NewToldReader {
     pub refusal: u8,
     pub reader: ToldReader,
 }
 
 // What a telling gives back: also how many bytes of an unfinished reply it discards.
-#[derive(Drop)]
-#[derive(Clone, Copy)]
+#[derive(Clone, Copy, Drop)]
 pub struct Telling {
     pub refusal: u8,
     pub next: ToldReader,
@@ -91,8 +83,7 @@ pub struct Telling {
 }
 
 // What a word gives back: what became of the reply, and the report reader's own answer.
-#[derive(Drop)]
-#[derive(Clone, Copy)]
+#[derive(Clone, Copy, Drop)]
 pub struct Heard {
     pub refusal: u8,
     pub next: ToldReader,
@@ -101,8 +92,7 @@ pub struct Heard {
 }
 
 // What a long read gives back: also the words taken, the reports written, the bytes dropped, and what became of the reply, of which there is at most one.
-#[derive(Drop)]
-#[derive(Clone, Copy)]
+#[derive(Clone, Copy, Drop)]
 pub struct HeardLine {
     pub refusal: u8,
     pub next: ToldReader,
@@ -113,8 +103,7 @@ pub struct HeardLine {
 }
 
 // The bytes of a reply at the front of a line: how many, what is awaited behind them, and the reply, where it is whole.
-#[derive(Drop)]
-#[derive(Clone, Copy)]
+#[derive(Clone, Copy, Drop)]
 pub(crate) struct Front {
     pub awaited: Awaited,
     pub taken: usize,

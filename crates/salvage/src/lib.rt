@@ -14,8 +14,7 @@ pub const MOST: usize = 4096;
 
 // What is told of the runs picked: 0 or a refusal; the words taken; the runs; and the bytes left out of the words taken.
 #[repr(C)]
-#[derive(Drop)]
-#[derive(Clone, Copy)]
+#[derive(Clone, Copy, Drop)]
 pub struct Picked {
     pub refusal: u8,
     pub taken: usize,

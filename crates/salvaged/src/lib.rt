@@ -10,16 +10,14 @@ mod log;
 mod walk;
 
 // What is told: the bytes written, and whether every line had room.
-#[derive(Drop)]
-#[derive(Clone, Copy)]
+#[derive(Clone, Copy, Drop)]
 pub struct Salvaged {
     pub written: usize,
     pub whole: bool,
 }
 
 // The format heard, how many words, and what stands alone, if anything.
-#[derive(Drop)]
-#[derive(Clone, Copy)]
+#[derive(Clone, Copy, Drop)]
 pub(crate) struct Heard {
     pub letter: u8,
     pub count: usize,
@@ -27,8 +25,7 @@ pub(crate) struct Heard {
 }
 
 // How far a log has been printed: the place, the bytes left out right before it, and what is told so far.
-#[derive(Drop)]
-#[derive(Clone, Copy)]
+#[derive(Clone, Copy, Drop)]
 pub(crate) struct Step {
     pub at: usize,
     pub left: usize,

@@ -11,8 +11,7 @@ mod rules;
 // What the host knows: `known` is 0 where it has seen no buttons yet; `last` are those that it saw last, 4L+2M+R, and
 // higher bits of it are not looked at.
 #[repr(C)]
-#[derive(Drop)]
-#[derive(Clone, Copy)]
+#[derive(Clone, Copy, Drop)]
 pub struct Watch {
     pub known: u8,
     pub last: u8,
@@ -21,8 +20,7 @@ pub struct Watch {
 // What a report tells: which buttons went down and which went up since the one before it, 4L+2M+R, and the watch for
 // the next.
 #[repr(C)]
-#[derive(Drop)]
-#[derive(Clone, Copy)]
+#[derive(Clone, Copy, Drop)]
 pub struct Told {
     pub next: Watch,
     pub down: u8,
@@ -31,8 +29,7 @@ pub struct Told {
 
 // What many reports tell: how often each button went down, and the watch for the next.
 #[repr(C)]
-#[derive(Drop)]
-#[derive(Clone, Copy)]
+#[derive(Clone, Copy, Drop)]
 pub struct Watched {
     pub next: Watch,
     pub left: usize,

@@ -15,8 +15,7 @@ use std::rt::{Clock, Env};
 use words::Words;
 
 // The three streams of a program, as `main` has them of its runtime. Nothing outside this crate reads or writes one of them.
-#[derive(Drop)]
-#[derive(Clone, Copy)]
+#[derive(Clone, Copy, Drop)]
 pub struct Streams {
     input: Stdin,
     output: Stdout,
@@ -36,8 +35,7 @@ impl Streams {
 }
 
 // How many bytes a read brought, and whether it went well.
-#[derive(Drop)]
-#[derive(Clone, Copy)]
+#[derive(Clone, Copy, Drop)]
 pub struct Got {
     pub count: usize,
     pub well: bool,

@@ -10,16 +10,14 @@ mod growth;
 pub const PLAIN: usize = 1;
 
 // The bytes of a text are its first len.
-#[derive(Drop)]
-#[derive(Clone, Copy)]
+#[derive(Clone, Copy, Drop)]
 pub struct Text {
     pub bytes: [u8; 40],
     pub len: usize,
 }
 
 // The number of a decimal, if it is one.
-#[derive(Drop)]
-#[derive(Clone, Copy)]
+#[derive(Clone, Copy, Drop)]
 pub enum Number {
     None,
     Is(i64),

@@ -44,8 +44,7 @@ pub const BAD_STATE: u8 = 6;
 
 // A report: the buttons as 4L+2M+R, the movement, and the second pair, which is zero except in U. North is positive.
 #[repr(C)]
-#[derive(Drop)]
-#[derive(Clone, Copy)]
+#[derive(Clone, Copy, Drop)]
 pub struct Report {
     pub buttons: u8,
     pub x1: i16,
@@ -55,8 +54,7 @@ pub struct Report {
 }
 
 // The formats of the letters S, V, A, B, U, T, W.
-#[derive(Drop)]
-#[derive(Clone, Copy)]
+#[derive(Clone, Copy, Drop)]
 pub enum Format {
     Mm,
     Microsoft,
@@ -68,16 +66,14 @@ pub enum Format {
 }
 
 // What a letter names.
-#[derive(Drop)]
-#[derive(Clone, Copy)]
+#[derive(Clone, Copy, Drop)]
 pub enum Named {
     Known(Format),
     Unknown,
 }
 
 // What the encoder answers: how many bytes it wrote, or why it refused.
-#[derive(Drop)]
-#[derive(Clone, Copy)]
+#[derive(Clone, Copy, Drop)]
 pub enum Encoded {
     Written(usize),
     NoSuchLetter,
@@ -90,16 +86,14 @@ pub enum Encoded {
 }
 
 // The movements that a format holds, from low to high.
-#[derive(Drop)]
-#[derive(Clone, Copy)]
+#[derive(Clone, Copy, Drop)]
 pub struct Range {
     pub low: i16,
     pub high: i16,
 }
 
 // Which movement of a report a format does not hold: none, or the first in this order.
-#[derive(Drop)]
-#[derive(Clone, Copy)]
+#[derive(Clone, Copy, Drop)]
 pub enum Unheld {
     None,
     FirstX,

@@ -15,8 +15,7 @@ mod stands;
 // How far a log has been checked: the format by its letter; of the report that is going the first byte, the last byte
 // and how many have gone; and 1 where a word has come that no box could send, else 0.
 #[repr(C)]
-#[derive(Drop)]
-#[derive(Clone, Copy)]
+#[derive(Clone, Copy, Drop)]
 pub struct Yard {
     pub format: u8,
     pub first: u8,
@@ -27,8 +26,7 @@ pub struct Yard {
 
 // A new check, or why there is none of this letter.
 #[repr(C)]
-#[derive(Drop)]
-#[derive(Clone, Copy)]
+#[derive(Clone, Copy, Drop)]
 pub struct NewYard {
     pub refusal: u8,
     pub yard: Yard,
@@ -36,8 +34,7 @@ pub struct NewYard {
 
 // What a word gives back: 1 where a box can have sent it, with those before it, else 0.
 #[repr(C)]
-#[derive(Drop)]
-#[derive(Clone, Copy)]
+#[derive(Clone, Copy, Drop)]
 pub struct Judged {
     pub refusal: u8,
     pub can: u8,
@@ -46,8 +43,7 @@ pub struct Judged {
 
 // What a log gives back: 1 where a box can send all of it, else 0, and how many of its words, from the first, it can.
 #[repr(C)]
-#[derive(Drop)]
-#[derive(Clone, Copy)]
+#[derive(Clone, Copy, Drop)]
 pub struct Checked {
     pub refusal: u8,
     pub proper: u8,
