@@ -8,6 +8,7 @@ pub mod Places
 pub mod Reading
 pub mod Messages
 pub mod Numbers
+pub mod Refusals
 pub mod Encoder
 pub mod Promises
 pub mod Buttons

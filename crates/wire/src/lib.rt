@@ -10,8 +10,11 @@ mod line;
 mod parity;
 mod places;
 mod reading;
+mod refusal;
 mod signed;
 mod table;
+
+pub use refusal::Refusal;
 
 // The words on the line that are no bytes: "256 a break or a byte that arrived damaged, 257 a silence of one character time".
 pub const BREAK: u16 = 256;

@@ -1,0 +1,31 @@
+-- Why a call is refused, by name, and the number given back for it: "0 is success"; 2 is given no more.
+use Rattle.std.specs.Prelude.{ℕ, ◌≡◌, Result, Ok, Err}
+use Rattle.wire.specs.Numbers.{success, bad_state, bad_letter, bad_buttons, bad_first_x, bad_first_y, bad_second_x, bad_second_y, short_buffer, bad_word}
+use Rattle.wire.specs.declared.refusal.Refusal.{Refusal}
+use Rattle.wire.specs.declared.refusal.Refusal.TheVariants.{NoSuchLetter, ButtonsAboveSeven, BadWord, BufferTooShort, BadState, FaultyLine, FirstXNotHeld}
+use Rattle.wire.specs.declared.refusal.Refusal.TheVariants.{FirstYNotHeld, SecondXNotHeld, SecondYNotHeld, NoReply, MarkedFormat, TooManyWords, NumberTooWide}
+
+abbrev pub number_of : Refusal → ℕ
+number_of NoSuchLetter = bad_letter
+number_of ButtonsAboveSeven = bad_buttons
+number_of BadWord = bad_word
+number_of BufferTooShort = short_buffer
+number_of BadState = bad_state
+number_of FaultyLine = 7
+number_of FirstXNotHeld = bad_first_x
+number_of FirstYNotHeld = bad_first_y
+number_of SecondXNotHeld = bad_second_x
+number_of SecondYNotHeld = bad_second_y
+number_of NoReply = 12
+number_of MarkedFormat = 13
+number_of TooManyWords = 14
+number_of NumberTooWide = 15
+
+-- the number given back for an answer
+abbrev pub number_in : {A : Type 0} → Result A Refusal → ℕ
+number_in (Ok a) = success
+number_in (Err r) = number_of r
+
+-- `Refusal::number(self)`
+abbrev pub NumberPromise : Refusal → ℕ → Type 0
+NumberPromise refusal answer = answer ≡ number_of refusal
