@@ -9,7 +9,7 @@ pub(crate) fn magnitude(v: i16) -> u16
     requires { mag v < 4096 }
     ensures { result ≡ nat_abs v }
 {
-    if v < 0 { (-v) as u16 } else { v as u16 }
+    v.unsigned_abs()
 }
 
 // A magnitude under its sign.

@@ -1,10 +1,12 @@
--- `fits`: the first place or a later one.
-use mathlib.Core.Path.{◌∙◌}
-use Rattle.wire.proofs.Letters.{later_place}
+-- `fits`: of the format that the letter names, if it names one.
+use mathlib.Core.Path.{sym, ◌∙◌}
+use Rattle.wire.specs.Places.{fits_by}
 use Rattle.wire.proofs.fits.Goals as goal
 
-pub returns-then-place-eq0 : goal.returns-then-place-eq0
-returns-then-place-eq0 c = rw c.if-place-eq0.true c.first_by.ensures
+pub returns-in-Some : goal.returns-in-Some
+unfolding fits_by
+returns-in-Some c = rw (sym c.format_of.ensures ∙ c.in-Some.is) c.fits_at.ensures
 
-pub returns-else-place-eq0 : goal.returns-else-place-eq0
-returns-else-place-eq0 c = c.later_by.ensures ∙ later_place _ _ _ c.if-place-eq0.false
+pub returns-in-None : goal.returns-in-None
+unfolding fits_by
+returns-in-None c = rw (sym c.format_of.ensures ∙ c.in-None.is)

@@ -3,10 +3,10 @@ use mathlib.Core.Path.{sym, ◌∙◌}
 use Rattle.wire.specs.Line.{marked_by}
 use Rattle.wire.proofs.marked.Goals as goal
 
-pub returns-in-Known : goal.returns-in-Known
+pub returns-in-Some : goal.returns-in-Some
 unfolding marked_by
-returns-in-Known c = rw (sym c.format_of.ensures ∙ c.in-Known.is) c.marked_of.ensures
+returns-in-Some c = rw (sym c.format_of.ensures ∙ c.in-Some.is) c.is_marked.ensures
 
-pub returns-in-Unknown : goal.returns-in-Unknown
+pub returns-in-None : goal.returns-in-None
 unfolding marked_by
-returns-in-Unknown c = rw (sym c.format_of.ensures ∙ c.in-Unknown.is)
+returns-in-None c = rw (sym c.format_of.ensures ∙ c.in-None.is)

@@ -3,10 +3,10 @@ use mathlib.Core.Path.{sym, ◌∙◌}
 use Rattle.wire.specs.Reading.{report_by}
 use Rattle.wire.proofs.report_of.Goals as goal
 
-pub returns-in-Known : goal.returns-in-Known
+pub returns-in-Some : goal.returns-in-Some
 unfolding report_by
-returns-in-Known c = rw (sym c.format_of.ensures ∙ c.in-Known.is) c.report_in.ensures
+returns-in-Some c = rw (sym c.format_of.ensures ∙ c.in-Some.is) c.report_in.ensures
 
-pub returns-in-Unknown : goal.returns-in-Unknown
+pub returns-in-None : goal.returns-in-None
 unfolding report_by
-returns-in-Unknown c = rw (sym c.format_of.ensures ∙ c.in-Unknown.is) c.report.ensures
+returns-in-None c = rw (sym c.format_of.ensures ∙ c.in-None.is) c.report.ensures
