@@ -90,6 +90,7 @@ pub enum Movement {
 }
 
 // Whether a letter is in the table.
+#[tactic(auto, unfolding(crate::specs::Line::known))]
 #[inline(always)]
 pub fn known(letter: u8) -> bool
     ensures { KnownPromise letter result }
@@ -98,51 +99,44 @@ pub fn known(letter: u8) -> bool
 }
 
 // How many bytes a report has; 0 for a letter that is not in the table.
+#[tactic(auto, unfolding(crate::specs::Line::size_by))]
 #[inline(always)]
 pub fn size(letter: u8) -> usize
     ensures { SizePromise letter result }
 {
-    match format_of(letter) {
-        Some(f) => f.size(),
-        None => 0,
-    }
+    format_of(letter).map_or(0, |f| f.size())
 }
 
 // Whether the first byte of a report is marked.
+#[tactic(auto, unfolding(crate::specs::Line::marked_by))]
 #[inline(always)]
 pub fn marked(letter: u8) -> bool
     ensures { MarkedPromise letter result }
 {
-    match format_of(letter) {
-        Some(f) => f.is_marked(),
-        None => false,
-    }
+    format_of(letter).is_some_and(|f| f.is_marked())
 }
 
 // Whether a byte is valid at a place of a report: 0 is the first, any other a later one.
+#[tactic(auto, unfolding(crate::specs::Places::fits_by))]
 #[inline(always)]
 pub fn fits(letter: u8, place: u8, byte: u8) -> bool
     ensures { FitsPromise letter place byte result }
 {
-    match format_of(letter) {
-        Some(f) => f.fits_at(place, byte),
-        None => false,
-    }
+    format_of(letter).is_some_and(|f| f.fits_at(place, byte))
 }
 
 // The report that bytes stand for; a format of three bytes reads the first three.
+#[tactic(auto, unfolding(crate::specs::Reading::report_by))]
 #[inline(always)]
 pub fn report_of(letter: u8, bytes: [u8; 5]) -> Report
     ensures { ReportPromise letter bytes result }
 {
-    match format_of(letter) {
-        Some(f) => report_in(f, bytes),
-        None => report(0, 0, 0),
-    }
+    format_of(letter).map_or(report(0, 0, 0), |f| report_in(f, bytes))
 }
 
 // Writes a report's bytes at the front of a buffer, and nothing after them. A refusal writes nothing. Each letter has a
 // call of its own, so that the compiler makes a copy of the rules for it.
+#[tactic(auto, unfolding(crate::specs::Encoder::encode_in, crate::specs::Line::named_by))]
 pub fn encode(letter: u8, report: Report, buffer: &mut [u8]) -> Result<usize, Refusal>
     ensures { EncodePromise letter report buffer.old result buffer.new }
 {

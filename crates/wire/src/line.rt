@@ -5,6 +5,7 @@ ghost use Rattle.wire.specs.Line.{named_by, size_of, marked_of};
 use crate::Format;
 
 // The format of a letter, if the letter is in the table.
+#[tactic(auto, unfolding(crate::specs::Line::named_by))]
 #[inline(always)]
 pub(crate) fn format_of(letter: u8) -> Option<Format>
     ensures { result ≡ named_by letter }

@@ -35,6 +35,7 @@ impl Format {
     }
 
     // Whether a byte is valid at a place: 0 is the first, any other a later one.
+    #[tactic(auto, unfolding(crate::specs::Places::fits_at))]
     #[inline(always)]
     pub(crate) fn fits_at(self, place: u8, b: u8) -> bool
         ensures { result ≡ fits_at self place b }

@@ -17,7 +17,7 @@ use crate::{Format, Report};
 fn sign_bit(v: i16) -> u8
     ensures { result ≡ value (non_neg v) }
 {
-    if v < 0 { 0 } else { 1 }
+    u8::from(v >= 0)
 }
 
 // A two's complement byte.
