@@ -38,7 +38,7 @@ impl Range {
     fn has(self, v: i16) -> bool
         ensures { result ≡ within self v }
     {
-        (self.low <= v) & (v <= self.high)
+        (self.low..=self.high).contains(&v)
     }
 }
 
