@@ -15,23 +15,23 @@ use Rattle.wire.specs.Numbers.{success, bad_buttons, short_buffer}
 use Rattle.wire.specs.Encoder.{Encoding, refused, written, unheld_number, encode_in}
 use Rattle.wire.specs.declared.Report.{Report}
 use Rattle.wire.specs.declared.Format.{Format}
-use Rattle.wire.specs.declared.Named.TheVariants.{Known}
+use Rattle.std.proofs.Common.{Some}
 
 module _ (f : Format) (r : Report) (buffer : List ℕ) where
   -- 3, whatever the movements and the room; then the movement's number, whatever the room; then 5; and else the bytes
-  pub buttons_first : pressable r ≡ false → encode_in (Known f) r buffer ≡ refused bad_buttons buffer
+  pub buttons_first : pressable r ≡ false → encode_in (Some f) r buffer ≡ refused bad_buttons buffer
   unfolding encode_in
   buttons_first p = rw p
 
-  pub movement_next : pressable r ≡ true → holds f r ≡ false → encode_in (Known f) r buffer ≡ refused (unheld_number (unheld f r)) buffer
+  pub movement_next : pressable r ≡ true → holds f r ≡ false → encode_in (Some f) r buffer ≡ refused (unheld_number (unheld f r)) buffer
   unfolding encode_in
   movement_next p h = rw (p, h)
 
-  pub room_last : accepted f r ≡ true → ltb (length buffer) (size_of f) ≡ true → encode_in (Known f) r buffer ≡ refused short_buffer buffer
+  pub room_last : accepted f r ≡ true → ltb (length buffer) (size_of f) ≡ true → encode_in (Some f) r buffer ≡ refused short_buffer buffer
   unfolding encode_in accepted
   room_last a t = rw (left (pressable r) (holds f r) a, right (pressable r) (holds f r) a, t)
 
-  pub accepts : accepted f r ≡ true → size_of f ≤ length buffer → encode_in (Known f) r buffer ≡ written f r buffer
+  pub accepts : accepted f r ≡ true → size_of f ≤ length buffer → encode_in (Some f) r buffer ≡ written f r buffer
   unfolding encode_in accepted
   accepts a h = rw (left (pressable r) (holds f r) a, right (pressable r) (holds f r) a, le-ltb (length buffer) (size_of f) h)
 
@@ -40,11 +40,11 @@ module _ (f : Format) (r : Report) (buffer : List ℕ) where
     pub taken : accepted f r ≡ true
     pub is : l ≡ written f r buffer
 
-  pub done : (l : Encoding) → l ≡ encode_in (Known f) r buffer → l.refusal ≡ success → Done l
+  pub done : (l : Encoding) → l ≡ encode_in (Some f) r buffer → l.refusal ≡ success → Done l
   unfolding accepted
   done l e z = go (pressable r) refl (holds f r) refl (ltb (length buffer) (size_of f)) refl
     where
-      number : {m : Encoding} → encode_in (Known f) r buffer ≡ m → m.refusal ≡ success
+      number : {m : Encoding} → encode_in (Some f) r buffer ≡ m → m.refusal ≡ success
       number d = ap (λ (l : Encoding). l.refusal) (sym (e ∙ d)) ∙ z
 
       go : (p : Bool) → pressable r ≡ p → (h : Bool) → holds f r ≡ h → (t : Bool) → ltb (length buffer) (size_of f) ≡ t → Done l

@@ -11,8 +11,9 @@ use Rattle.wire.specs.Holds.{within, x_range, y_range, second_range, unheld, is_
 use Rattle.wire.specs.Encoder.{unheld_number}
 use Rattle.wire.specs.declared.Report.{Report}
 use Rattle.wire.specs.declared.Format.{Format}
-use Rattle.wire.specs.declared.Unheld.{Unheld}
-use Rattle.wire.specs.declared.Unheld.TheVariants.{None, FirstX, FirstY, SecondX, SecondY}
+use Rattle.wire.specs.declared.Movement.{Movement}
+use Rattle.wire.specs.declared.Movement.TheVariants.{FirstX, FirstY, SecondX, SecondY}
+use Rattle.std.proofs.Common.{Option, Some, None}
 
 module _ (f : Format) (r : Report) where
   -- it is not held, and those before it are
@@ -29,12 +30,12 @@ module _ (f : Format) (r : Report) where
       (λ d. (not-false x a, not-false y b, not-false second_x c, not-false second_y d)))))
 
   -- and there is no other of which that can be said
-  pub one_fault : (u : Unheld) → Fault f r u → unheld f r ≡ u
+  pub one_fault : (u : Option Movement) → Fault f r u → unheld f r ≡ u
   one_fault None h = rw (h.0, h.1, h.2, h.3)
-  one_fault FirstX h = rw h
-  one_fault FirstY h = rw (h.0, h.1)
-  one_fault SecondX h = rw (h.0, h.1, h.2)
-  one_fault SecondY h = rw (h.0, h.1, h.2, h.3)
+  one_fault (Some FirstX) h = rw h
+  one_fault (Some FirstY) h = rw (h.0, h.1)
+  one_fault (Some SecondX) h = rw (h.0, h.1, h.2)
+  one_fault (Some SecondY) h = rw (h.0, h.1, h.2, h.3)
 
   -- where the movements are not held there is one
   pub unheld_some : holds f r ≡ false → is_none (unheld f r) ≡ false
@@ -42,31 +43,28 @@ module _ (f : Format) (r : Report) where
   unheld_some e = e
 
 -- one of the four
-pub some : (u : Unheld) → (u ≡ None → ⊥) → is_none u ≡ false
+pub some : (u : Option Movement) → (u ≡ None → ⊥) → is_none u ≡ false
 some None n = absurd (n refl)
-some FirstX n = refl
-some FirstY n = refl
-some SecondX n = refl
-some SecondY n = refl
+some (Some movement) n = refl
 
 -- their numbers are 8 or more, and tell them apart
-pub eight_or_more : (u : Unheld) → is_none u ≡ false → 8 ≤ unheld_number u
+pub eight_or_more : (u : Option Movement) → is_none u ≡ false → 8 ≤ unheld_number u
 eight_or_more None e = absurd (so (sym e))
-eight_or_more FirstX e = omega arith
-eight_or_more FirstY e = omega arith
-eight_or_more SecondX e = omega arith
-eight_or_more SecondY e = omega arith
+eight_or_more (Some FirstX) e = omega arith
+eight_or_more (Some FirstY) e = omega arith
+eight_or_more (Some SecondX) e = omega arith
+eight_or_more (Some SecondY) e = omega arith
 
-numbered : ℕ → Unheld
-numbered n = cond (eqb n 8) FirstX (cond (eqb n 9) FirstY (cond (eqb n 10) SecondX (cond (eqb n 11) SecondY None)))
+numbered : ℕ → Option Movement
+numbered n = cond (eqb n 8) (Some FirstX) (cond (eqb n 9) (Some FirstY) (cond (eqb n 10) (Some SecondX) (cond (eqb n 11) (Some SecondY) None)))
 
-same : (u : Unheld) → numbered (unheld_number u) ≡ u
+same : (u : Option Movement) → numbered (unheld_number u) ≡ u
 unfolding numbered
 same None = refl
-same FirstX = refl
-same FirstY = refl
-same SecondX = refl
-same SecondY = refl
+same (Some FirstX) = refl
+same (Some FirstY) = refl
+same (Some SecondX) = refl
+same (Some SecondY) = refl
 
-pub told_apart : (u v : Unheld) → unheld_number u ≡ unheld_number v → u ≡ v
+pub told_apart : (u v : Option Movement) → unheld_number u ≡ unheld_number v → u ≡ v
 told_apart u v e = sym (same u) ∙ ap numbered e ∙ same v

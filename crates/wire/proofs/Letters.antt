@@ -9,12 +9,11 @@ use Rattle.wire.specs.Line.{letter_of, named_by, of_named, known, size_of, size_
 use Rattle.wire.specs.Places.{fits_at, fits_by}
 use Rattle.wire.specs.declared.Format.{Format}
 use Rattle.wire.specs.declared.Format.TheVariants.{Mm, Microsoft, Absolute, Relative, FiveByte, ThreeByte, Hexadecimal}
-use Rattle.wire.specs.declared.Named.{Named}
-use Rattle.wire.specs.declared.Named.TheVariants.{Known, Unknown}
+use Rattle.std.proofs.Common.{Option, Some, None}
 use Rattle.wire.proofs.Front.{size_between, size_small}
 
 -- the letters of the table
-pub letter_named : (f : Format) → named_by (letter_of f) ≡ Known f
+pub letter_named : (f : Format) → named_by (letter_of f) ≡ Some f
 unfolding named_by
 letter_named Mm = refl
 letter_named Microsoft = refl
@@ -25,7 +24,7 @@ letter_named ThreeByte = refl
 letter_named Hexadecimal = refl
 
 -- what a letter tells is what its format tells
-module _ (letter : ℕ) {f : Format} (named : named_by letter ≡ Known f) where
+module _ (letter : ℕ) {f : Format} (named : named_by letter ≡ Some f) where
   pub size_named : size_by letter ≡ size_of f
   unfolding size_by
   size_named = rw named
@@ -43,25 +42,25 @@ pub at_most_five : (letter : ℕ) → size_by letter ≤ 5
 unfolding size_by
 at_most_five letter = go (named_by letter)
   where
-    go : (n : Named) → of_named 0 size_of n ≤ 5
-    go (Known f) = size_small f
-    go Unknown = omega arith
+    go : (n : Option Format) → of_named 0 size_of n ≤ 5
+    go (Some f) = size_small f
+    go None = omega arith
 
 pub at_least_three : (letter n : ℕ) → n < size_by letter → 3 ≤ size_by letter
 unfolding size_by
 at_least_three letter n = go (named_by letter)
   where
-    go : (m : Named) → n < of_named 0 size_of m → 3 ≤ of_named 0 size_of m
-    go (Known f) h = (size_between f).0
-    go Unknown h = absurd (omega arith)
+    go : (m : Option Format) → n < of_named 0 size_of m → 3 ≤ of_named 0 size_of m
+    go (Some f) h = (size_between f).0
+    go None h = absurd (omega arith)
 
 pub known_sized : (letter : ℕ) → known letter ≡ not (eqb (size_by letter) 0)
 unfolding known size_by
 known_sized letter = go (named_by letter)
   where
-    go : (n : Named) → of_named false (λ f. true) n ≡ not (eqb (of_named 0 size_of n) 0)
-    go (Known f) = rw (ne_eqb (size_of f) 0 (λ e. omega (arith, (size_between f).0)))
-    go Unknown = refl
+    go : (n : Option Format) → of_named false (λ f. true) n ≡ not (eqb (of_named 0 size_of n) 0)
+    go (Some f) = rw (ne_eqb (size_of f) 0 (λ e. omega (arith, (size_between f).0)))
+    go None = refl
 
 pub size_positive : (letter : ℕ) → known letter ≡ true → 0 < size_by letter
 size_positive letter k = let e = eqb-false (size_by letter) 0 (not-true _ (sym (known_sized letter) ∙ k)) in omega arith
@@ -71,9 +70,9 @@ pub known_below : (letter n : ℕ) → known letter && ltb n (size_by letter) �
 unfolding known size_by
 known_below letter n = go (named_by letter)
   where
-    go : (m : Named) → of_named false (λ f. true) m && ltb n (of_named 0 size_of m) ≡ ltb n (of_named 0 size_of m)
-    go (Known f) = refl
-    go Unknown = sym (le-ltb n 0 (omega arith))
+    go : (m : Option Format) → of_named false (λ f. true) m && ltb n (of_named 0 size_of m) ≡ ltb n (of_named 0 size_of m)
+    go (Some f) = refl
+    go None = sym (le-ltb n 0 (omega arith))
 
 -- a later place is as any other later place
 pub later_place : (letter n b : ℕ) → (n ≡ 0 → ⊥) → fits_by letter 1 b ≡ fits_by letter n b

@@ -11,17 +11,16 @@ use borrow.Author.Tests.{leb-true, ltb-false}
 use Rattle.numbers.proofs.Tested.{holds as so}
 use Rattle.wire.specs.Line.{letter_of, size_of}
 use Rattle.wire.specs.Holds.{within, x_range, y_range, unheld, is_none, holds, Fault, pressable, accepted}
-use Rattle.wire.specs.Encoder.{Encoding, refusal_of, outcome, refused, unheld_number, encode_in}
+use Rattle.wire.specs.Encoder.{Encoding, Encoded, refusal_of, outcome, refused, unheld_number, encode_in}
 use Rattle.wire.specs.Numbers.{bad_second_x, bad_second_y}
 use Rattle.wire.specs.Promises.{EncodePromise}
 use Rattle.wire.specs.declared.Report.{Report}
 use Rattle.wire.specs.declared.Format.{Format}
 use Rattle.wire.specs.declared.Format.TheVariants.{FiveByte}
-use Rattle.wire.specs.declared.Named.TheVariants.{Known}
-use Rattle.wire.specs.declared.Unheld.{Unheld}
-use Rattle.wire.specs.declared.Unheld.TheVariants.{None, SecondX, SecondY}
-use Rattle.wire.specs.declared.Encoded.{Encoded}
-use Rattle.wire.specs.declared.Encoded.TheVariants.{Written, NoSuchLetter, ButtonsAboveSeven, FirstXNotHeld, FirstYNotHeld, SecondXNotHeld, SecondYNotHeld, BufferTooShort}
+use Rattle.wire.specs.declared.Movement.{Movement}
+use Rattle.wire.specs.declared.Movement.TheVariants.{SecondX, SecondY}
+use Rattle.std.proofs.Common.{Option, Some, None, Ok, Err}
+use Rattle.wire.proofs.Numbered.{no_refusal_two}
 use Rattle.wire.proofs.Letters.{letter_named}
 use Rattle.wire.proofs.Accepts.{buttons_first, movement_next, room_last, accepts}
 use Rattle.wire.proofs.Faults.{fault, one_fault, some, eight_or_more, told_apart}
@@ -30,19 +29,19 @@ use Rattle.wire.proofs.Answers.{movement_refused}
 
 module _ (f : Format) (r : Report) (before after : List ℕ) (a : Encoded) (p : EncodePromise (letter_of f) r before a after) where
   -- the number told is that of the first fault, in the order x1, y1, x2, y2
-  pub first_told : (u : Unheld) → (u ≡ None → ⊥) → r.buttons ≤ 7 → Fault f r u → outcome a after ≡ refused (unheld_number u) before
+  pub first_told : (u : Option Movement) → (u ≡ None → ⊥) → r.buttons ≤ 7 → Fault f r u → outcome a after ≡ refused (unheld_number u) before
   unfolding holds
   first_told u n h d =
       let e = one_fault f r u d in
       movement_refused f r before after a h (ap is_none e ∙ some u n) p
-      ∙ ap (λ (v : Unheld). refused (unheld_number v) before) e
+      ∙ ap (λ (v : Option Movement). refused (unheld_number v) before) e
 
   -- a report that is refused with such a number has this fault
-  pub has_fault : (u : Unheld) → (u ≡ None → ⊥) → refusal_of a ≡ unheld_number u → (r.buttons ≤ 7) × Fault f r u
+  pub has_fault : (u : Option Movement) → (u ≡ None → ⊥) → refusal_of a ≡ unheld_number u → (r.buttons ≤ 7) × Fault f r u
   unfolding accepted
   has_fault u n q = go (pressable r) refl (holds f r) refl (ltb (length before) (size_of f)) refl
     where
-      number : {e : Encoding} → encode_in (Known f) r before ≡ e → unheld_number u ≡ e.refusal
+      number : {e : Encoding} → encode_in (Some f) r before ≡ e → unheld_number u ≡ e.refusal
       number e = sym q ∙ ap (λ (x : Encoding). x.refusal) (rw (letter_named f) at p ∙ e)
 
       large : 8 ≤ unheld_number u
@@ -58,24 +57,18 @@ module _ (f : Format) (r : Report) (before after : List ℕ) (a : Encoded) (p : 
       go true et true eh false es = absurd (omega (arith, large, number (accepts f r before (all et eh) (ltb-false (length before) (size_of f) es))))
 
   -- and one whose movements are held is not refused for them
-  pub held_not_refused : holds f r ≡ true → (u : Unheld) → (u ≡ None → ⊥) → refusal_of a ≡ unheld_number u → ⊥
+  pub held_not_refused : holds f r ≡ true → (u : Option Movement) → (u ≡ None → ⊥) → refusal_of a ≡ unheld_number u → ⊥
   unfolding holds
   held_not_refused h u n q = so (sym (some u n) ∙ sym (ap is_none (one_fault f r u (has_fault u n q).1)) ∙ h)
 
   -- "A second pair that is not zero outside U falls under the second pair's numbers."
   pub second_x_told : (f ≡ FiveByte → ⊥) → r.buttons ≤ 7 → within (x_range f) r.x1 ≡ true → within (y_range f) r.y1 ≡ true → (r.x2 ≡ pos 0 → ⊥) → outcome a after ≡ refused bad_second_x before
-  second_x_told u h x y n = first_told SecondX (λ e. so (ap is_none e)) h (x, y, outside_zero f u r.x2 n)
+  second_x_told u h x y n = first_told (Some SecondX) (λ e. so (ap is_none e)) h (x, y, outside_zero f u r.x2 n)
 
   pub second_y_told : (f ≡ FiveByte → ⊥) → r.buttons ≤ 7 → within (x_range f) r.x1 ≡ true → within (y_range f) r.y1 ≡ true → r.x2 ≡ pos 0 → (r.y2 ≡ pos 0 → ⊥) → outcome a after ≡ refused bad_second_y before
-  second_y_told u h x y z n = first_told SecondY (λ e. so (ap is_none e)) h (x, y, rw (z, outside_u f u), outside_zero f u r.y2 n)
+  second_y_told u h x y z n = first_told (Some SecondY) (λ e. so (ap is_none e)) h (x, y, rw (z, outside_u f u), outside_zero f u r.y2 n)
 
 -- "2 is given no more"
 pub never_two : (a : Encoded) → refusal_of a ≡ 2 → ⊥
-never_two (Written n) e = omega arith
-never_two NoSuchLetter e = omega arith
-never_two ButtonsAboveSeven e = omega arith
-never_two FirstXNotHeld e = omega arith
-never_two FirstYNotHeld e = omega arith
-never_two SecondXNotHeld e = omega arith
-never_two SecondYNotHeld e = omega arith
-never_two BufferTooShort e = omega arith
+never_two (Ok n) e = omega arith
+never_two (Err r) e = no_refusal_two r e

@@ -13,27 +13,26 @@ use Rattle.numbers.proofs.Tested as holding
 use Rattle.wire.specs.Line.{named_by, size_of}
 use Rattle.wire.specs.Holds.{pressable, unheld, is_none, holds}
 use Rattle.wire.specs.Numbers.{accepted, refusal}
-use Rattle.wire.specs.Encoder.{Encoding, refused, outcome, unheld_number, encode_in}
+use Rattle.wire.specs.Encoder.{Encoding, Encoded, refused, outcome, unheld_number, encode_in}
 use Rattle.wire.specs.Promises.{unwritten, EncodePromise, EncodeRefusal}
 use Rattle.wire.specs.declared.Report.{Report}
-use Rattle.wire.specs.declared.Unheld.{Unheld}
-use Rattle.wire.specs.declared.Unheld.TheVariants.{None, FirstX, FirstY, SecondX, SecondY}
-use Rattle.wire.specs.declared.Named.{Named}
-use Rattle.wire.specs.declared.Named.TheVariants.{Known, Unknown}
-use Rattle.wire.specs.declared.Encoded.{Encoded}
+use Rattle.wire.specs.declared.Movement.{Movement}
+use Rattle.wire.specs.declared.Movement.TheVariants.{FirstX, FirstY, SecondX, SecondY}
+use Rattle.std.proofs.Common.{Option, Some, None}
+use Rattle.wire.specs.declared.Format.{Format}
 
 -- a movement that is not held has a number of its own
-listed : (before : List ℕ) (u : Unheld) → is_none u ≡ false → Memᴰ (refused (unheld_number u) before) (unwritten before)
+listed : (before : List ℕ) (u : Option Movement) → is_none u ≡ false → Memᴰ (refused (unheld_number u) before) (unwritten before)
 listed before None e = absurd (holding.holds (sym e))
-listed before FirstX e = there (there (here refl))
-listed before FirstY e = there (there (there (here refl)))
-listed before SecondX e = there (there (there (there (here refl))))
-listed before SecondY e = there (there (there (there (there (here refl)))))
+listed before (Some FirstX) e = there (there (here refl))
+listed before (Some FirstY) e = there (there (there (here refl)))
+listed before (Some SecondX) e = there (there (there (there (here refl))))
+listed before (Some SecondY) e = there (there (there (there (there (here refl)))))
 
-encode_rightly : (named : Named) (r : Report) (before : List ℕ) → EncodeRefusal before (encode_in named r before)
+encode_rightly : (named : Option Format) (r : Report) (before : List ℕ) → EncodeRefusal before (encode_in named r before)
 unfolding encode_in holds
-encode_rightly Unknown r before = refusal (here refl)
-encode_rightly (Known f) r before =
+encode_rightly None r before = refusal (here refl)
+encode_rightly (Some f) r before =
     cases (EncodeRefusal before) (not (pressable r)) (λ p. refusal (there (here refl)))
     (λ p. cases (EncodeRefusal before) (not (holds f r)) (λ h. refusal (listed before (unheld f r) (not-true (holds f r) h)))
     (λ h. cases (EncodeRefusal before) (ltb (length before) (size_of f)) (λ s. refusal (there (there (there (there (there (there (here refl)))))))) (λ s. accepted refl)))

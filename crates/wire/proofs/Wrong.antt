@@ -1,4 +1,5 @@
 -- Wrong answers, two or more for each promise, that it does not permit.
+use Prim.Native.Nat.{ℕ}
 use mathlib.Core.Path.{ap, sym, subst}
 use mathlib.Core.Bool.{true, false}
 use mathlib.Core.List.{[], ◌∷◌}
@@ -16,22 +17,23 @@ use Rattle.wire.specs.Encoder.{Encoding, encode_in}
 use Rattle.wire.specs.Promises.{KnownPromise, SizePromise, MarkedPromise, FitsPromise, ReportPromise, EncodePromise, RefusalPromise, LengthPromise}
 use Rattle.wire.specs.declared.Report.{Report}
 use Rattle.wire.specs.declared.Format.TheVariants.{Mm, Microsoft, FiveByte, ThreeByte, Hexadecimal}
-use Rattle.wire.specs.declared.Encoded.TheVariants.{Written, NoSuchLetter, ButtonsAboveSeven, FirstXNotHeld, FirstYNotHeld, BufferTooShort}
+use Rattle.wire.specs.declared.refusal.Refusal.TheVariants.{NoSuchLetter, ButtonsAboveSeven, FirstXNotHeld, FirstYNotHeld, BufferTooShort}
+use Rattle.std.proofs.Common.{Ok, Err}
 
 -- V's y refused at 128; refusal 8 told of a report whose buttons are above 7; 9 where x does not fit either; and 8 for a second x outside U
-pub encode_refuses_128 : EncodePromise (letter_of Microsoft) (report 0 (pos 0) (pos 128)) (replicate 5 0) FirstYNotHeld (replicate 5 0) → ⊥
+pub encode_refuses_128 : EncodePromise (letter_of Microsoft) (report 0 (pos 0) (pos 128)) (replicate 5 0) (Err FirstYNotHeld) (replicate 5 0) → ⊥
 unfolding encode_in named_by holds
 encode_refuses_128 e = omega (arith, ap (λ (l : Encoding). l.refusal) e)
 
-pub encode_movement_first : EncodePromise (letter_of ThreeByte) (report 9 (pos 200) (pos 0)) (replicate 5 0) FirstXNotHeld (replicate 5 0) → ⊥
+pub encode_movement_first : EncodePromise (letter_of ThreeByte) (report 9 (pos 200) (pos 0)) (replicate 5 0) (Err FirstXNotHeld) (replicate 5 0) → ⊥
 unfolding encode_in named_by holds
 encode_movement_first e = omega (arith, ap (λ (l : Encoding). l.refusal) e)
 
-pub encode_y_before_x : EncodePromise (letter_of ThreeByte) (report 0 (pos 200) (pos 200)) (replicate 5 0) FirstYNotHeld (replicate 5 0) → ⊥
+pub encode_y_before_x : EncodePromise (letter_of ThreeByte) (report 0 (pos 200) (pos 200)) (replicate 5 0) (Err FirstYNotHeld) (replicate 5 0) → ⊥
 unfolding encode_in named_by holds
 encode_y_before_x e = omega (arith, ap (λ (l : Encoding). l.refusal) e)
 
-pub encode_second_as_first : EncodePromise (letter_of ThreeByte) (record { buttons = 0; x1 = pos 0; y1 = pos 0; x2 = pos 1; y2 = pos 0 }) (replicate 5 0) FirstXNotHeld (replicate 5 0) → ⊥
+pub encode_second_as_first : EncodePromise (letter_of ThreeByte) (record { buttons = 0; x1 = pos 0; y1 = pos 0; x2 = pos 1; y2 = pos 0 }) (replicate 5 0) (Err FirstXNotHeld) (replicate 5 0) → ⊥
 unfolding encode_in named_by holds
 encode_second_as_first e = omega (arith, ap (λ (l : Encoding). l.refusal) e)
 
@@ -90,18 +92,18 @@ unfolding marked_by named_by
 unmarked_s e = subst T (sym e) tt
 
 -- 2 for buttons above 7; 2 for a movement; and 4 for a short buffer
-pub refusal_two_for_buttons : RefusalPromise ButtonsAboveSeven 2 → ⊥
+pub refusal_two_for_buttons : RefusalPromise {A = ℕ} (Err ButtonsAboveSeven) 2 → ⊥
 refusal_two_for_buttons e = omega arith
 
-pub refusal_two_for_movement : RefusalPromise FirstXNotHeld 2 → ⊥
+pub refusal_two_for_movement : RefusalPromise {A = ℕ} (Err FirstXNotHeld) 2 → ⊥
 refusal_two_for_movement e = omega arith
 
-pub refusal_four_for_room : RefusalPromise BufferTooShort 4 → ⊥
+pub refusal_four_for_room : RefusalPromise {A = ℕ} (Err BufferTooShort) 4 → ⊥
 refusal_four_for_room e = omega arith
 
 -- 3 whatever was written; and 3 for a refusal
-pub length_three_of_five : LengthPromise (Written 5) 3 → ⊥
+pub length_three_of_five : LengthPromise (Ok 5) 3 → ⊥
 length_three_of_five e = omega arith
 
-pub length_three_refused : LengthPromise NoSuchLetter 3 → ⊥
+pub length_three_refused : LengthPromise (Err NoSuchLetter) 3 → ⊥
 length_three_refused e = omega arith

@@ -1,5 +1,5 @@
 -- What the encoder accepts: "exactly what the wire holds".
-use Rattle.std.specs.Prelude.{ℕ, ◌≡◌, Bool, true, false, not, cond, ◌&&◌, [], ◌∷◌, leb, ℤ, pos}
+use Rattle.std.specs.Prelude.{ℕ, ◌≡◌, Bool, true, false, not, cond, ◌&&◌, [], ◌∷◌, leb, ℤ, pos, Option, Some, None}
 use Rattle.std.specs.Int.Signed.{le_z}
 use Rattle.wire.specs.Line.{named_by, of_named}
 use Rattle.numbers.specs.Bits.{O, number}
@@ -7,8 +7,8 @@ use Rattle.numbers.specs.Signed.{minus}
 use Rattle.wire.specs.Table.{L, R}
 use Rattle.wire.specs.declared.Report.{Report}
 use Rattle.wire.specs.declared.Range.{Range}
-use Rattle.wire.specs.declared.Unheld.{Unheld}
-use Rattle.wire.specs.declared.Unheld.TheVariants.{None, FirstX, FirstY, SecondX, SecondY}
+use Rattle.wire.specs.declared.Movement.{Movement}
+use Rattle.wire.specs.declared.Movement.TheVariants.{FirstX, FirstY, SecondX, SecondY}
 use Rattle.wire.specs.declared.Format.{Format}
 use Rattle.wire.specs.declared.Format.TheVariants.{Mm, Microsoft, Absolute, Relative, FiveByte, ThreeByte, Hexadecimal}
 
@@ -49,33 +49,30 @@ second_range ThreeByte = pos 0 to pos 0
 second_range Hexadecimal = pos 0 to pos 0
 
 -- "movement the format cannot hold, either pair": the first of x1, y1, x2, y2 that lies outside its range, or none
-abbrev pub unheld : Format → Report → Unheld
+abbrev pub unheld : Format → Report → Option Movement
 unheld f r =
-    cond (not (within (x_range f) r.x1)) FirstX
-    (cond (not (within (y_range f) r.y1)) FirstY
-    (cond (not (within (second_range f) r.x2)) SecondX
-    (cond (not (within (second_range f) r.y2)) SecondY
+    cond (not (within (x_range f) r.x1)) (Some FirstX)
+    (cond (not (within (y_range f) r.y1)) (Some FirstY)
+    (cond (not (within (second_range f) r.x2)) (Some SecondX)
+    (cond (not (within (second_range f) r.y2)) (Some SecondY)
     None)))
 
-abbrev pub is_none : Unheld → Bool
+abbrev pub is_none : Option Movement → Bool
 is_none None = true
-is_none FirstX = false
-is_none FirstY = false
-is_none SecondX = false
-is_none SecondY = false
+is_none (Some movement) = false
 
 -- the format holds a report's movements: there is none that it does not
 unfoldable pub holds : Format → Report → Bool
 holds f r = is_none (unheld f r)
 
 -- what it says of a report that this movement is the one: it is not held, and those before it in the order are
-abbrev pub Fault : Format → Report → Unheld → Type 0
+abbrev pub Fault : Format → Report → Option Movement → Type 0
 Fault f r None =
     (within (x_range f) r.x1 ≡ true) × (within (y_range f) r.y1 ≡ true) × (within (second_range f) r.x2 ≡ true) × (within (second_range f) r.y2 ≡ true)
-Fault f r FirstX = within (x_range f) r.x1 ≡ false
-Fault f r FirstY = (within (x_range f) r.x1 ≡ true) × (within (y_range f) r.y1 ≡ false)
-Fault f r SecondX = (within (x_range f) r.x1 ≡ true) × (within (y_range f) r.y1 ≡ true) × (within (second_range f) r.x2 ≡ false)
-Fault f r SecondY =
+Fault f r (Some FirstX) = within (x_range f) r.x1 ≡ false
+Fault f r (Some FirstY) = (within (x_range f) r.x1 ≡ true) × (within (y_range f) r.y1 ≡ false)
+Fault f r (Some SecondX) = (within (x_range f) r.x1 ≡ true) × (within (y_range f) r.y1 ≡ true) × (within (second_range f) r.x2 ≡ false)
+Fault f r (Some SecondY) =
     (within (x_range f) r.x1 ≡ true) × (within (y_range f) r.y1 ≡ true) × (within (second_range f) r.x2 ≡ true) × (within (second_range f) r.y2 ≡ false)
 
 -- "Buttons are 4L+2M+R, 0 to 7, handed in as a byte"

@@ -1,9 +1,7 @@
 -- The seven formats by letter, size and mark.
-use Rattle.std.specs.Prelude.{ℕ, Bool, true, false, cond, eqb}
+use Rattle.std.specs.Prelude.{ℕ, Bool, true, false, cond, eqb, Option, Some, None}
 use Rattle.wire.specs.declared.Format.{Format}
 use Rattle.wire.specs.declared.Format.TheVariants.{Mm, Microsoft, Absolute, Relative, FiveByte, ThreeByte, Hexadecimal}
-use Rattle.wire.specs.declared.Named.{Named}
-use Rattle.wire.specs.declared.Named.TheVariants.{Known, Unknown}
 
 -- "Letter | Format", in ASCII
 abbrev pub letter_of : Format → ℕ
@@ -16,21 +14,21 @@ letter_of ThreeByte = 0x54
 letter_of Hexadecimal = 0x57
 
 -- the format of a letter, or that the letter is not in the table
-unfoldable pub named_by : ℕ → Named
+unfoldable pub named_by : ℕ → Option Format
 named_by letter =
-    cond (eqb letter (letter_of Mm)) (Known Mm)
-    (cond (eqb letter (letter_of Microsoft)) (Known Microsoft)
-    (cond (eqb letter (letter_of Absolute)) (Known Absolute)
-    (cond (eqb letter (letter_of Relative)) (Known Relative)
-    (cond (eqb letter (letter_of FiveByte)) (Known FiveByte)
-    (cond (eqb letter (letter_of ThreeByte)) (Known ThreeByte)
-    (cond (eqb letter (letter_of Hexadecimal)) (Known Hexadecimal)
-    Unknown))))))
+    cond (eqb letter (letter_of Mm)) (Some Mm)
+    (cond (eqb letter (letter_of Microsoft)) (Some Microsoft)
+    (cond (eqb letter (letter_of Absolute)) (Some Absolute)
+    (cond (eqb letter (letter_of Relative)) (Some Relative)
+    (cond (eqb letter (letter_of FiveByte)) (Some FiveByte)
+    (cond (eqb letter (letter_of ThreeByte)) (Some ThreeByte)
+    (cond (eqb letter (letter_of Hexadecimal)) (Some Hexadecimal)
+    None))))))
 
 -- what holds of the format that a letter names; none where it names none
-abbrev pub of_named : {A : Type 0} → A → (Format → A) → Named → A
-of_named none f (Known format) = f format
-of_named none f Unknown = none
+abbrev pub of_named : {A : Type 0} → A → (Format → A) → Option Format → A
+of_named none f (Some format) = f format
+of_named none f None = none
 
 -- a letter of the table
 unfoldable pub known : ℕ → Bool

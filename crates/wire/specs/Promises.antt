@@ -1,12 +1,13 @@
 -- What each public function promises: for every argument one answer.
-use Rattle.std.specs.Prelude.{ℕ, ◌≡◌, Bool, List, [], ◌∷◌}
+use Rattle.std.specs.Prelude.{ℕ, ◌≡◌, Bool, List, [], ◌∷◌, Result}
 use Rattle.wire.specs.Line.{known, size_by, marked_by}
 use Rattle.wire.specs.Places.{fits_by}
 use Rattle.wire.specs.Reading.{report_by}
 use Rattle.wire.specs.Numbers.{bad_letter, bad_buttons, bad_first_x, bad_first_y, bad_second_x, bad_second_y, short_buffer, RefusesRightly}
-use Rattle.wire.specs.Encoder.{Encoding, refusal_of, length_of, outcome, refused, encode_of}
+use Rattle.wire.specs.Encoder.{Encoding, Encoded, length_of, outcome, refused, encode_of}
+use Rattle.wire.specs.Refusals.{number_in}
 use Rattle.wire.specs.declared.Report.{Report}
-use Rattle.wire.specs.declared.Encoded.{Encoded}
+use Rattle.wire.specs.declared.refusal.Refusal.{Refusal}
 
 -- `known(letter)`
 abbrev pub KnownPromise : ℕ → Bool → Type 0
@@ -42,9 +43,9 @@ unwritten before =
 abbrev pub EncodeRefusal : List ℕ → Encoding → Type 0
 EncodeRefusal before e = RefusesRightly (λ (x : Encoding). x.refusal) (unwritten before) e
 
--- `Encoded::refusal(self)` and `Encoded::length(self)`
-abbrev pub RefusalPromise : Encoded → ℕ → Type 0
-RefusalPromise encoded answer = answer ≡ refusal_of encoded
+-- `number_in(answer)` and `length_in(answer)`
+abbrev pub RefusalPromise : {A : Type 0} → Result A Refusal → ℕ → Type 0
+RefusalPromise encoded answer = answer ≡ number_in encoded
 
 abbrev pub LengthPromise : Encoded → ℕ → Type 0
 LengthPromise encoded answer = answer ≡ length_of encoded

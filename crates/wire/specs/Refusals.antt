@@ -1,6 +1,8 @@
 -- Why a call is refused, by name, and the number given back for it: "0 is success"; 2 is given no more.
 use Rattle.std.specs.Prelude.{ℕ, ◌≡◌, Result, Ok, Err}
 use Rattle.wire.specs.Numbers.{success, bad_state, bad_letter, bad_buttons, bad_first_x, bad_first_y, bad_second_x, bad_second_y, short_buffer, bad_word}
+use Rattle.wire.specs.declared.Movement.{Movement}
+use Rattle.wire.specs.declared.Movement.TheVariants.{FirstX, FirstY, SecondX, SecondY}
 use Rattle.wire.specs.declared.refusal.Refusal.{Refusal}
 use Rattle.wire.specs.declared.refusal.Refusal.TheVariants.{NoSuchLetter, ButtonsAboveSeven, BadWord, BufferTooShort, BadState, FaultyLine, FirstXNotHeld}
 use Rattle.wire.specs.declared.refusal.Refusal.TheVariants.{FirstYNotHeld, SecondXNotHeld, SecondYNotHeld, NoReply, MarkedFormat, TooManyWords, NumberTooWide}
@@ -25,6 +27,13 @@ number_of NumberTooWide = 15
 abbrev pub number_in : {A : Type 0} → Result A Refusal → ℕ
 number_in (Ok a) = success
 number_in (Err r) = number_of r
+
+-- the refusal of a report for a movement that its format does not hold
+abbrev pub refusal_for : Movement → Refusal
+refusal_for FirstX = FirstXNotHeld
+refusal_for FirstY = FirstYNotHeld
+refusal_for SecondX = SecondXNotHeld
+refusal_for SecondY = SecondYNotHeld
 
 -- `Refusal::number(self)`
 abbrev pub NumberPromise : Refusal → ℕ → Type 0

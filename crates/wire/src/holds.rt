@@ -2,7 +2,7 @@
 ghost use Rattle.std.specs.Prelude.{◌≡◌};
 ghost use Rattle.wire.specs.Holds.{within, x_range, y_range, second_range, unheld};
 
-use crate::{Format, Range, Report, Unheld};
+use crate::{Format, Movement, Range, Report};
 
 // A magnitude of seven bits under a sign.
 const SIGNED_SEVEN: Range = Range {
@@ -38,77 +38,59 @@ impl Range {
     fn has(self, v: i16) -> bool
         ensures { result ≡ within self v }
     {
-        (self.low <= v) & (v <= self.high)
+        (self.low..=self.high).contains(&v)
     }
 }
 
-#[inline(always)]
-fn x_range(f: Format) -> Range
-    ensures { result ≡ x_range f }
-{
-    match f {
-        Format::Mm => SIGNED_SEVEN,
-        Format::Microsoft => BYTE,
-        Format::Absolute => POSITION,
-        Format::Relative => TWELVE,
-        Format::FiveByte => BYTE,
-        Format::ThreeByte => BYTE,
-        Format::Hexadecimal => BYTE,
+impl Format {
+    #[inline(always)]
+    fn x_range(self) -> Range
+        ensures { result ≡ x_range self }
+    {
+        match self {
+            Format::Mm => SIGNED_SEVEN,
+            Format::Absolute => POSITION,
+            Format::Relative => TWELVE,
+            Format::Microsoft | Format::FiveByte | Format::ThreeByte | Format::Hexadecimal => BYTE,
+        }
     }
-}
 
-#[inline(always)]
-fn y_range(f: Format) -> Range
-    ensures { result ≡ y_range f }
-{
-    match f {
-        Format::Mm => SIGNED_SEVEN,
-        Format::Microsoft => SOUTHWARD,
-        Format::Absolute => POSITION,
-        Format::Relative => TWELVE,
-        Format::FiveByte => BYTE,
-        Format::ThreeByte => BYTE,
-        Format::Hexadecimal => BYTE,
+    #[inline(always)]
+    fn y_range(self) -> Range
+        ensures { result ≡ y_range self }
+    {
+        match self {
+            Format::Microsoft => SOUTHWARD,
+            _ => self.x_range(),
+        }
     }
-}
 
-// The second pair is zero except in U.
-#[inline(always)]
-fn second_range(f: Format) -> Range
-    ensures { result ≡ second_range f }
-{
-    match f {
-        Format::Mm => NONE,
-        Format::Microsoft => NONE,
-        Format::Absolute => NONE,
-        Format::Relative => NONE,
-        Format::FiveByte => BYTE,
-        Format::ThreeByte => NONE,
-        Format::Hexadecimal => NONE,
+    // The second pair is zero except in U.
+    #[inline(always)]
+    fn second_range(self) -> Range
+        ensures { result ≡ second_range self }
+    {
+        match self {
+            Format::FiveByte => BYTE,
+            _ => NONE,
+        }
     }
 }
 
 // The first movement, in the order x1, y1, x2, y2, that a format does not hold.
 #[inline(always)]
-pub(crate) fn unheld(f: Format, report: Report) -> Unheld
+pub(crate) fn unheld(f: Format, report: Report) -> Option<Movement>
     ensures { result ≡ unheld f report }
 {
-    let second = second_range(f);
-    let first_x = x_range(f).has(report.x1);
-    let first_y = y_range(f).has(report.y1);
-    let second_x = second.has(report.x2);
-    let second_y = second.has(report.y2);
-    if !first_x {
-        return Unheld::FirstX;
+    if !f.x_range().has(report.x1) {
+        Some(Movement::FirstX)
+    } else if !f.y_range().has(report.y1) {
+        Some(Movement::FirstY)
+    } else if !f.second_range().has(report.x2) {
+        Some(Movement::SecondX)
+    } else if !f.second_range().has(report.y2) {
+        Some(Movement::SecondY)
+    } else {
+        None
     }
-    if !first_y {
-        return Unheld::FirstY;
-    }
-    if !second_x {
-        return Unheld::SecondX;
-    }
-    if !second_y {
-        return Unheld::SecondY;
-    }
-    Unheld::None
 }

@@ -14,7 +14,12 @@ mod refusal;
 mod signed;
 mod table;
 
-pub use refusal::Refusal;
+use encoder::by_letter;
+use line::format_of;
+use reading::{report, report_in};
+
+pub use encoder::length_in;
+pub use refusal::{number_in, Refusal};
 
 // The words on the line that are no bytes: "256 a break or a byte that arrived damaged, 257 a silence of one character time".
 pub const BREAK: u16 = 256;
@@ -47,7 +52,7 @@ pub const BAD_STATE: u8 = 6;
 
 // A report: the buttons as 4L+2M+R, the movement, and the second pair, which is zero except in U. North is positive.
 #[repr(C)]
-#[derive(Clone, Copy, Drop)]
+#[derive(Clone, Copy, Debug, PartialEq, Eq, Drop)]
 pub struct Report {
     pub buttons: u8,
     pub x1: i16,
@@ -57,7 +62,7 @@ pub struct Report {
 }
 
 // The formats of the letters S, V, A, B, U, T, W.
-#[derive(Clone, Copy, Drop)]
+#[derive(Clone, Copy, Debug, PartialEq, Eq, Drop)]
 pub enum Format {
     Mm,
     Microsoft,
@@ -68,37 +73,16 @@ pub enum Format {
     Hexadecimal,
 }
 
-// What a letter names.
-#[derive(Clone, Copy, Drop)]
-pub enum Named {
-    Known(Format),
-    Unknown,
-}
-
-// What the encoder answers: how many bytes it wrote, or why it refused.
-#[derive(Clone, Copy, Drop)]
-pub enum Encoded {
-    Written(usize),
-    NoSuchLetter,
-    ButtonsAboveSeven,
-    FirstXNotHeld,
-    FirstYNotHeld,
-    SecondXNotHeld,
-    SecondYNotHeld,
-    BufferTooShort,
-}
-
 // The movements that a format holds, from low to high.
-#[derive(Clone, Copy, Drop)]
+#[derive(Clone, Copy, Debug, PartialEq, Eq, Drop)]
 pub struct Range {
     pub low: i16,
     pub high: i16,
 }
 
-// Which movement of a report a format does not hold: none, or the first in this order.
-#[derive(Clone, Copy, Drop)]
-pub enum Unheld {
-    None,
+// The four movements of a report.
+#[derive(Clone, Copy, Debug, PartialEq, Eq, Drop)]
+pub enum Movement {
     FirstX,
     FirstY,
     SecondX,
@@ -106,74 +90,64 @@ pub enum Unheld {
 }
 
 // Whether a letter is in the table.
+#[tactic(auto, unfolding(crate::specs::Line::known))]
 #[inline(always)]
 pub fn known(letter: u8) -> bool
     ensures { KnownPromise letter result }
 {
-    match line::format_of(letter) {
-        Named::Known(_) => true,
-        Named::Unknown => false,
-    }
+    format_of(letter).is_some()
 }
 
 // How many bytes a report has; 0 for a letter that is not in the table.
+#[tactic(auto, unfolding(crate::specs::Line::size_by))]
 #[inline(always)]
 pub fn size(letter: u8) -> usize
     ensures { SizePromise letter result }
 {
-    match line::format_of(letter) {
-        Named::Known(f) => line::size_of(f),
-        Named::Unknown => 0,
-    }
+    format_of(letter).map_or(0, |f| f.size())
 }
 
 // Whether the first byte of a report is marked.
+#[tactic(auto, unfolding(crate::specs::Line::marked_by))]
 #[inline(always)]
 pub fn marked(letter: u8) -> bool
     ensures { MarkedPromise letter result }
 {
-    match line::format_of(letter) {
-        Named::Known(f) => line::marked_of(f),
-        Named::Unknown => false,
-    }
+    format_of(letter).is_some_and(|f| f.is_marked())
 }
 
 // Whether a byte is valid at a place of a report: 0 is the first, any other a later one.
+#[tactic(auto, unfolding(crate::specs::Places::fits_by))]
 #[inline(always)]
 pub fn fits(letter: u8, place: u8, byte: u8) -> bool
     ensures { FitsPromise letter place byte result }
 {
-    if place == 0 {
-        places::first_by(letter, byte)
-    } else {
-        places::later_by(letter, byte)
-    }
+    format_of(letter).is_some_and(|f| f.fits_at(place, byte))
 }
 
 // The report that bytes stand for; a format of three bytes reads the first three.
+#[tactic(auto, unfolding(crate::specs::Reading::report_by))]
 #[inline(always)]
 pub fn report_of(letter: u8, bytes: [u8; 5]) -> Report
     ensures { ReportPromise letter bytes result }
 {
-    match line::format_of(letter) {
-        Named::Known(f) => reading::report_in(f, bytes),
-        Named::Unknown => reading::report(0, 0, 0),
-    }
+    format_of(letter).map_or(report(0, 0, 0), |f| report_in(f, bytes))
 }
 
 // Writes a report's bytes at the front of a buffer, and nothing after them. A refusal writes nothing. Each letter has a
 // call of its own, so that the compiler makes a copy of the rules for it.
-pub fn encode(letter: u8, report: Report, buffer: &mut [u8]) -> Encoded
+#[tactic(auto, unfolding(crate::specs::Encoder::encode_in, crate::specs::Line::named_by))]
+pub fn encode(letter: u8, report: Report, buffer: &mut [u8]) -> Result<usize, Refusal>
     ensures { EncodePromise letter report buffer.old result buffer.new }
 {
     match letter {
-        FORMAT_S => encoder::by_letter(FORMAT_S, report, buffer),
-        FORMAT_V => encoder::by_letter(FORMAT_V, report, buffer),
-        FORMAT_A => encoder::by_letter(FORMAT_A, report, buffer),
-        FORMAT_B => encoder::by_letter(FORMAT_B, report, buffer),
-        FORMAT_U => encoder::by_letter(FORMAT_U, report, buffer),
-        FORMAT_T => encoder::by_letter(FORMAT_T, report, buffer),
-        FORMAT_W => encoder::by_letter(FORMAT_W, report, buffer),
-        _ => Encoded::NoSuchLetter,
+        FORMAT_S => by_letter(FORMAT_S, report, buffer),
+        FORMAT_V => by_letter(FORMAT_V, report, buffer),
+        FORMAT_A => by_letter(FORMAT_A, report, buffer),
+        FORMAT_B => by_letter(FORMAT_B, report, buffer),
+        FORMAT_U => by_letter(FORMAT_U, report, buffer),
+        FORMAT_T => by_letter(FORMAT_T, report, buffer),
+        FORMAT_W => by_letter(FORMAT_W, report, buffer),
+        _ => Err(Refusal::NoSuchLetter),
     }
 }

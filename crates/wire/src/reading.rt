@@ -13,7 +13,7 @@ pub(crate) fn report(buttons: u8, x: i16, y: i16) -> Report
     ensures { result ≡ report buttons x y }
 {
     Report {
-        buttons: buttons,
+        buttons,
         x1: x,
         y1: y,
         x2: 0,
@@ -126,11 +126,7 @@ fn read_hexadecimal(b1: u8, b2: u8, b3: u8, b4: u8, b5: u8) -> Report
 pub(crate) fn report_in(f: Format, b: [u8; 5]) -> Report
     ensures { result ≡ report_of f b }
 {
-    let b1 = b[0];
-    let b2 = b[1];
-    let b3 = b[2];
-    let b4 = b[3];
-    let b5 = b[4];
+    let [b1, b2, b3, b4, b5] = b;
     match f {
         Format::Mm => read_mm(b1, b2, b3),
         Format::Microsoft => read_microsoft(b1, b2, b3),

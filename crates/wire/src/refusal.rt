@@ -1,7 +1,9 @@
 // Why a call is refused, and the number that is given back for it.
-ghost use Rattle.wire.specs.Refusals.{NumberPromise};
+ghost use Rattle.std.specs.Prelude.{◌≡◌};
+ghost use Rattle.wire.specs.Refusals.{refusal_for, NumberPromise};
+ghost use Rattle.wire.specs.Promises.{RefusalPromise};
 
-use crate::{BAD_LETTER, BAD_STATE, BAD_WORD};
+use crate::{Movement, BAD_LETTER, BAD_STATE, BAD_WORD, SUCCESS};
 
 // The reasons that several crates give, in the order of their numbers.
 #[derive(Clone, Copy, Debug, PartialEq, Eq, Drop)]
@@ -43,6 +45,32 @@ impl Refusal {
             Refusal::MarkedFormat => 13,
             Refusal::TooManyWords => 14,
             Refusal::NumberTooWide => 15,
+        }
+    }
+}
+
+// The number given back for an answer: 0 for success.
+#[inline(always)]
+pub fn number_in<T>(answer: &Result<T, Refusal>) -> u8
+    ensures { RefusalPromise answer.now result }
+{
+    match answer {
+        Ok(_) => SUCCESS,
+        Err(refusal) => refusal.number(),
+    }
+}
+
+// The refusal of a report that has this movement, which its format does not hold.
+impl From<Movement> for Refusal {
+    ghost from_gives = { λ movement refusal. refusal ≡ refusal_for movement };
+
+    #[inline(always)]
+    fn from(movement: Movement) -> Self {
+        match movement {
+            Movement::FirstX => Refusal::FirstXNotHeld,
+            Movement::FirstY => Refusal::FirstYNotHeld,
+            Movement::SecondX => Refusal::SecondXNotHeld,
+            Movement::SecondY => Refusal::SecondYNotHeld,
         }
     }
 }

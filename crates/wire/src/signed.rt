@@ -1,16 +1,7 @@
 // Signed movements as the wire has them: a magnitude and a sign, and two's complement made of the two.
-ghost use Rattle.std.specs.Prelude.{◌≡◌, ◌⊎◌, ◌+◌, ◌^◌, ◌≤◌, ◌<◌, nat_abs};
+ghost use Rattle.std.specs.Prelude.{◌≡◌, ◌⊎◌, ◌+◌, ◌^◌, ◌≤◌, ◌<◌};
 ghost use Rattle.std.specs.Int.Signed.{mag};
 ghost use Rattle.numbers.specs.Signed.{twos, untwos, signed};
-
-// How far a movement goes, whatever its sign.
-#[inline(always)]
-pub(crate) fn magnitude(v: i16) -> u16
-    requires { mag v < 4096 }
-    ensures { result ≡ nat_abs v }
-{
-    if v < 0 { (-v) as u16 } else { v as u16 }
-}
 
 // A magnitude under its sign.
 #[inline(always)]
@@ -28,11 +19,8 @@ pub(crate) fn wrapped(v: i16, half: u16) -> u16
     requires { (mag v < half) × (half ≤ 2048) }
     ensures { result ≡ twos half v }
 {
-    if v < 0 {
-        half + half - magnitude(v)
-    } else {
-        magnitude(v)
-    }
+    let magnitude = v.unsigned_abs();
+    if v < 0 { half + half - magnitude } else { magnitude }
 }
 
 // The movement that a number below 2 * half stands for: half more and half less, which turns the highest of its bits over.

@@ -9,7 +9,7 @@ ghost use Rattle.wire.specs.Reading.{report};
 
 use crate::digits::digit_of;
 use crate::parity::with_parity;
-use crate::signed::{magnitude, wrapped};
+use crate::signed::wrapped;
 use crate::{Format, Report};
 
 // The sign bit of S: 1 is positive, and zero is sent so.
@@ -17,7 +17,7 @@ use crate::{Format, Report};
 fn sign_bit(v: i16) -> u8
     ensures { result ≡ value (non_neg v) }
 {
-    if v < 0 { 0 } else { 1 }
+    u8::from(v >= 0)
 }
 
 // A two's complement byte.
@@ -36,7 +36,7 @@ fn rows_s(buttons: u8, x: i16, y: i16) -> [u8; 5]
     ensures { result ≡ five (bytes_s (report buttons x y)) }
 {
     let first = 128 + (sign_bit(x) << 4) + (sign_bit(y) << 3) + buttons;
-    [first, magnitude(x) as u8, magnitude(y) as u8, 0, 0]
+    [first, x.unsigned_abs() as u8, y.unsigned_abs() as u8, 0, 0]
 }
 
 // V: the top two bits of either byte stand in the first, and M is dropped.
@@ -92,7 +92,7 @@ pub(crate) fn bytes_of(f: Format, r: Report) -> [u8; 5]
             let south = -y;
             rows_v(b, wrapped_byte(x), wrapped_byte(south))
         }
-        Format::Absolute => rows_a(r, magnitude(x), magnitude(y)),
+        Format::Absolute => rows_a(r, x.unsigned_abs(), y.unsigned_abs()),
         Format::Relative => rows_a(r, wrapped(x, 2048), wrapped(y, 2048)),
         Format::FiveByte => [
             128 + (7 - b),

@@ -9,7 +9,8 @@ use Rattle.numbers.proofs.Tested.{left, right}
 use Rattle.wire.specs.Reading.{report}
 use Rattle.wire.specs.Holds.{◌to◌, within, x_range, y_range, second_range, is_none, holds, pressable, accepted}
 use Rattle.wire.specs.declared.Report.{Report}
-use Rattle.wire.specs.declared.Unheld.TheVariants.{None, FirstX, FirstY, SecondX, SecondY}
+use Rattle.wire.specs.declared.Movement.TheVariants.{FirstX, FirstY, SecondX, SecondY}
+use Rattle.std.proofs.Common.{Some, None}
 use Rattle.wire.specs.declared.Format.{Format}
 use Rattle.wire.proofs.Codec.Ranges.{only_zero}
 
@@ -20,7 +21,7 @@ pub record Held (f : Format) (r : Report) : Type 0 where
   pub second_x : within (second_range f) r.x2 ≡ true
   pub second_y : within (second_range f) r.y2 ≡ true
 
-none_unheld : (a b c d : Bool) → is_none (cond (not a) FirstX (cond (not b) FirstY (cond (not c) SecondX (cond (not d) SecondY None)))) ≡ a && b && c && d
+none_unheld : (a b c d : Bool) → is_none (cond (not a) (Some FirstX) (cond (not b) (Some FirstY) (cond (not c) (Some SecondX) (cond (not d) (Some SecondY) None)))) ≡ a && b && c && d
 none_unheld false b c d = refl
 none_unheld true false c d = refl
 none_unheld true true false d = refl
