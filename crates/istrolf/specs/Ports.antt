@@ -1,13 +1,12 @@
 -- What a port tells, as C has it: a count and a word, 0 where there is none.
 use Rattle.port.specs.declared.Port.{Port}
-use Rattle.port.specs.declared.Given.{Given}
-use Rattle.port.specs.declared.Given.TheVariants.{Nothing, Word}
+use Rattle.std.specs.Prelude.{Option, None, Some}
 use Rattle.port.specs.declared.Heard.{Heard}
 use Rattle.istrolf.specs.declared.PortWord.{PortWord}
 
-abbrev pub given : Given → Port → PortWord
-given Nothing next = record { words = 0; word = 0; next = next }
-given (Word w) next = record { words = 1; word = w; next = next }
+abbrev pub given : Option ℕ → Port → PortWord
+given None next = record { words = 0; word = 0; next = next }
+given (Some w) next = record { words = 1; word = w; next = next }
 
 abbrev pub packed : Heard → PortWord
 packed heard = given heard.given heard.next

@@ -4,7 +4,7 @@ ghost use Rattle.istrolf.specs.Ports.{packed};
 ghost use Rattle.istrolf.specs.Promises.{FreshPortPromise, ClearingPortPromise, PortBytePromise, PortBytesPromise, PortQuietPromise, PortLostPromise};
 
 use crate::PortWord;
-use port::{Given, Heard, Port, Words};
+use port::{Heard, Port, Words};
 
 // What was heard, as C has it.
 fn packed(heard: Heard) -> PortWord
@@ -13,12 +13,12 @@ fn packed(heard: Heard) -> PortWord
     let next = heard.next;
     let given = heard.given;
     match given {
-        Given::Nothing => PortWord {
+        None => PortWord {
             words: 0,
             word: 0,
             next: next,
         },
-        Given::Word(w) => PortWord {
+        Some(w) => PortWord {
             words: 1,
             word: w,
             next: next,

@@ -15,8 +15,7 @@ use Rattle.frames.specs.Words.{break, silence}
 use Rattle.port.specs.Line.{words_in}
 use Rattle.port.specs.Sessions.{step_of, words_over}
 use Rattle.port.specs.declared.Heard.{Heard}
-use Rattle.port.specs.declared.Given.{Given}
-use Rattle.port.specs.declared.Given.TheVariants.{Nothing, Word}
+use Rattle.std.proofs.Common.{Option, None, Some}
 use Rattle.hearing.specs.Events.{event_of, events_of}
 use Rattle.hearing.specs.Steps.{Step}
 use Rattle.mrecord.specs.Recording.{line_of, behind_line, lines_of, full_behind, end_of, rest, told}
@@ -56,9 +55,9 @@ full_end last left (w ∷ words) e = rw e
 
 -- the words of what is heard are those of the first, and then the others
 module _ (tape : Tape) (heard : Heard) (h : ℕ) (is : heard ≡ step_of tape.port (event_of h)) where
-  begin : (g : Given) → heard.given ≡ g → (q : List ℕ) → words_over tape.port (events_of (h ∷ q)) ≡ words_in g ++ words_over heard.next (events_of q)
+  begin : (g : Option ℕ) → heard.given ≡ g → (q : List ℕ) → words_over tape.port (events_of (h ∷ q)) ≡ words_in g ++ words_over heard.next (events_of q)
   unfolding words_over
-  begin g e q = ap (λ (s : Heard). words_in s.given ++ words_over s.next (events_of q)) (sym is) ∙ ap (λ (x : Given). words_in x ++ words_over heard.next (events_of q)) e
+  begin g e q = ap (λ (s : Heard). words_in s.given ++ words_over s.next (events_of q)) (sym is) ∙ ap (λ (x : Option ℕ). words_in x ++ words_over heard.next (events_of q)) e
 
   module _ (before : List ℕ) (at : ℕ) where
     pub full : tape.left ≡ 0 → Step rest told 9 tape h before at tape before at
@@ -71,18 +70,18 @@ module _ (tape : Tape) (heard : Heard) (h : ℕ) (is : heard ≡ step_of tape.po
           says = λ q. full_end tape.last tape.left _ e ∙ sym (full_end tape.last tape.left _ e);
         }
 
-    pub nothing : heard.given ≡ Nothing
+    pub nothing : heard.given ≡ None
         → Step rest told 9 tape h before at (record { port = heard.next; left = tape.left; last = tape.last }) before at
     nothing e =
         record {
           text = [];
           so = refl;
           few = omega arith;
-          goes = λ q. ap (lines_of tape.left) (begin Nothing e q);
-          says = λ q. ap (end_of tape.last tape.left) (begin Nothing e q);
+          goes = λ q. ap (lines_of tape.left) (begin None e q);
+          says = λ q. ap (end_of tape.last tape.left) (begin None e q);
         }
 
-    pub word : (w left behind : ℕ) (after : List ℕ) → heard.given ≡ Word w → (tape.left ≡ 0 → ⊥) → w < 65536 → left ≡ behind_line (tape.left - 1) w
+    pub word : (w left behind : ℕ) (after : List ℕ) → heard.given ≡ Some w → (tape.left ≡ 0 → ⊥) → w < 65536 → left ≡ behind_line (tape.left - 1) w
         → slice after behind ≡ filled_by (slice before at) (line_of w)
         → Step rest told 9 tape h before at (record { port = heard.next; left = left; last = w }) after behind
     unfolding lines_of end_of
@@ -91,6 +90,6 @@ module _ (tape : Tape) (heard : Heard) (h : ℕ) (is : heard ≡ step_of tape.po
           text = line_of w;
           so = so;
           few = few_line w small;
-          goes = λ q. ap (lines_of tape.left) (begin (Word w) e q) ∙ rw (ne_eqb tape.left 0 n, l);
-          says = λ q. ap (end_of tape.last tape.left) (begin (Word w) e q) ∙ rw (ne_eqb tape.left 0 n, l);
+          goes = λ q. ap (lines_of tape.left) (begin (Some w) e q) ∙ rw (ne_eqb tape.left 0 n, l);
+          says = λ q. ap (end_of tape.last tape.left) (begin (Some w) e q) ∙ rw (ne_eqb tape.left 0 n, l);
         }

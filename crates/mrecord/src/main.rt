@@ -15,7 +15,7 @@ ghost use Rattle.mrecord.specs.Turns.{Hands, Goes};
 ghost use Rattle.mrecord.specs.Refusals.{refusal_of, Ended};
 
 use hearing::{Clock, TURNS};
-use port::{Given, Heard, Port};
+use port::{Heard, Port};
 use shell::Streams;
 use text::Text;
 use wire::{BREAK, SILENCE};
@@ -84,7 +84,7 @@ fn tell(tape: Tape, heard: Heard, out: &mut [u8], at: usize) -> Taped
     let next = heard.next;
     let given = heard.given;
     match given {
-        Given::Nothing => Taped {
+        None => Taped {
             tape: Tape {
                 port: next,
                 left: tape.left,
@@ -92,7 +92,7 @@ fn tell(tape: Tape, heard: Heard, out: &mut [u8], at: usize) -> Taped
             },
             at: at,
         },
-        Given::Word(word) => {
+        Some(word) => {
             let behind = line_to(out, at, word);
             let left = behind_line(tape.left - 1, word);
             Taped {

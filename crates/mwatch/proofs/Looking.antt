@@ -14,8 +14,7 @@ use Rattle.text.proofs.Digits.{decimal_few, small}
 use Rattle.port.specs.Line.{words_in}
 use Rattle.port.specs.Sessions.{step_of, words_over}
 use Rattle.port.specs.declared.Heard.{Heard}
-use Rattle.port.specs.declared.Given.{Given}
-use Rattle.port.specs.declared.Given.TheVariants.{Nothing, Word}
+use Rattle.std.proofs.Common.{Option, None, Some}
 use Rattle.hearing.specs.Events.{event_of, events_of}
 use Rattle.hearing.specs.Steps.{Step}
 use Rattle.hearing.proofs.Steps.{then_more}
@@ -101,22 +100,22 @@ gone_told sight = refl
 
 -- the words of what is heard are those of the first, and then the others
 module _ (sight : Sight) (heard : Heard) (h : ℕ) (is : heard ≡ step_of sight.port (event_of h)) where
-  begin : (g : Given) → heard.given ≡ g → (q : List ℕ) → words_over sight.port (events_of (h ∷ q)) ≡ words_in g ++ words_over heard.next (events_of q)
+  begin : (g : Option ℕ) → heard.given ≡ g → (q : List ℕ) → words_over sight.port (events_of (h ∷ q)) ≡ words_in g ++ words_over heard.next (events_of q)
   unfolding words_over
-  begin g e q = ap (λ (s : Heard). words_in s.given ++ words_over s.next (events_of q)) (sym is) ∙ ap (λ (x : Given). words_in x ++ words_over heard.next (events_of q)) e
+  begin g e q = ap (λ (s : Heard). words_in s.given ++ words_over s.next (events_of q)) (sym is) ∙ ap (λ (x : Option ℕ). words_in x ++ words_over heard.next (events_of q)) e
 
   module _ (before : List ℕ) (at : ℕ) where
-    pub nothing : heard.given ≡ Nothing → Step rest told 144 sight h before at (record { port = heard.next; look = sight.look }) before at
+    pub nothing : heard.given ≡ None → Step rest told 144 sight h before at (record { port = heard.next; look = sight.look }) before at
     nothing e =
         record {
           text = [];
           so = refl;
           few = omega arith;
-          goes = λ q. ap (text_of sight.look) (begin Nothing e q);
-          says = λ q. ap (λ (l : List ℕ). gone_words (look_of sight.look l)) (begin Nothing e q);
+          goes = λ q. ap (text_of sight.look) (begin None e q);
+          says = λ q. ap (λ (l : List ℕ). gone_words (look_of sight.look l)) (begin None e q);
         }
 
-    pub word : (w : ℕ) (r : Looked) (after : List ℕ) → heard.given ≡ Word w → Looks sight.look w before at r after
+    pub word : (w : ℕ) (r : Looked) (after : List ℕ) → heard.given ≡ Some w → Looks sight.look w before at r after
         → Step rest told 144 sight h before at (record { port = heard.next; look = r.look }) after r.at
     unfolding text_of look_of
     word w r after e l =
@@ -124,6 +123,6 @@ module _ (sight : Sight) (heard : Heard) (h : ℕ) (is : heard ≡ step_of sight
           text = text_by sight.look (reader.step_of sight.look.reader w).answer;
           so = l.text.so;
           few = l.text.few;
-          goes = λ q. ap (text_of sight.look) (begin (Word w) e q) ∙ rw l.next;
-          says = λ q. ap (λ (ws : List ℕ). gone_words (look_of sight.look ws)) (begin (Word w) e q) ∙ rw l.next;
+          goes = λ q. ap (text_of sight.look) (begin (Some w) e q) ∙ rw l.next;
+          says = λ q. ap (λ (ws : List ℕ). gone_words (look_of sight.look ws)) (begin (Some w) e q) ∙ rw l.next;
         }

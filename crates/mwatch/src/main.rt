@@ -17,7 +17,7 @@ ghost use Rattle.mwatch.specs.Turns.{Put, Looks, Hands, Goes};
 ghost use Rattle.mwatch.specs.Refusals.{refusal_of, Ended};
 
 use hearing::{Clock, TURNS};
-use port::{Given, Heard, Port};
+use port::{Heard, Port};
 use reader::{Answer, Reader};
 use saves::Watch;
 use shell::Streams;
@@ -283,14 +283,14 @@ fn tell(sight: Sight, heard: Heard, out: &mut [u8], at: usize) -> Seen
     let given = heard.given;
     let look = sight.look;
     match given {
-        Given::Nothing => Seen {
+        None => Seen {
             sight: Sight {
                 port: next,
                 look: look,
             },
             at: at,
         },
-        Given::Word(w) => {
+        Some(w) => {
             let looked = word(look, w, out, at);
             let then = looked.look;
             Seen {

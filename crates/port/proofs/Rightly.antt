@@ -18,8 +18,7 @@ use Rattle.port.specs.Hearing.{What, came, missed, Moment, events_at, events_of,
 use Rattle.port.specs.Promises.{BytesPromise, Calls, done, byte, wait, loss, lot, byte_thrown, lot_thrown}
 use Rattle.port.specs.Line as line
 use Rattle.port.specs.declared.Words.{Words}
-use Rattle.port.specs.declared.Given.{Given}
-use Rattle.port.specs.declared.Given.TheVariants.{Nothing, Word}
+use Rattle.std.proofs.Common.{Option, None, Some}
 use Rattle.port.specs.declared.Port.{Port}
 use Rattle.port.proofs.Laws.{told, over_by, all_taken}
 
@@ -143,9 +142,9 @@ heard_from_the_start c q a sure =
     (hears c q a.moments (port_over (opened c q) (waits a.waited)) (waits_hold c q a.waited (opened c q) (at_first c q)) sure.1)
 
 -- A lot of bytes gives no more words than bytes, and the words that they give one by one.
-a_word_each : (g : Given) → length (words_in g) ≤ 1
-a_word_each Nothing = omega arith
-a_word_each (Word w) = omega arith
+a_word_each : (g : Option ℕ) → length (words_in g) ≤ 1
+a_word_each None = omega arith
+a_word_each (Some w) = omega arith
 
 no_more : (p : Port) (raw : List ℕ) → length (written line.hears (answers_over line.hears p raw)) ≤ length raw
 unfolding answers_over
@@ -197,7 +196,7 @@ calls_tell (byte_thrown e c) = rw (calls_tell c, e)
 calls_tell (lot_thrown {p} raw out after a {events} h e c) = rw (calls_tell c, lot_left p raw out after a h e) (sym (all_thrown p raw events))
 
 -- where a byte gives no word, to throw it away is to read it
-pub nothing_to_throw : (p : Port) (b : ℕ) → (byte_of p b).given ≡ Nothing → (rest : List Event) → words_over p (read b ∷ rest) ≡ words_over p (thrown b ∷ rest)
+pub nothing_to_throw : (p : Port) (b : ℕ) → (byte_of p b).given ≡ None → (rest : List Event) → words_over p (read b ∷ rest) ≡ words_over p (thrown b ∷ rest)
 unfolding words_over
 nothing_to_throw p b n rest = rw n
 
@@ -208,15 +207,15 @@ pub promised_rightly : (c q : ℕ) {p : Port} → p ≡ opened c q → (a : Arri
 promised_rightly c q is a sure calls = rw (calls_tell calls, is) (heard_from_the_start c q a sure)
 
 -- A loss that is told within a mark is told as if before it: the word of the mark is the same, and stands behind the 256.
-abbrev SomeWord : Given → Type 0
-SomeWord Nothing = ⊥
-SomeWord (Word w) = Unit {0}
+abbrev SomeWord : Option ℕ → Type 0
+SomeWord None = ⊥
+SomeWord (Some w) = Unit {0}
 
-a_word : {w : ℕ} {A : Type 0} → Word w ≡ Nothing → A
+a_word : {w : ℕ} {A : Type 0} → Some w ≡ None → A
 a_word e = absurd (subst SomeWord e tt)
 
 by_mark : (p : Port) (b : ℕ) (t u v w : Bool) → eqb p.held 0 ≡ t → eqb p.held 1 ≡ u → eqb b mark ≡ v → eqb b 0 ≡ w
-    → (byte_of p b).given ≡ Nothing
+    → (byte_of p b).given ≡ None
     → (rest : List Event)
     → words_over p (read b ∷ lost ∷ rest) ≡ words_over p (lost ∷ read b ∷ rest)
 unfolding words_over byte_of plain behind_mark
@@ -227,7 +226,7 @@ by_mark p b false true false true e f g h n rest = rw (e, f, g, h)
 by_mark p b false true false false e f g h n rest = a_word (rw (e, f, g, h) at n)
 by_mark p b false false v w e f g h n rest = a_word (rw (e, f) at n)
 
-pub lost_in_a_mark : (p : Port) (b : ℕ) → (byte_of p b).given ≡ Nothing → (rest : List Event)
+pub lost_in_a_mark : (p : Port) (b : ℕ) → (byte_of p b).given ≡ None → (rest : List Event)
     → words_over p (read b ∷ lost ∷ rest) ≡ words_over p (lost ∷ read b ∷ rest)
 lost_in_a_mark p b n rest = by_mark p b (eqb p.held 0) (eqb p.held 1) (eqb b mark) (eqb b 0) refl refl refl refl n rest
 

@@ -11,14 +11,13 @@ use Rattle.port.specs.Marks.{port, opened, cleared, plain, behind_mark, byte_of,
 use Rattle.port.specs.Line.{Long}
 use Rattle.port.specs.Promises.{FreshPromise, ClearingPromise, BytePromise, QuietPromise, LostPromise, BytesPromise}
 use Rattle.port.specs.declared.Port.{Port}
-use Rattle.port.specs.declared.Given.{Given}
-use Rattle.port.specs.declared.Given.TheVariants.{Nothing, Word}
+use Rattle.std.proofs.Common.{Option, None, Some}
 use Rattle.port.specs.declared.Heard.{Heard}
 
 -- which word was told; 0 stands for none
-abbrev word_in : Given → ℕ
-word_in Nothing = 0
-word_in (Word w) = w
+abbrev word_in : Option ℕ → ℕ
+word_in None = 0
+word_in (Some w) = w
 
 abbrev told : Heard → ℕ
 told h = word_in h.given
@@ -38,36 +37,36 @@ pub clearing_marked : ClearingPromise 100 (port 1 1 100 100) → ⊥
 clearing_marked e = omega (arith, ap (λ (p : Port). p.held) e)
 
 -- FF told as it comes; a damaged byte told as sound; and FF FF with bit 7, where it is to be cleared
-pub byte_mark_told : BytePromise (opened 0 100) 255 (record { next = opened 0 100; given = Word 255 }) → ⊥
+pub byte_mark_told : BytePromise (opened 0 100) 255 (record { next = opened 0 100; given = Some 255 }) → ⊥
 unfolding byte_of plain
 byte_mark_told e = omega (arith, ap told e)
 
-pub byte_damaged_told : BytePromise (port 2 0 100 100) 2 (record { next = opened 0 100; given = Word 2 }) → ⊥
+pub byte_damaged_told : BytePromise (port 2 0 100 100) 2 (record { next = opened 0 100; given = Some 2 }) → ⊥
 unfolding byte_of
 byte_damaged_told e = omega (arith, ap told e)
 
-pub byte_not_cleared : BytePromise (port 1 1 100 100) 255 (record { next = opened 1 100; given = Word 255 }) → ⊥
+pub byte_not_cleared : BytePromise (port 1 1 100 100) 255 (record { next = opened 1 100; given = Some 255 }) → ⊥
 unfolding byte_of behind_mark cleared number bits bit
 byte_not_cleared e = omega (arith, ap told e)
 
 -- a silence before the waits make up its length; one that was told, told again; and one that is due, not told
-pub quiet_early : QuietPromise (port 0 0 100 100) 99 (record { next = port 0 0 100 0; given = Word 257 }) → ⊥
+pub quiet_early : QuietPromise (port 0 0 100 100) 99 (record { next = port 0 0 100 0; given = Some 257 }) → ⊥
 unfolding quiet_of
 quiet_early e = omega (arith, ap told e)
 
-pub quiet_again : QuietPromise (port 0 0 100 0) 100 (record { next = port 0 0 100 0; given = Word 257 }) → ⊥
+pub quiet_again : QuietPromise (port 0 0 100 0) 100 (record { next = port 0 0 100 0; given = Some 257 }) → ⊥
 unfolding quiet_of
 quiet_again e = omega (arith, ap told e)
 
-pub quiet_not_told : QuietPromise (port 0 0 100 100) 100 (record { next = port 0 0 100 0; given = Nothing }) → ⊥
+pub quiet_not_told : QuietPromise (port 0 0 100 100) 100 (record { next = port 0 0 100 0; given = None }) → ⊥
 unfolding quiet_of
 quiet_not_told e = omega (arith, ap told e)
 
 -- a loss of which nothing is told; and one that drops the mark, so that what comes of it is told as bytes
-pub lost_untold : LostPromise (opened 0 100) (record { next = opened 0 100; given = Nothing }) → ⊥
+pub lost_untold : LostPromise (opened 0 100) (record { next = opened 0 100; given = None }) → ⊥
 lost_untold e = omega (arith, ap told e)
 
-pub lost_drops_the_mark : LostPromise (port 2 0 100 100) (record { next = opened 0 100; given = Word 256 }) → ⊥
+pub lost_drops_the_mark : LostPromise (port 2 0 100 100) (record { next = opened 0 100; given = Some 256 }) → ⊥
 lost_drops_the_mark e = omega (arith, ap (λ (h : Heard). h.next.held) e)
 
 -- FF FF told as two words; and a byte taken whose word has no room

@@ -12,7 +12,8 @@ mod line;
 mod marks;
 
 // How far a mark has come: 0 none, 1 FF, else FF 00. Whether bit 7 of every byte is cleared: 0 if not. How long nothing
-// must come for a silence, 0 for never; and how much of that is left, 0 once it was told.
+// must come for a silence, 0 for never; and how much of that is left, 0 once it was told. C has this struct, so the two
+// marks are numbers.
 #[repr(C)]
 #[derive(Clone, Copy, Drop)]
 pub struct Port {
@@ -22,18 +23,11 @@ pub struct Port {
     pub left: u32,
 }
 
-// What a byte, a wait or a loss tells: nothing, or a word.
-#[derive(Clone, Copy, Drop)]
-pub enum Given {
-    Nothing,
-    Word(u16),
-}
-
-// What a byte, a wait or a loss gives back.
+// What a byte, a wait or a loss gives back: the port, and the word that it tells, if any.
 #[derive(Clone, Copy, Drop)]
 pub struct Heard {
     pub next: Port,
-    pub given: Given,
+    pub given: Option<u16>,
 }
 
 // What many bytes give back: how many were taken, and how many words were written.
@@ -53,7 +47,7 @@ impl Port {
         Port {
             held: 0,
             clears: 0,
-            silence: silence,
+            silence,
             left: silence,
         }
     }
@@ -65,7 +59,7 @@ impl Port {
         Port {
             held: 0,
             clears: 1,
-            silence: silence,
+            silence,
             left: silence,
         }
     }

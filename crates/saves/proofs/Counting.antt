@@ -1,11 +1,11 @@
--- What is counted report by report is what is told of all of them; and the reports among numbers, from a place on.
-use Prim.Native.Nat.{ℕ, zero, suc, ◌+◌, ◌≤◌, ◌<◌}
+-- What is counted report by report is what is told of all of them; and the first report among numbers.
+use Prim.Native.Nat.{ℕ, ◌+◌, ◌≤◌, ◌<◌}
 use mathlib.Core.Path.{◌≡◌, refl, ◌∙◌}
 use mathlib.Core.Bool.{Bool, true, false, cond}
-use mathlib.Core.List.{List, [], ◌∷◌}
+use mathlib.Core.List.{List, [], ◌∷◌, ◌++◌}
 use native.Mathlib.Omega.{arith}
 use native.Mathlib.Nat.{add_assoc, add-zero, zero-add}
-use lib.ListN.{length, drop, get_or}
+use lib.ListN.{length, get_or}
 use lib.IntN.{ℤ, pos}
 use Rattle.wire.specs.Buttons.{left, middle, right, is_down}
 use Rattle.saves.specs.Rules.{hears, low_three, buttons_among}
@@ -46,15 +46,15 @@ with_few s now = let d = (hears s.next now).down in
     (omega (arith, few (is_down left d)), omega (arith, few (is_down middle d)), omega (arith, few (is_down right d)))
 
 -- a whole five, and fewer
-pub one_more_lem : (numbers : List ℤ) (at : ℕ) → at + 5 ≤ length numbers → buttons_among (drop at numbers) ≡ low_three (get_or numbers at (pos 0)) ∷ buttons_among (drop (at + 5) numbers)
+pub one_more_lem : (report rest : List ℤ) → length report ≡ 5 → buttons_among (report ++ rest) ≡ low_three (get_or report 0 (pos 0)) ∷ buttons_among rest
 unfolding buttons_among
-one_more_lem [] at h = absurd (omega arith)
-one_more_lem (b ∷ []) zero h = absurd (omega arith)
-one_more_lem (b ∷ x1 ∷ []) zero h = absurd (omega arith)
-one_more_lem (b ∷ x1 ∷ y1 ∷ []) zero h = absurd (omega arith)
-one_more_lem (b ∷ x1 ∷ y1 ∷ x2 ∷ []) zero h = absurd (omega arith)
-one_more_lem (b ∷ x1 ∷ y1 ∷ x2 ∷ y2 ∷ numbers) zero h = refl
-one_more_lem (b ∷ numbers) (suc at) h = let e : suc at + 5 ≡ suc (at + 5) = omega arith in rw e (one_more_lem numbers at (omega arith))
+one_more_lem [] rest h = absurd (omega arith)
+one_more_lem (b ∷ []) rest h = absurd (omega arith)
+one_more_lem (b ∷ x1 ∷ []) rest h = absurd (omega arith)
+one_more_lem (b ∷ x1 ∷ y1 ∷ []) rest h = absurd (omega arith)
+one_more_lem (b ∷ x1 ∷ y1 ∷ x2 ∷ []) rest h = absurd (omega arith)
+one_more_lem (b ∷ x1 ∷ y1 ∷ x2 ∷ y2 ∷ []) rest h = refl
+one_more_lem (b ∷ x1 ∷ y1 ∷ x2 ∷ y2 ∷ z ∷ more) rest h = absurd (omega arith)
 
 pub none_more : (numbers : List ℤ) → length numbers < 5 → buttons_among numbers ≡ []
 unfolding buttons_among

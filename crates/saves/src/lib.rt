@@ -9,7 +9,7 @@ mod line;
 mod rules;
 
 // What the host knows: `known` is 0 where it has seen no buttons yet; `last` are those that it saw last, 4L+2M+R, and
-// higher bits of it are not looked at.
+// higher bits of it are not looked at. C has this struct, so that `known` is a number and `last` stands beside it.
 #[repr(C)]
 #[derive(Clone, Copy, Drop)]
 pub struct Watch {

@@ -12,19 +12,17 @@ fn low_three(number: i16) -> u8
     ensures { result ≡ low_three number }
 {
     if number < 0 {
-        return 0;
+        0
+    } else {
+        (number as u16 % 8) as u8
     }
-    (number as u16 % 8) as u8
 }
 
 // Whether the lowest button is down counts one.
 fn lowest(buttons: u8) -> usize
     ensures { result ≡ cond (bit 0 buttons) 1 0 }
 {
-    if buttons % 2 == 1 {
-        return 1;
-    }
-    0
+    usize::from(buttons % 2 == 1)
 }
 
 impl Watched {
@@ -33,15 +31,13 @@ impl Watched {
         requires { (self.left + 1 < 2 ^ 64) × (self.middle + 1 < 2 ^ 64) × (self.right + 1 < 2 ^ 64) }
         ensures { result ≡ with_report self now }
     {
-        let watch = self.next;
-        let told = watch.hears(now);
-        let next = told.next;
+        let told = self.next.hears(now);
         let down = told.down;
         let left = lowest(down / 4);
         let middle = lowest(down / 2);
         let right = lowest(down);
         Watched {
-            next: next,
+            next: told.next,
             left: self.left + left,
             middle: self.middle + middle,
             right: self.right + right,
@@ -60,11 +56,8 @@ impl Watch {
             middle: 0,
             right: 0,
         };
-        let mut at: usize = 0;
-        while numbers.len() - at >= 5 {
-            let now = low_three(numbers[at]);
-            watched = watched.with(now);
-            at = at + 5;
+        for report in numbers.chunks_exact(5) {
+            watched = watched.with(low_three(report[0]));
         }
         watched
     }

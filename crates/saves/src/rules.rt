@@ -9,7 +9,7 @@ use crate::{Told, Watch};
 fn new_lowest(now: u8, was: u8) -> u8
     ensures { result ≡ value (bit 0 now && not (bit 0 was)) }
 {
-    ((now % 2 == 1) & !(was % 2 == 1)) as u8
+    u8::from(now % 2 == 1 && was % 2 != 1)
 }
 
 // Those that are down now and were not.
@@ -30,16 +30,17 @@ impl Watch {
         let last = self.last;
         let next = Watch::knowing(now);
         if self.known == 0 {
-            return Told {
-                next: next,
+            Told {
+                next,
                 down: 0,
                 up: 0,
-            };
-        }
-        Told {
-            next: next,
-            down: new_in(now, last),
-            up: new_in(last, now),
+            }
+        } else {
+            Told {
+                next,
+                down: new_in(now, last),
+                up: new_in(last, now),
+            }
         }
     }
 }

@@ -7,12 +7,12 @@ use Rattle.mrecord.proofs.tell.Goals as goal
 pub returns-then-tape-eq0 : goal.returns-then-tape-eq0
 returns-then-tape-eq0 c = let a = c.args in λ h is. full a.tape a.heard h is a.out.now a.at c.if-tape-eq0.true
 
-pub returns-in-Nothing : goal.returns-in-Nothing
-returns-in-Nothing c = let a = c.args in λ h is. nothing a.tape a.heard h is a.out.now a.at c.in-Nothing.is
+pub returns-in-None : goal.returns-in-None
+returns-in-None c = let a = c.args in λ h is. nothing a.tape a.heard h is a.out.now a.at c.in-None.is
 
-pub returns-in-Word : goal.returns-in-Word
-returns-in-Word c =
+pub returns-in-Some : goal.returns-in-Some
+returns-in-Some c =
     let a = c.args in
     let l = c.line_to-behind in
-    let small : c.in-Word.word < 65536 = search rules in
-    λ h is. word a.tape a.heard h is a.out.now a.at c.in-Word.word _ _ _ c.in-Word.is c.if-tape-eq0.false small c.behind_line-left.ensures l.ensures
+    let small : c.in-Some.word < 65536 = search rules in
+    λ h is. word a.tape a.heard h is a.out.now a.at c.in-Some.word _ _ _ c.in-Some.is c.if-tape-eq0.false small c.behind_line-left.ensures l.ensures

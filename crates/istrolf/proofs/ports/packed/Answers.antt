@@ -1,8 +1,8 @@
 -- By whether a word is told.
 use Rattle.istrolf.proofs.ports.packed.Goals as goal
 
-pub returns-in-Nothing : goal.returns-in-Nothing
-returns-in-Nothing c = rw c.in-Nothing.is
+pub returns-in-None : goal.returns-in-None
+returns-in-None c = rw c.in-None.is
 
-pub returns-in-Word : goal.returns-in-Word
-returns-in-Word c = rw c.in-Word.is
+pub returns-in-Some : goal.returns-in-Some
+returns-in-Some c = rw c.in-Some.is

@@ -1,66 +1,32 @@
-use Prim.Native.Nat.{◌-◌, ◌+◌}
-use mathlib.Core.Path.{◌∙◌, ap}
+-- The next byte gives no word, a word with a place, or one without.
+use mathlib.Core.Path.{◌≡◌}
+use lib.ListN.{length}
 use native.Mathlib.Omega.{arith}
-use lib.ListN.{length, length-take, length-drop}
-use borrow.Rule.Slice.PartMut.{put_mid}
-use Rattle.fold.specs.Calls.{Stands}
 use Rattle.fold.proofs.Loops.{stands_none}
-use Rattle.port.specs.Line.{whole, hears_bytes}
-use Rattle.port.proofs.Loop.{lawful, far, more, unchanged, ends_before, ends_all}
+use Rattle.port.specs.Line.{hears_bytes}
+use Rattle.port.proofs.Loop.{lawful, far, ends_all, nothing_more, word_more, no_room}
 use Rattle.port.proofs.line.line.Goals as goal
+use Rattle.port.proofs.line.line.Goals.{in-Some+else-written-out, in_default}
 
-pub loop-at-init : goal.loop-at-init
-loop-at-init c = stands_none hears_bytes lawful c.args.port c.args.raw.now c.args.out.now
+pub loop-taken-init : goal.loop-taken-init
+loop-taken-init c = stands_none hears_bytes lawful c.args.port c.args.raw.now c.args.out.now
 
-pub offset_bounds-out-used : goal.offset_bounds-out-used
-offset_bounds-out-used c = omega (arith, far c.loop-at.invariant, c.well_formed.1.1.0.1)
+pub returns-then-written-out : goal.returns-then-written-out
+returns-then-written-out c =
+    let l = c.loop-taken in
+    let e = c.byte-heard.ensures in
+    no_room l.invariant (omega arith) e c.in-Some.is (omega arith)
 
-pub slice_bounds-first-count-in-loop-at : goal.slice_bounds-first-count-in-loop-at
-slice_bounds-first-count-in-loop-at c = omega (arith, far c.loop-at.invariant, c.well_formed.1.1.0.1)
-
-pub first-t-requires : goal.first-t-requires
-first-t-requires c = simp (length-take, length-drop) (omega (arith, c.loop-at-test.true))
-
-pub returns-then-t-eq0 : goal.returns-then-t-eq0
-returns-then-t-eq0 c =
-    let s = c.loop-at.invariant in
-    rw c.words.ensures (ap (whole _) (unchanged s c.first-t.ensures c.if-t-eq0.true) ∙ ends_before s c.first-t.ensures c.if-t-eq0.true)
-
-pub overflow_add-at : goal.overflow_add-at
-overflow_add-at c =
-    let turn : let l = c.loop-at in
-    let a = c.args in
-    let t = c.first-t.result in
-    Stands hears_bytes a.port a.raw.now a.out.now t.next (l.at + t.taken) (l.used + t.written) (l.used + t.written)
-    (put_mid l.used (length l.out - l.used) l.out c.first-t.new.out) = more c.loop-at.invariant c.first-t.ensures in
-    omega (arith, far turn, c.well_formed.1.0.1)
-
-pub overflow_add-used : goal.overflow_add-used
-overflow_add-used c =
-    let turn : let l = c.loop-at in
-    let a = c.args in
-    let t = c.first-t.result in
-    Stands hears_bytes a.port a.raw.now a.out.now t.next (l.at + t.taken) (l.used + t.written) (l.used + t.written)
-    (put_mid l.used (length l.out - l.used) l.out c.first-t.new.out) = more c.loop-at.invariant c.first-t.ensures in
-    omega (arith, far turn, c.well_formed.1.1.0.1)
-
-pub loop-at-smaller : goal.loop-at-smaller
-loop-at-smaller c =
-    let turn : let l = c.loop-at in
-    let a = c.args in
-    let t = c.first-t.result in
-    Stands hears_bytes a.port a.raw.now a.out.now t.next (l.at + t.taken) (l.used + t.written) (l.used + t.written)
-    (put_mid l.used (length l.out - l.used) l.out c.first-t.new.out) = more c.loop-at.invariant c.first-t.ensures in
-    omega (arith, far turn, c.if-t-eq0.false, c.loop-at-test.true)
-
-pub loop-at-preserved : goal.loop-at-preserved
-loop-at-preserved c =
-    let turn : let l = c.loop-at in
-    let a = c.args in
-    let t = c.first-t.result in
-    Stands hears_bytes a.port a.raw.now a.out.now t.next (l.at + t.taken) (l.used + t.written) (l.used + t.written)
-    (put_mid l.used (length l.out - l.used) l.out c.first-t.new.out) = more c.loop-at.invariant c.first-t.ensures in
-    turn
+pub loop-taken-preserved : goal.loop-taken-preserved
+loop-taken-preserved c =
+    let l = c.loop-taken in
+    elim c.match-heard.branch [
+      | in-Some+else-written-out w ↦ rw (w.out-is, w.written-is) (word_more l.invariant (omega arith) c.byte-heard.ensures w.in-Some.is (omega (arith, far l.invariant)))
+      | in_default w ↦ rw (w.out-is, w.written-is) (nothing_more l.invariant (omega arith) c.byte-heard.ensures w.in_default.is)
+    ]
 
 pub returns : goal.returns
-returns c = rw c.words-2.ensures (ends_all c.loop-at.invariant c.loop-at-test.false)
+returns c =
+    let l = c.loop-taken in
+    let all : length c.args.raw.now ≡ l.taken = omega (arith, far l.invariant) in
+    rw all (ends_all l.invariant (omega arith))

@@ -24,8 +24,8 @@ overflow_cast-result c =
     let n = c.args.number in
     rw same (holds (above_non_neg n above), record { fits = omega (arith, few_above 32768 n above c.ranges.number.sfits) })
 
-pub returns : goal.returns
-returns c =
+pub returns-else-number-lt0 : goal.returns-else-number-lt0
+returns-else-number-lt0 c =
     let same : to_z w16 (of_z w16 c.args.number) ≡ c.args.number = to_z-of_z c.ranges.number in
     let above : lt_z c.args.number (pos 0) ≡ false = rw same at c.if-number-lt0.false in
     rw same (low_above c.args.number above)

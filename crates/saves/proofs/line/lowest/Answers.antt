@@ -1,13 +1,15 @@
 -- By the bit.
-use borrow.Author.Tests.{eq-eqb, ne_eqb}
+use mathlib.Core.Path.{◌≡◌, refl, ◌∙◌}
+use mathlib.Core.Bool.{Bool, true, false, cond}
 use native.Mathlib.Nat.{div-one}
+use mir.Val.{bool_byte}
 use Rattle.numbers.specs.Bits.{bit}
 use Rattle.saves.proofs.line.lowest.Goals as goal
 
-pub returns-then-buttons-eq1 : goal.returns-then-buttons-eq1
-unfolding bit
-returns-then-buttons-eq1 c = rw (div-one c.args.buttons, eq-eqb _ _ c.if-buttons-eq1.true)
+one_or_none : (b : Bool) → bool_byte b ≡ cond b 1 0
+one_or_none true = refl
+one_or_none false = refl
 
 pub returns : goal.returns
 unfolding bit
-returns c = rw (div-one c.args.buttons, ne_eqb _ _ c.if-buttons-eq1.false)
+returns c = rw (div-one c.args.buttons) (c.from.ensures ∙ one_or_none _)
