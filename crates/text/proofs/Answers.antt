@@ -7,7 +7,7 @@ use lib.IntN.{ℤ}
 use Rattle.text.specs.Growth.{slice}
 use Rattle.text.proofs.Laws.{put_none}
 use Rattle.text.specs.Promises.{NonePromise, WithPromise, DecimalPromise, NumberPromise, PutPromise, ByteToPromise, BytesToPromise, DecimalToPromise, LengthToPromise}
-use Rattle.text.specs.declared.Number.{Number}
+use Rattle.std.proofs.Common.{Option}
 use Rattle.text.specs.declared.Text.{Text}
 
 pub one_none : {a b : Text} → NonePromise a → NonePromise b → a ≡ b
@@ -19,7 +19,7 @@ one_with t byte p q = p ∙ sym q
 pub one_decimal : (t : Text) (width : ℕ) (x : ℤ) {a b : Text} → DecimalPromise t width x a → DecimalPromise t width x b → a ≡ b
 one_decimal t width x p q = p ∙ sym q
 
-pub one_number : (bytes : List ℕ) (width : ℕ) {a b : Number} → NumberPromise bytes width a → NumberPromise bytes width b → a ≡ b
+pub one_number : (bytes : List ℕ) (width : ℕ) {a b : Option ℤ} → NumberPromise bytes width a → NumberPromise bytes width b → a ≡ b
 one_number bytes width p q = p ∙ sym q
 
 pub one_put : (t : Text) (at : ℕ) (before : List ℕ) {a b : Bool} {left right : List ℕ} → PutPromise t at before a left → PutPromise t at before b right

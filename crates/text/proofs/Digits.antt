@@ -7,9 +7,10 @@ use native.Mathlib.Numerals.{add-one}
 use native.Mathlib.Omega.{arith}
 use native.Mathlib.Nat.{add-zero, zero-add, not-suc-le-zero}
 use lib.Dec.{T, ltb, leb, eqb}
-use lib.IntN.{ℤ, pos, negsuc, neg_ℤ, ◌-ℤ◌, nat_abs, +ℤ_idl}
+use lib.IntN.{ℤ, pos, negsuc, neg_ℤ, ◌-ℤ◌, nat_abs}
 use lib.Signed.{lt_z}
-use lib.ListN.{length, get_or, set, drop, length-append, drop_of_length-le}
+use lib.ListN.{length, get_or, set, take, drop, length-append, drop_of_length-le}
+use lib.Pointwise.{pointwise}
 use lib.Seq.{drop-cons, sets}
 use borrow.Author.Tests.{ltb-true, ltb-false, lt-ltb, le-ltb, leb-true, le-leb, lt-leb, eqb-true, eq-eqb, ne_eqb}
 use mir.Syntax.{w64}
@@ -17,8 +18,7 @@ use mir.Val.{SFits}
 use Rattle.numbers.proofs.Tested.{left, right}
 use Rattle.numbers.proofs.Choices.{cases}
 use Rattle.text.specs.Decimals.{digit_of, digits_of, size_in, size_of, places_of, unsigned_of, decimal_of, is_digit, all_digits, value_of, most, readable, plus_in, minus, has_minus, number_in}
-use Rattle.text.specs.declared.Number.{Number}
-use Rattle.text.specs.declared.Number.TheVariants.{None, Is}
+use Rattle.std.proofs.Common.{Option, Some, None}
 use Rattle.text.proofs.Filled.{last_first}
 
 -- digits
@@ -68,8 +68,8 @@ some_power : (q : ℕ) → 1 ≤ 10 ^ q
 some_power zero = omega arith
 some_power (suc q) = omega (arith, some_power q)
 
-size_is : (p n : ℕ) → 10 ^ suc p ≤ n → n < 10 ^ suc (suc p) → size_of n ≡ suc (suc p)
-size_is zero n h k = size_more n (omega arith) ∙ ap suc (size_one (n / 10) (omega arith))
+pub size_is : (p n : ℕ) → 10 ^ p ≤ n → n < 10 ^ suc p → size_of n ≡ suc p
+size_is zero n h k = size_one n (omega arith)
 size_is (suc p) n h k = size_more n (omega (arith, some_power p)) ∙ ap suc (size_is p (n / 10) (omega arith) (omega arith))
 
 size_holds : (f q n : ℕ) → n ≤ f → size_in f n ≤ q → n < 10 ^ q
@@ -110,17 +110,9 @@ pub down : (x : ℤ) → lt_z x (pos 0) ≡ true → negsuc 0 -ℤ x ≡ pos (na
 down (pos n) h = absurd (not-suc-le-zero (ltb-true n 0 h))
 down (negsuc n) h = let k : 1 ≤ suc n = omega arith in simp (le-ltb (suc n) 1 k)
 
-pub some : (x : ℤ) → lt_z x (pos 0) ≡ true → nat_abs x - 1 + 1 ≡ nat_abs x
-some (pos n) h = absurd (not-suc-le-zero (ltb-true n 0 h))
-some (negsuc n) h = omega arith
-
 pub small : (x : ℤ) → SFits w64 x → nat_abs x ≤ 9223372036854775808
 small (pos n) h = omega arith
 small (negsuc n) h = omega arith
-
-pub few : (x : ℤ) → SFits w64 x → lt_z x (pos 0) ≡ false → nat_abs x < 9223372036854775808
-few (pos n) h k = omega arith
-few (negsuc n) h k = absurd (subst T k tt)
 
 pub minus_sign : (width : ℕ) (x : ℤ) → lt_z x (pos 0) ≡ true → decimal_of width x ≡ 0x2D ∷ unsigned_of width (nat_abs x)
 unfolding decimal_of
@@ -131,12 +123,6 @@ pub no_sign : (width : ℕ) (x : ℤ) → lt_z x (pos 0) ≡ false → decimal_o
 unfolding decimal_of
 no_sign width (pos n) h = refl
 no_sign width (negsuc n) h = absurd (subst T h tt)
-
--- below 0
-pub minus_fits : (x : ℤ) → lt_z (pos 0) x ≡ true → SFits w64 x → SFits w64 (pos 0 -ℤ x)
-minus_fits (pos zero) h k = absurd (not-suc-le-zero (ltb-true 0 0 h))
-minus_fits (pos (suc n)) h k = rw +ℤ_idl (record { sfits = omega (arith, k.sfits) })
-minus_fits (negsuc n) h k = absurd (true≢false (sym h))
 
 digits_back : (ds : List ℕ) → all_digits ds ≡ true → digits_of (length ds) (value_of 0 ds) ≡ ds
 unfolding digits_of
@@ -159,7 +145,7 @@ unsigned_one width n h k = rw (size_one n h, le-ltb 1 width (omega arith))
 
 pub unsigned_is : (p n : ℕ) → 10 ^ suc p ≤ n → n < 10 ^ suc (suc p) → unsigned_of 1 n ≡ digits_of (suc (suc p)) n
 unfolding places_of
-unsigned_is p n h k = rw (size_is p n h k, le-ltb (suc (suc p)) 1 (omega arith))
+unsigned_is p n h k = rw (size_is (suc p) n h k, le-ltb (suc (suc p)) 1 (omega arith))
 
 pub places_six : (n : ℕ) → n < 10 ^ 6 → places_of 6 n ≡ 6
 unfolding places_of
@@ -170,18 +156,18 @@ unfolding decimal_of
 decimal_few width p (pos n) h k = omega (arith, digits_long (places_of width n) n, places_few width n p h k)
 decimal_few width p (negsuc n) h k = omega (arith, digits_long (places_of width (suc n)) (suc n), places_few width (suc n) p h k)
 
--- what has a minus has a byte
-pub some_minus : (ds : List ℕ) → has_minus ds ≡ true → 1 ≤ length ds
-some_minus [] h = absurd (true≢false (sym h))
-some_minus (c ∷ ds) h = omega arith
+-- a minus in front, and none
+pub a_minus : (ds : List ℕ) → pointwise eqb (take 1 ds) (45 ∷ []) ≡ true → has_minus ds ≡ true
+a_minus [] h = h
+a_minus (c ∷ ds) h = left (eqb c 45) true h
 
-pub no_byte : (ds : List ℕ) → length ds ≡ 0 → false ≡ has_minus ds
-no_byte [] h = refl
-no_byte (c ∷ ds) h = absurd (omega arith)
-
-pub first_byte : (ds : List ℕ) → (length ds ≡ 0 → ⊥) → eqb (get_or ds 0 0) 45 ≡ has_minus ds
-first_byte [] h = absurd (h refl)
-first_byte (c ∷ ds) h = refl
+pub without_minus : (ds : List ℕ) → pointwise eqb (take 1 ds) (45 ∷ []) ≡ false → has_minus ds ≡ false
+without_minus [] h = refl
+without_minus (c ∷ ds) h = go (eqb c 45) h
+  where
+    go : (t : Bool) → t && true ≡ false → t ≡ false
+    go true k = k
+    go false k = refl
 
 -- digits are digits, and none is a minus
 pub all_digits_lem : (p n : ℕ) → all_digits (digits_of p n) ≡ true
@@ -199,51 +185,51 @@ no_minus width [] h = refl
 no_minus width (c ∷ ds) h =
     let low = leb-true 48 c (left (leb 48 c) (leb c 57) (left (is_digit c) (all_digits ds) h)) in rw (ne_eqb c 45 (λ e. omega arith))
 
-read_digits : (width n : ℕ) → n ≤ most → plus_in width (unsigned_of width n) ≡ Is (pos n)
+read_digits : (width n : ℕ) → n ≤ most → plus_in width (unsigned_of width n) ≡ Some (pos n)
 unfolding plus_in readable
 read_digits width n h =
     let p = places_of width n in
     rw (all_digits_lem p n, value_digits p n (places_hold width n), le-leb n most h, digits_long p n, eq-eqb p p refl)
 
 -- WRITTEN THEN READ: the number
-pub written_read : (width : ℕ) (x : ℤ) → nat_abs x ≤ most → number_in width (decimal_of width x) ≡ Is x
+pub written_read : (width : ℕ) (x : ℤ) → nat_abs x ≤ most → number_in width (decimal_of width x) ≡ Some x
 unfolding decimal_of number_in
 written_read width (pos n) h = no_minus width (unsigned_of width n) (all_digits_lem (places_of width n) n) ∙ read_digits width n h
 written_read width (negsuc n) h = let k : 0 < suc n = omega arith in rw (read_digits width (suc n) h, lt-ltb 0 (suc n) k)
 
 -- READ THEN WRITTEN: the bytes
-abbrev numbered : Number → Bool
+abbrev numbered : Option ℤ → Bool
 numbered None = false
-numbered (Is x) = true
+numbered (Some x) = true
 
-abbrev held : Number → ℤ
+abbrev held : Option ℤ → ℤ
 held None = pos 0
-held (Is x) = x
+held (Some x) = x
 
-digits_read : (width : ℕ) (ds : List ℕ) (x : ℤ) → plus_in width ds ≡ Is x → (x ≡ pos (value_of 0 ds)) × (unsigned_of width (value_of 0 ds) ≡ ds)
+digits_read : (width : ℕ) (ds : List ℕ) (x : ℤ) → plus_in width ds ≡ Some x → (x ≡ pos (value_of 0 ds)) × (unsigned_of width (value_of 0 ds) ≡ ds)
 unfolding plus_in readable
 digits_read width ds x h = go (readable width ds) refl h
   where
-    go : (t : Bool) → readable width ds ≡ t → cond t (Is (pos (value_of 0 ds))) None ≡ Is x → (x ≡ pos (value_of 0 ds)) × (unsigned_of width (value_of 0 ds) ≡ ds)
+    go : (t : Bool) → readable width ds ≡ t → cond t (Some (pos (value_of 0 ds))) None ≡ Some x → (x ≡ pos (value_of 0 ds)) × (unsigned_of width (value_of 0 ds) ≡ ds)
     go true e k =
         let two = left (all_digits ds && leb (value_of 0 ds) most) (eqb (length ds) (places_of width (value_of 0 ds))) e in
         let long = eqb-true (length ds) (places_of width (value_of 0 ds)) (right (all_digits ds && leb (value_of 0 ds) most) (eqb (length ds) (places_of width (value_of 0 ds))) e) in
         (sym (ap held k), rw (← long) (digits_back ds (left (all_digits ds) (leb (value_of 0 ds) most) two)))
     go false e k = absurd (true≢false (sym (ap numbered k)))
 
-pub read_written : (width : ℕ) (bytes : List ℕ) (x : ℤ) → number_in width bytes ≡ Is x → decimal_of width x ≡ bytes
+pub read_written : (width : ℕ) (bytes : List ℕ) (x : ℤ) → number_in width bytes ≡ Some x → decimal_of width x ≡ bytes
 unfolding number_in decimal_of
 read_written width [] x h = let q = digits_read width [] x h in rw q.0 q.1
 read_written width (c ∷ cs) x h = go (eqb c 45) refl (plus_in width cs) refl h
   where
-    below : (v : ℕ) → unsigned_of width v ≡ cs → cond (lt_z (pos 0) (pos v)) (Is (neg_ℤ (pos v))) None ≡ Is x → decimal_of width x ≡ 45 ∷ cs
+    below : (v : ℕ) → unsigned_of width v ≡ cs → cond (lt_z (pos 0) (pos v)) (Some (neg_ℤ (pos v))) None ≡ Some x → decimal_of width x ≡ 45 ∷ cs
     below zero u k = absurd (true≢false (sym (ap numbered k)))
     below (suc n) u k = let some : 0 < suc n = omega arith in rw (← ap held (rw (lt-ltb 0 (suc n) some) at k), u)
 
-    go : (t : Bool) → eqb c 45 ≡ t → (p : Number) → plus_in width cs ≡ p → cond t (minus p) (plus_in width (c ∷ cs)) ≡ Is x → decimal_of width x ≡ c ∷ cs
+    go : (t : Bool) → eqb c 45 ≡ t → (p : Option ℤ) → plus_in width cs ≡ p → cond t (minus p) (plus_in width (c ∷ cs)) ≡ Some x → decimal_of width x ≡ c ∷ cs
     go false e p ep k = let q = digits_read width (c ∷ cs) x k in rw q.0 q.1
     go true e None ep k = absurd (true≢false (sym (ap numbered k)))
-    go true e (Is y) ep k =
+    go true e (Some y) ep k =
         let q = digits_read width cs y ep in
         rw (eqb-true c 45 e) (below (value_of 0 cs) q.1 (rw q.0 at k))
 
@@ -277,19 +263,16 @@ module _ (width : ℕ) (ds : List ℕ) (v i : ℕ) (inv : Reads ds v i) (more : 
   unfolding plus_in readable
   too_big h = rw (lt-leb (value_of 0 ds) most (omega (arith, value, value_up (drop (i + 1) ds) (v * 10 + (c - 48))))) (go (all_digits ds))
     where
-      go : (t : Bool) → None ≡ cond (t && false && eqb (length ds) (places_of width (value_of 0 ds))) (Is (pos (value_of 0 ds))) None
+      go : (t : Bool) → None ≡ cond (t && false && eqb (length ds) (places_of width (value_of 0 ds))) (Some (pos (value_of 0 ds))) None
       go true = refl
       go false = refl
-
-  pub one_more_lem : is_digit c ≡ true → v < 10 ^ 17 → Reads ds (v * 10 + (c - 48)) (i + 1)
-  one_more_lem h k = (omega arith, omega (arith, leb-true c 57 (right (leb 48 c) (leb c 57) h)), value, rw h at digits)
 
 -- all digits are read
 module _ (width : ℕ) (ds : List ℕ) (v i : ℕ) (inv : Reads ds v i) (end : length ds ≤ i) where
   all_read : (v ≡ value_of 0 ds) × (true ≡ all_digits ds)
   all_read = (rw (drop_of_length-le ds end) at inv.2, rw (drop_of_length-le ds end) at inv.3)
 
-  pub read_is : length ds ≡ places_of width v → Is (pos v) ≡ plus_in width ds
+  pub read_is : length ds ≡ places_of width v → Some (pos v) ≡ plus_in width ds
   unfolding plus_in readable
   read_is h = rw (← all_read.1, ← all_read.0, le-leb v most inv.1, eq-eqb _ _ h)
 

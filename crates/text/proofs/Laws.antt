@@ -7,6 +7,7 @@ use native.Mathlib.Omega.{arith}
 use native.Mathlib.Numerals.{add-one}
 use lib.ListN.{length, length-set, set}
 use lib.Seq.{take-suc-set, append_snoc, paste}
+use Rattle.std.proofs.lemmas.List.{take-take}
 use borrow.Author.Tests.{le-leb, lt-leb}
 use Rattle.text.specs.Growth.{shown, none, grown, grown_by, text_of, fits_at, put_of}
 use Rattle.text.specs.Promises.{PutPromise}
@@ -62,9 +63,9 @@ no_room t at out h k = unfit t at out (rw (le-leb t.len 40 h, lt-leb (at + t.len
 pub fits : (t : Text) (at : ℕ) (out : List ℕ) → t.len ≤ 40 → at + t.len ≤ length out → fits_at t at out ≡ true
 fits t at out h k = rw (le-leb t.len 40 h, le-leb (at + t.len) (length out) k) refl
 
-pub put_is : (t : Text) (at : ℕ) (out : List ℕ) → t.len ≤ 40 → at + t.len ≤ length out → PutPromise t at out true (paste out at t.bytes t.len)
+pub put_is : (t : Text) (at : ℕ) (out : List ℕ) → t.len ≤ 40 → at + t.len ≤ length out → PutPromise t at out true (paste out at (shown t) t.len)
 unfolding put_of
-put_is t at out h k = rw (fits t at out h k) (refl, refl)
+put_is t at out h k = rw (fits t at out h k, take-take t.len t.len t.bytes (omega arith)) (refl, refl)
 
 -- a text that has no room is not put
 pub put_none : (t : Text) (at : ℕ) (out : List ℕ) → fits_at t at out ≡ false → put_of t at out ≡ out

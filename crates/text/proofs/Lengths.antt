@@ -1,14 +1,15 @@
 -- Laws of where a byte stands: within the bytes, byte by byte, behind others, and in a front that has it.
-use Prim.Native.Nat.{ℕ, suc, ◌+◌, ◌<◌, ◌≤◌}
+use Prim.Native.Nat.{ℕ, suc, ◌+◌, ◌≤◌}
 use mathlib.Core.Path.{◌≡◌, refl, ap}
-use mathlib.Core.Bool.{Bool, true, false}
+use mathlib.Core.Bool.{Bool, true, false, cond}
 use mathlib.Core.List.{List, [], ◌∷◌, ◌++◌}
 use native.Mathlib.Omega.{arith}
-use native.Mathlib.Numerals.{add-one}
-use lib.Dec.{eqb}
-use lib.ListN.{length, get_or, take, drop, drop_of_length-le}
-use lib.Seq.{drop-cons}
-use borrow.Author.Tests.{eq-eqb, ne_eqb}
+use lib.Dec.{eqb, ltb}
+use lib.ListN.{length, take}
+use borrow.Author.Tests.{ltb-false}
+use Rattle.std.proofs.Common.{Option, Some, None, position, unwrap_or}
+use Rattle.std.specs.List.{position_or_len}
+use Rattle.std.proofs.lemmas.List.Recursion.{is_position_or_len}
 use Rattle.numbers.proofs.Choices.{cases}
 use Rattle.text.specs.Lengths.{length_to}
 
@@ -17,19 +18,16 @@ pub to_within : (stop : ℕ) (l : List ℕ) → length_to stop l ≤ length l
 to_within stop [] = omega arith
 to_within stop (c ∷ l) = cases (λ (n : ℕ). n ≤ suc (length l)) (eqb c stop) (λ _. omega arith) (λ _. omega (arith, to_within stop l))
 
--- byte by byte
-module _ (bytes : List ℕ) (stop i : ℕ) (inv : i + length_to stop (drop i bytes) ≡ length_to stop bytes) where
-  next : i < length bytes → drop i bytes ≡ get_or bytes i 0 ∷ drop (i + 1) bytes
-  next h = rw add-one (drop-cons bytes i 0 h)
+-- what a search for it answers, or else the length of the bytes
+pub position_is : (stop : ℕ) (l : List ℕ) → length_to stop l ≡ position_or_len (λ (b : ℕ). eqb b stop) l
+position_is stop l = is_position_or_len (length_to stop) (λ (b : ℕ). eqb b stop) refl (λ c cs. let e : suc (length_to stop cs) ≡ 1 + length_to stop cs = omega arith in rw e) l
 
-  pub found : i < length bytes → get_or bytes i 0 ≡ stop → i ≡ length_to stop bytes
-  found h e = let k : i + 0 ≡ length_to stop bytes = rw (next h, eq-eqb (get_or bytes i 0) stop e) at inv in omega arith
-
-  pub further : i < length bytes → (get_or bytes i 0 ≡ stop → ⊥) → i + 1 + length_to stop (drop (i + 1) bytes) ≡ length_to stop bytes
-  further h n = let k : i + suc (length_to stop (drop (i + 1) bytes)) ≡ length_to stop bytes = rw (next h, ne_eqb (get_or bytes i 0) stop n) at inv in omega arith
-
-  pub at_end : length bytes ≤ i → i ≡ length_to stop bytes
-  at_end h = let k : i + 0 ≡ length_to stop bytes = rw (drop_of_length-le bytes h) at inv in omega arith
+pub searched : (stop : ℕ) (l : List ℕ) (r : Option ℕ) → r ≡ position (λ (b : ℕ). eqb b stop) l → unwrap_or r (length l) ≡ length_to stop l
+searched stop l r h = rw (h, ← position_is stop l) (go (ltb (length_to stop l) (length l)) refl)
+  where
+    go : (t : Bool) → ltb (length_to stop l) (length l) ≡ t → unwrap_or (cond t (Some (length_to stop l)) None) (length l) ≡ length_to stop l
+    go true e = refl
+    go false e = omega (arith, ltb-false (length_to stop l) (length l) e, to_within stop l)
 
 -- behind bytes that have none
 pub to_append : (stop : ℕ) (l q : List ℕ) → length_to stop l ≡ length l → length_to stop (l ++ q) ≡ length l + length_to stop q

@@ -10,8 +10,7 @@ use lib.ListN.{get_or, replicate}
 use Rattle.text.specs.Growth.{none, grown, text_of, filled, put_of}
 use Rattle.text.specs.Decimals.{digits_of, size_in, places_of, decimal_of, readable, plus_in, number_in}
 use Rattle.text.specs.Promises.{NonePromise, WithPromise, DecimalPromise, NumberPromise, PutPromise, ByteToPromise, BytesToPromise, DecimalToPromise, LengthToPromise}
-use Rattle.text.specs.declared.Number.{Number}
-use Rattle.text.specs.declared.Number.TheVariants.{None, Is}
+use Rattle.std.proofs.Common.{ℤ, Option, Some, None}
 use Rattle.text.specs.declared.Text.{Text}
 
 -- an empty text of one byte, and one of blanks
@@ -47,15 +46,15 @@ unfolding grown decimal_of digits_of places_of size_in
 decimal_no_minus e = omega (arith, ap (λ (t : Text). t.len) e)
 
 -- `-0` read as 0, and `07` as 7; and 7 not read
-abbrev is_read : Number → ℕ
+abbrev is_read : Option ℤ → ℕ
 is_read None = 0
-is_read (Is x) = 1
+is_read (Some x) = 1
 
-pub number_minus_zero : NumberPromise (0x2D ∷ 0x30 ∷ []) 1 (Is (pos 0)) → ⊥
+pub number_minus_zero : NumberPromise (0x2D ∷ 0x30 ∷ []) 1 (Some (pos 0)) → ⊥
 unfolding number_in plus_in readable places_of size_in
 number_minus_zero e = omega (arith, ap is_read e)
 
-pub number_leading_zero : NumberPromise (0x30 ∷ 0x37 ∷ []) 1 (Is (pos 7)) → ⊥
+pub number_leading_zero : NumberPromise (0x30 ∷ 0x37 ∷ []) 1 (Some (pos 7)) → ⊥
 unfolding number_in plus_in readable places_of size_in
 number_leading_zero e = omega (arith, ap is_read e)
 

@@ -1,8 +1,6 @@
 -- Numbers as decimals, in ASCII, written and read at a width: at least so many digits, with zeros in front where a number needs fewer.
-use Rattle.std.specs.Prelude.{ℕ, zero, suc, ◌+◌, ◌-◌, ◌*◌, ◌/◌, ◌%◌, ◌^◌, Bool, true, false, cond, ◌&&◌, List, [], ◌∷◌, ◌++◌, ltb, leb, eqb, ℤ, pos, negsuc, neg_ℤ, length, drop}
+use Rattle.std.specs.Prelude.{ℕ, zero, suc, ◌+◌, ◌-◌, ◌*◌, ◌/◌, ◌%◌, ◌^◌, Bool, true, false, cond, ◌&&◌, List, [], ◌∷◌, ◌++◌, ltb, leb, eqb, ℤ, pos, negsuc, neg_ℤ, length, drop, Option, Some, None}
 use Rattle.std.specs.Int.Signed.{lt_z}
-use Rattle.text.specs.declared.Number.{Number}
-use Rattle.text.specs.declared.Number.TheVariants.{None, Is}
 
 -- the last digit of a number
 abbrev pub digit_of : ℕ → ℕ
@@ -58,18 +56,18 @@ most = 10 ^ 18 - 1
 unfoldable pub readable : ℕ → List ℕ → Bool
 readable width ds = all_digits ds && leb (value_of 0 ds) most && eqb (length ds) (places_of width (value_of 0 ds))
 
-unfoldable pub plus_in : ℕ → List ℕ → Number
-plus_in width ds = cond (readable width ds) (Is (pos (value_of 0 ds))) None
+unfoldable pub plus_in : ℕ → List ℕ → Option ℤ
+plus_in width ds = cond (readable width ds) (Some (pos (value_of 0 ds))) None
 
 -- behind a minus; there is no minus 0
-abbrev pub minus : Number → Number
+abbrev pub minus : Option ℤ → Option ℤ
 minus None = None
-minus (Is x) = cond (lt_z (pos 0) x) (Is (neg_ℤ x)) None
+minus (Some x) = cond (lt_z (pos 0) x) (Some (neg_ℤ x)) None
 
 abbrev pub has_minus : List ℕ → Bool
 has_minus [] = false
 has_minus (c ∷ cs) = eqb c 0x2D
 
 -- the number that a decimal stands for
-unfoldable pub number_in : ℕ → List ℕ → Number
+unfoldable pub number_in : ℕ → List ℕ → Option ℤ
 number_in width bytes = cond (has_minus bytes) (minus (plus_in width (drop 1 bytes))) (plus_in width bytes)

@@ -1,9 +1,8 @@
 -- What each public function promises: for every argument one answer.
-use Rattle.std.specs.Prelude.{ℕ, ◌≡◌, Bool, List, ℤ}
+use Rattle.std.specs.Prelude.{ℕ, ◌≡◌, Bool, List, ℤ, Option}
 use Rattle.text.specs.Growth.{none, grown, grown_by, slice, filled, filled_by, fits_at, put_of}
 use Rattle.text.specs.Decimals.{decimal_of, number_in}
 use Rattle.text.specs.Lengths.{length_to}
-use Rattle.text.specs.declared.Number.{Number}
 use Rattle.text.specs.declared.Text.{Text}
 
 -- `Text::none()`: the empty text
@@ -18,8 +17,8 @@ WithPromise t b r = r ≡ grown t b
 abbrev pub DecimalPromise : Text → ℕ → ℤ → Text → Type 0
 DecimalPromise t width x r = r ≡ grown_by t (decimal_of width x)
 
--- `Number::read(bytes, width)`: the number of a decimal
-abbrev pub NumberPromise : List ℕ → ℕ → Number → Type 0
+-- `number(bytes, width)`: the number of a decimal
+abbrev pub NumberPromise : List ℕ → ℕ → Option ℤ → Type 0
 NumberPromise bytes width r = r ≡ number_in width bytes
 
 -- `Text::put(self, out, at)`: whether it was put, and every byte of the slice

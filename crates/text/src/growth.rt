@@ -1,21 +1,7 @@
 // A text that grows by bytes.
-ghost use Rattle.std.specs.Prelude.{◌≡◌, ◌+◌, ◌≤◌, length};
-ghost use Rattle.std.proofs.Math.Seq.{paste};
 ghost use Rattle.text.specs.Promises.{NonePromise, WithPromise, ByteToPromise, BytesToPromise, PutPromise};
 
 use crate::Text;
-
-// The first n bytes, to a slice from a place on.
-fn copy(out: &mut [u8], at: usize, bytes: [u8; 40], n: usize)
-    requires { (at + n ≤ length out.old) × (n ≤ 40) }
-    ensures { out.new ≡ paste out.old at bytes n }
-{
-    let mut i = 0;
-    while i < n {
-        out[at + i] = bytes[i];
-        i += 1;
-    }
-}
 
 impl Text {
     // No bytes.
@@ -29,19 +15,14 @@ impl Text {
     }
 
     // One byte more; a full text stays as it is.
-    pub fn with(self, b: u8) -> Text
+    pub fn with(mut self, b: u8) -> Text
         ensures { WithPromise self b result }
     {
-        let n = self.len;
-        if n >= 40 {
-            return self;
+        if self.len < 40 {
+            self.bytes[self.len] = b;
+            self.len += 1;
         }
-        let mut bytes = self.bytes;
-        bytes[n] = b;
-        Text {
-            bytes: bytes,
-            len: n + 1,
-        }
+        self
     }
 
     // A byte to a slice at a place, and the place behind it; a full slice stays as it is.
@@ -60,10 +41,8 @@ impl Text {
         ensures { BytesToPromise out.old at bytes.now result out.new }
     {
         let mut to = at;
-        let mut i: usize = 0;
-        while i < bytes.len() {
-            to = Text::byte_to(out, to, bytes[i]);
-            i = i + 1;
+        for b in bytes {
+            to = Text::byte_to(out, to, *b);
         }
         to
     }
@@ -73,18 +52,10 @@ impl Text {
         ensures { PutPromise self at out.old result out.new }
     {
         let n = self.len;
-        let room = out.len();
-        if n > 40 {
+        if 40 < n || out.len() < n || out.len() - n < at {
             return false;
         }
-        if room < n {
-            return false;
-        }
-        if room - n < at {
-            return false;
-        }
-        let bytes = self.bytes;
-        copy(out, at, bytes, n);
+        out[at..at + n].copy_from_slice(&self.bytes[..n]);
         true
     }
 }

@@ -1,19 +1,10 @@
-use native.Mathlib.Omega.{arith}
-use native.Mathlib.Nat.{zero-add}
-use Rattle.text.proofs.Lengths.{found, further, at_end}
+use mathlib.Core.Path.{◌∙◌}
+use Rattle.std.proofs.Common.{ℕ, eqb, rules, tests}
+use Rattle.std.proofs.lemmas.Iterator.{YieldsList-from_slice}
+use Rattle.std.proofs.lemmas.Iterator.Search.{position_from_yields_List}
+use Rattle.text.proofs.Lengths.{searched}
 use Rattle.text.proofs.length_to.Goals as goal
 
-pub loop-i-init : goal.loop-i-init
-loop-i-init c = (omega arith, zero-add _)
-
-pub returns-then-bytes-i : goal.returns-then-bytes-i
-returns-then-bytes-i c = let l = c.loop-i in found _ _ l.i l.invariant.1 c.loop-i-test.true c.if-bytes-i.true
-
-pub overflow_add-i : goal.overflow_add-i
-overflow_add-i c = record { fits = omega arith }
-
-pub loop-i-preserved : goal.loop-i-preserved
-loop-i-preserved c = let l = c.loop-i in (omega arith, further _ _ l.i l.invariant.1 c.loop-i-test.true c.if-bytes-i.false)
-
 pub returns : goal.returns
-returns c = let l = c.loop-i in at_end _ _ l.i l.invariant.1 c.loop-i-test.false
+returns c = c.unwrap_or.ensures ∙ searched c.args.stop c.args.bytes.now c.position.result
+    (position_from_yields_List (λ (b : ℕ). eqb b c.args.stop) _ _ _ c.position.ensures.ran (YieldsList-from_slice c.args.bytes.now cc) (λ x b q k. search (rules, tests)))

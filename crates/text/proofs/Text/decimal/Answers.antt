@@ -13,4 +13,4 @@ returns c =
     let forty : length c.args.self.bytes ≡ 40 = search rules in
     let a = c.args in
     let same : to_z w64 (of_z w64 a.x) ≡ a.x = search rules in
-    c.decimal_to-len.ensures ∙ rw same (filled_text (decimal_of a.width a.x) a.self forty)
+    c.decimal_to.ensures ∙ rw same (filled_text (decimal_of a.width a.x) a.self forty)

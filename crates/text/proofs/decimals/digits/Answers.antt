@@ -1,9 +1,13 @@
-use mathlib.Core.Path.{◌≡◌, sym, ◌∙◌, ap}
-use Prim.Native.Nat.{◌+◌, ◌-◌, ◌≤◌}
+use mathlib.Core.Path.{◌≡◌, refl, sym, ◌∙◌, ap}
+use mathlib.Core.Bool.{Bool, true, false}
+use mathlib.Core.List.{List}
+use Prim.Native.Nat.{ℕ, ◌+◌, ◌-◌, ◌<◌, min}
 use native.Mathlib.Omega.{arith}
-use lib.ListN.{set, length-set}
-use lib.Seq.{sets, set_out}
-use Rattle.text.specs.Growth.{slice}
+use lib.Dec.{ltb}
+use borrow.Author.Tests.{ltb-true, ltb-false}
+use lib.ListN.{set, length}
+use lib.Seq.{set_out}
+use Rattle.text.specs.Growth.{slice, filled_by}
 use Rattle.text.specs.Decimals.{digit_of, digits_of}
 use Rattle.text.proofs.Filled.{all_full, filled_is, filled_len, filled_end}
 use Rattle.text.proofs.Digits.{one_digit, digits_long}
@@ -21,27 +25,20 @@ loop-k-preserved c =
       | then-k-room w ↦ w.out-is ∙ ap (set l.out (at + (l.k - 1))) w.digit.ensures
       | else-k-room w ↦ w.out-is ∙ sym (set_out l.out (at + (l.k - 1)) (digit_of l.v) (omega (arith, w.if-k-room.false)))
     ] in
-    let more : 1 ≤ l.k = omega arith in
-    (rw wrote (one_digit l.out at l.k l.v more ∙ l.invariant.0), omega arith, rw wrote (length-set l.out (at + (l.k - 1)) (digit_of l.v) ∙ l.invariant.2))
+    rw wrote (one_digit l.out at l.k l.v (omega arith) ∙ l.invariant)
 
-pub returns-then-places-room : goal.returns-then-places-room
-unfolding digits_of
-returns-then-places-room c =
-    let all : let a = c.args in c.loop-k.out ≡ sets a.out.now a.at (digits_of a.places a.n) = let l = c.loop-k in
-    let none : l.k ≡ 0 = omega arith in
-    rw none at l.invariant.0 in
-    let a = c.args in
-    let ds = digits_of a.places a.n in
-    let long = digits_long a.places a.n in
-    filled_is ds (slice a.out.now a.at) _ _ all (sym (filled_len ds (slice a.out.now a.at) (omega (arith, long)) ∙ rw long))
+end_is : (ds l : List ℕ) (at places : ℕ) → length ds ≡ places → at < length l → at + min places (length l - at) ≡ (filled_by (slice l at) ds).len
+end_is ds l at places e h = go (ltb places (length l - at)) refl
+  where
+    go : (t : Bool) → ltb places (length l - at) ≡ t → at + min places (length l - at) ≡ (filled_by (slice l at) ds).len
+    go true k = omega (arith, filled_len ds (slice l at) (omega (arith, ltb-true _ _ k)), ltb-true _ _ k)
+    go false k = omega (arith, filled_end ds (slice l at) (omega arith) (omega (arith, ltb-false _ _ k)), ltb-false _ _ k)
 
 pub returns : goal.returns
 unfolding digits_of
 returns c =
-    let all : let a = c.args in c.loop-k.out ≡ sets a.out.now a.at (digits_of a.places a.n) = let l = c.loop-k in
-    let none : l.k ≡ 0 = omega arith in
-    rw none at l.invariant.0 in
     let a = c.args in
+    let l = c.loop-k in
     let ds = digits_of a.places a.n in
-    let end = filled_end ds (slice a.out.now a.at) (omega arith) (omega (arith, digits_long a.places a.n)) in
-    filled_is ds (slice a.out.now a.at) _ _ all (omega (arith, end))
+    let none : l.k ≡ 0 = omega arith in
+    filled_is ds (slice a.out.now a.at) _ _ (rw none at l.invariant) (ap (λ (n : ℕ). a.at + n) c.min.ensures ∙ end_is ds a.out.now a.at a.places (digits_long a.places a.n) c.if-at-out.false)
