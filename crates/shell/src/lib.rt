@@ -28,6 +28,13 @@ pub struct System {
 #[derive(Clone, Copy, Debug, Drop)]
 pub struct Failure;
 
+// Where a program stands between reads: more is to be read, or nothing more.
+#[derive(Clone, Copy, Drop)]
+pub enum Step<S> {
+    More(S),
+    Over(S),
+}
+
 // Bytes to a stream, all or, where a write fails, a front of them. A write that a signal interrupts has failed.
 fn written<W: Write>(stream: &mut W, bytes: &[u8]) -> Result<(), Error>
     ensures all { OnOk result (Appends (W.contents stream.old) (W.contents stream.new) bytes.now) }
