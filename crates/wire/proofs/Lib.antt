@@ -1,5 +1,6 @@
 -- The laws of the seven formats (Codec), their letters (Letters) and digits (LookUp), the movement that is not held (Faults), the encoder (Accepts), what
 -- follows from the promises (Answers, Refusals, Movements, Wrong), presses (Buttons), and what the functions' proofs share.
+pub mod Numbered
 pub mod Answers
 pub mod Refusals
 pub mod Movements
