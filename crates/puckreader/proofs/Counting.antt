@@ -15,13 +15,12 @@ use Rattle.fold.proofs.Calls.{reports_lawful}
 use Rattle.fold.proofs.Laws as fold
 use Rattle.vsxxx.specs.SelfTests.{is_test}
 use Rattle.vsxxx.specs.Reports.{PuckReport, puck_frame}
-use Rattle.puckreader.specs.State.{kept_in, told}
+use Rattle.puckreader.specs.State.{PuckRead, kept_in, told}
 use Rattle.wire.specs.Numbers.{bad_state}
 use Rattle.puckreader.specs.Good.{good}
 use Rattle.puckreader.specs.Rules.{answered, word_of}
 use Rattle.puckreader.specs.Line.{report_of, handed_out, bytes_reported, reports_in, dropped_in, byte_in, bytes_in, numbers, reads, reads_line}
 use Rattle.puckreader.specs.declared.PuckReader.{PuckReader}
-use Rattle.puckreader.specs.declared.PuckRead.{PuckRead}
 use Rattle.puckreader.specs.declared.PuckAnswer.{PuckAnswer}
 use Rattle.puckreader.specs.declared.PuckAnswer.TheVariants.{Nothing, Movement, Test, Dropped}
 use Rattle.puckreader.proofs.Kept.{Held, none, one, two, three, kept_count, keep_none, keep_one, keep_two, keep_move, keep_test}

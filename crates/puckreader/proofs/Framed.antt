@@ -14,13 +14,12 @@ use Rattle.frames.specs.Frame.{State, has, kept, Move, fit, start, bad, break, a
 use Rattle.frames.specs.Frame as frame
 use Rattle.fold.specs.Fold.{answers_over, state_over}
 use Rattle.vsxxx.specs.Reports.{PuckReport, puck_frame}
-use Rattle.puckreader.specs.State.{kept_in, holding, told}
+use Rattle.puckreader.specs.State.{PuckRead, kept_in, holding, told}
 use Rattle.puckreader.specs.Rules.{word_of}
 use Rattle.puckreader.specs.Good.{good}
 use Rattle.puckreader.specs.Line.{reads}
 use Rattle.puckreader.specs.Runs.{StepsPromise, answers, reader_after}
 use Rattle.puckreader.specs.declared.PuckReader.{PuckReader}
-use Rattle.puckreader.specs.declared.PuckRead.{PuckRead}
 use Rattle.puckreader.proofs.Kept.{Held, held, count_small}
 use Rattle.puckreader.proofs.Word.{word_held, word_good}
 use Rattle.puckreader.proofs.Permitted.{step_is}

@@ -33,7 +33,7 @@ use Rattle.vsxxx.specs.Reports.{PuckReport, movement, self_test, fits_start, fit
 use Rattle.vsxxx.specs.declared.SelfTest.{SelfTest}
 use Rattle.vsxxx.proofs.Bytes as bytes
 use Rattle.vsxxx.proofs.Framed.{puck_marked, held_framed, held_shown}
-use Rattle.puckreader.specs.State.{fresh, kept_in, told}
+use Rattle.puckreader.specs.State.{PuckRead, fresh, kept_in, told}
 use Rattle.puckreader.specs.Rules.{answered, word_of}
 use Rattle.puckreader.specs.Good.{good}
 use Rattle.puckreader.specs.Line.{reads, handed_out}
@@ -41,7 +41,6 @@ use Rattle.puckreader.specs.Promises.{StepPromise, ReadPromise}
 use Rattle.puckreader.specs.Runs.{StepsPromise, answers, reader_after}
 use Rattle.puckreader.specs.HandedOut.{handing, Took}
 use Rattle.puckreader.specs.declared.PuckReader.{PuckReader}
-use Rattle.puckreader.specs.declared.PuckRead.{PuckRead}
 use Rattle.puckreader.specs.declared.PuckReading.{PuckReading}
 use Rattle.puckreader.specs.declared.PuckAnswer.{PuckAnswer}
 use Rattle.puckreader.specs.declared.PuckAnswer.TheVariants.{Nothing, Movement, Test, Dropped}

@@ -16,11 +16,10 @@ use Rattle.wire.specs.Reading as wire
 use Rattle.wire.specs.Numbers.{success, bad_word}
 use Rattle.vsxxx.specs.SelfTests.{test_of, is_test}
 use Rattle.vsxxx.specs.Reports.{PuckReport, fits_start, fits_behind, fits_puck, puck_frame}
-use Rattle.puckreader.specs.State.{reader, kept_in, told}
+use Rattle.puckreader.specs.State.{PuckRead, reader, kept_in, told}
 use Rattle.puckreader.specs.Rules.{refusing, answered, word_of}
 use Rattle.puckreader.specs.Good.{first_of, good}
 use Rattle.puckreader.specs.declared.PuckReader.{PuckReader}
-use Rattle.puckreader.specs.declared.PuckRead.{PuckRead}
 use Rattle.puckreader.specs.declared.PuckAnswer.TheVariants.{Nothing, Movement, Test, Dropped}
 use Rattle.puckreader.proofs.Kept.{Held, none, one, two, three, held, held_good, keep_none, keep_one, keep_two, keep_move, keep_test}
 

@@ -15,12 +15,11 @@ use Rattle.puckreader.specs.Line.{Long}
 use Rattle.wire.specs.Places.{like, fits_first, fits_later}
 use Rattle.vsxxx.specs.SelfTests.{test_of, is_test, is_buttons}
 use Rattle.vsxxx.specs.Reports.{size_from, fits_start, fits_behind}
-use Rattle.puckreader.specs.State.{reader, fresh, numbers_of}
+use Rattle.puckreader.specs.State.{PuckRead, reader, fresh, numbers_of}
 use Rattle.puckreader.specs.Rules.{word_of}
 use Rattle.puckreader.specs.Good.{good}
 use Rattle.puckreader.specs.Promises.{Step, FreshPromise, GoodPromise, StepPromise, ReadPromise, step_of}
 use Rattle.puckreader.specs.declared.PuckReader.{PuckReader}
-use Rattle.puckreader.specs.declared.PuckRead.{PuckRead}
 use Rattle.puckreader.specs.declared.PuckReading.{PuckReading}
 
 -- a fresh reader that has a byte; and one that counts one

@@ -1,8 +1,8 @@
 -- Steps, one after the other: the answers over a list of words.
 use Rattle.std.specs.Prelude.{ℕ, List, [], ◌∷◌, map}
+use Rattle.puckreader.specs.State.{PuckRead}
 use Rattle.puckreader.specs.Promises.{StepPromise}
 use Rattle.puckreader.specs.declared.PuckReader.{PuckReader}
-use Rattle.puckreader.specs.declared.PuckRead.{PuckRead}
 use Rattle.puckreader.specs.declared.PuckAnswer.{PuckAnswer}
 
 -- any steps that the promise permits: each starts with the reader that came back from the one before

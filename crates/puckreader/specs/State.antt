@@ -36,3 +36,9 @@ numbers_of Nothing = []
 numbers_of (Movement r) = six_of (movement r)
 numbers_of (Test t) = six_of (self_test t)
 numbers_of (Dropped k) = pos k ∷ []
+
+-- what a step gives back: a number, the reader, and the answer
+pub record PuckRead : Type 0 where
+  pub refusal : ℕ
+  pub next : PuckReader
+  pub answer : PuckAnswer

@@ -1,11 +1,12 @@
 // The reader of the VSXXX: line words in, movements and self-tests out. Here stand its parts, its words and numbers, and what a user calls.
 #![tactic(auto)]
 
+ghost use Rattle.puckreader.specs.Rules.{read_in};
 ghost use Rattle.puckreader.specs.Promises.{FreshPromise, StepPromise, ReadPromise};
 
-use crate::rules::{holding, refusing};
+use crate::rules::holding;
 use vsxxx::SelfTest;
-use wire::{BAD_STATE, Report};
+use wire::{BAD_STATE, Refusal, Report};
 
 mod good;
 mod line;
@@ -28,10 +29,9 @@ pub enum PuckAnswer {
     Dropped(u8),
 }
 
-// What a step gives back.
+// What a word that is not refused gives: the reader behind it, and the answer.
 #[derive(Clone, Copy, Drop)]
-pub struct PuckRead {
-    pub refusal: u8,
+pub struct PuckStep {
     pub next: PuckReader,
     pub answer: PuckAnswer,
 }
@@ -54,12 +54,12 @@ impl PuckReader {
         holding(0, 0, 0, 0)
     }
 
-    // One word.
-    pub fn step(self, word: u16) -> PuckRead
-        ensures { StepPromise self word result }
+    // One word; a refusal leaves the reader as it was.
+    pub fn step(self, word: u16) -> Result<PuckStep, Refusal>
+        ensures { StepPromise self word (read_in self result) }
     {
         if !self.good() {
-            return refusing(BAD_STATE, self);
+            return Err(Refusal::BadState);
         }
         self.word(word)
     }

@@ -1,5 +1,5 @@
 // Over many words: a line, and the numbers of its reports to a lent slice.
-ghost use Rattle.std.specs.Prelude.{◌≡◌, true, ◌<◌, ◌≤◌, [], ◌∷◌, ◌++◌, cond, leb, pos, length, drop};
+ghost use Rattle.std.specs.Prelude.{◌≡◌, ℕ, true, ◌≤◌, List, [], ◌∷◌, ◌++◌, cond, leb, pos, length, drop};
 ghost use Rattle.vsxxx.specs.Reports.{movement, self_test, six_of};
 ghost use Rattle.fold.specs.Calls.{line};
 ghost use Rattle.puckreader.specs.Line.{whole, reads_line, Begins};
@@ -37,10 +37,7 @@ fn put_movement(out: &mut [i16], r: Report)
 fn kind_of(error: u8) -> i16
     ensures { result ≡ pos (cond (leb 0x20 error) 2 1) }
 {
-    if FATAL <= error {
-        return 2;
-    }
-    1
+    if FATAL <= error { 2 } else { 1 }
 }
 
 // The six numbers of a self-test.
@@ -71,68 +68,64 @@ fn reading(
     ensures { result ≡ record { refusal = refusal; next = next; taken = taken; reports = reports; dropped = dropped } }
 {
     PuckReading {
-        refusal: refusal,
-        next: next,
-        taken: taken,
-        reports: reports,
-        dropped: dropped,
+        refusal,
+        next,
+        taken,
+        reports,
+        dropped,
     }
 }
 
 impl PuckReader {
-    // The first word of a part of the line, and its report to the front of the places that are left.
-    fn first(self, words: &[u16], out: &mut [i16]) -> PuckReading
-        requires { (good self ≡ true) × (0 < length words.now) }
-        ensures { Begins self words.now out.old result out.new }
+    // One word, and its report to the front of the places that are left. Where it is refused or its report has no room, it isn't taken.
+    fn first(self, word: u16, out: &mut [i16]) -> PuckReading
+        requires { good self ≡ true }
+        ensures begins { (words : List ℕ) → Begins self (word ∷ words) out.old result out.new }
+        ensures one { result.taken ≤ 1 }
     {
-        let s = self.word(words[0]);
-        if s.refusal != SUCCESS {
-            return reading(s.refusal, self, 0, 0, 0);
-        }
-        let next = s.next;
-        let answer = s.answer;
-        match answer {
-            PuckAnswer::Nothing => reading(SUCCESS, next, 1, 0, 0),
-            PuckAnswer::Dropped(k) => reading(SUCCESS, next, 1, 0, k as usize),
+        let step = match self.word(word) {
+            Ok(step) => step,
+            Err(refusal) => return reading(refusal.number(), self, 0, 0, 0),
+        };
+        match step.answer {
+            PuckAnswer::Nothing => reading(SUCCESS, step.next, 1, 0, 0),
+            PuckAnswer::Dropped(k) => reading(SUCCESS, step.next, 1, 0, k as usize),
             PuckAnswer::Movement(r) => {
                 if out.len() < 6 {
                     return reading(SUCCESS, self, 0, 0, 0);
                 }
                 put_movement(out, r);
-                reading(SUCCESS, next, 1, 1, 0)
+                reading(SUCCESS, step.next, 1, 1, 0)
             }
             PuckAnswer::Test(t) => {
                 if out.len() < 6 {
                     return reading(SUCCESS, self, 0, 0, 0);
                 }
                 put_test(out, t);
-                reading(SUCCESS, next, 1, 1, 0)
+                reading(SUCCESS, step.next, 1, 1, 0)
             }
         }
     }
 
-    // The words of a line, one by one. What is left of it, from the next word on, is handed over with the reader that came back and the places that are left.
+    // The words of a line, one by one, each with the reader that came back and the places that are left.
     pub(crate) fn line(self, words: &[u16], out: &mut [i16]) -> PuckReading
         requires { good self ≡ true }
         ensures { whole result out.new ≡ line reads_line self words.now out.old }
     {
         let mut r = self;
-        let mut at: usize = 0;
-        let mut used: usize = 0;
-        let mut reports: usize = 0;
-        let mut dropped: usize = 0;
-        while at < words.len() {
-            let t = r.first(&words[at..], &mut out[used..]);
+        let mut used = 0;
+        let mut reports = 0;
+        let mut dropped = 0;
+        for (at, word) in words.iter().enumerate() {
+            let t = r.first(*word, &mut out[used..]);
             if t.taken == 0 {
                 return reading(t.refusal, r, at, reports, dropped);
             }
-            let next = t.next;
-            r = next;
-            at = at + t.taken;
-            used = used + 6 * t.reports;
-            reports = reports + t.reports;
-            dropped = dropped + t.dropped;
+            r = t.next;
+            used += 6 * t.reports;
+            reports += t.reports;
+            dropped += t.dropped;
         }
-        reading(SUCCESS, r, at, reports, dropped)
+        reading(SUCCESS, r, words.len(), reports, dropped)
     }
 }

@@ -5,13 +5,13 @@ ghost use Rattle.frames.specs.Words as words;
 ghost use Rattle.vsxxx.specs.SelfTests.{test_of};
 ghost use Rattle.vsxxx.specs.Reports.{puck_frame, fits_puck};
 ghost use Rattle.puckreader.specs.State.{reader, kept_in, told};
-ghost use Rattle.puckreader.specs.Rules.{refusing, answered, word_of};
+ghost use Rattle.puckreader.specs.Rules.{taken, read_in, answered, word_of};
 ghost use Rattle.puckreader.specs.Good.{good};
 
 use crate::good::{fits_behind, fits_start, is_test};
-use crate::{PuckAnswer, PuckRead, PuckReader};
+use crate::{PuckAnswer, PuckReader, PuckStep};
 use vsxxx::SelfTest;
-use wire::{BAD_WORD, BREAK, FORMAT_S, SILENCE, SUCCESS};
+use wire::{BREAK, FORMAT_S, Refusal, SILENCE};
 
 // A reader with these bytes in its places, of which so many are kept.
 pub(crate) fn holding(count: u8, a: u8, b: u8, c: u8) -> PuckReader
@@ -19,30 +19,15 @@ pub(crate) fn holding(count: u8, a: u8, b: u8, c: u8) -> PuckReader
 {
     PuckReader {
         kept: [a, b, c],
-        count: count,
-    }
-}
-
-// A refusal gives the old reader back, and answers nothing.
-pub(crate) fn refusing(number: u8, reader: PuckReader) -> PuckRead
-    ensures { result ≡ refusing number reader }
-{
-    PuckRead {
-        refusal: number,
-        next: reader,
-        answer: PuckAnswer::Nothing,
+        count,
     }
 }
 
 // What a word that is not refused gives.
-fn answering(next: PuckReader, answer: PuckAnswer) -> PuckRead
-    ensures { result ≡ record { refusal = 0; next = next; answer = answer } }
+fn answering(next: PuckReader, answer: PuckAnswer) -> PuckStep
+    ensures { result ≡ record { next = next; answer = answer } }
 {
-    PuckRead {
-        refusal: SUCCESS,
-        next: next,
-        answer: answer,
-    }
+    PuckStep { next, answer }
 }
 
 // Where none is dropped the answer is nothing.
@@ -84,9 +69,9 @@ impl PuckReader {
     }
 
     // A byte that fits its place is kept; the last gives the report.
-    fn keep(self, byte: u8) -> PuckRead
+    fn keep(self, byte: u8) -> PuckStep
         requires { good self ≡ true }
-        ensures { result ≡ answered (keep puck_frame (kept_in self ++ (byte ∷ []))) }
+        ensures { taken result ≡ answered (keep puck_frame (kept_in self ++ (byte ∷ []))) }
     {
         let kept = self.kept;
         let count = self.count;
@@ -108,33 +93,33 @@ impl PuckReader {
     }
 
     // A first byte starts a report anywhere; the kept bytes are dropped.
-    fn start(self, byte: u8) -> PuckRead
+    fn start(self, byte: u8) -> PuckStep
         requires { good self ≡ true }
-        ensures { result ≡ answered (act puck_frame start (kept_in self) byte) }
+        ensures { taken result ≡ answered (act puck_frame start (kept_in self) byte) }
     {
         answering(holding(1, byte, 0, 0), dropping(self.count))
     }
 
     // A byte that no rule takes is dropped with the kept.
-    fn lose(self, byte: u8) -> PuckRead
+    fn lose(self, byte: u8) -> PuckStep
         requires { good self ≡ true }
-        ensures { result ≡ answered (act puck_frame bad (kept_in self) byte) }
+        ensures { taken result ≡ answered (act puck_frame bad (kept_in self) byte) }
     {
         answering(holding(0, 0, 0, 0), PuckAnswer::Dropped(self.count + 1))
     }
 
     // A break or a silence drops the kept.
-    fn pause(self) -> PuckRead
+    fn pause(self) -> PuckStep
         requires { good self ≡ true }
-        ensures { result ≡ answered (act puck_frame break (kept_in self) words.break) }
+        ensures { taken result ≡ answered (act puck_frame break (kept_in self) words.break) }
     {
         answering(holding(0, 0, 0, 0), dropping(self.count))
     }
 
     // A byte.
-    fn byte(self, byte: u8) -> PuckRead
+    fn byte(self, byte: u8) -> PuckStep
         requires { good self ≡ true }
-        ensures { result ≡ word_of self byte }
+        ensures { taken result ≡ word_of self byte }
     {
         if self.fits(byte) {
             return self.keep(byte);
@@ -146,16 +131,16 @@ impl PuckReader {
     }
 
     // A word: a byte, a break, a silence; any other is refused with 4.
-    pub(crate) fn word(self, word: u16) -> PuckRead
+    pub(crate) fn word(self, word: u16) -> Result<PuckStep, Refusal>
         requires { good self ≡ true }
-        ensures { result ≡ word_of self word }
+        ensures { read_in self result ≡ word_of self word }
     {
         if SILENCE < word {
-            return refusing(BAD_WORD, self);
+            return Err(Refusal::BadWord);
         }
         if BREAK <= word {
-            return self.pause();
+            return Ok(self.pause());
         }
-        self.byte(word as u8)
+        Ok(self.byte(word as u8))
     }
 }

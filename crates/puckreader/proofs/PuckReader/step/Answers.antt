@@ -6,7 +6,7 @@ use Rattle.puckreader.proofs.PuckReader.step.Goals as goal
 
 pub returns-then-not-good : goal.returns-then-not-good
 unfolding step_of
-returns-then-not-good c = ap outcome c.refusing.ensures ∙ rw (sym c.good.ensures ∙ not-true _ c.if-not-good.true-raw)
+returns-then-not-good c = rw (sym c.good.ensures ∙ not-true _ c.if-not-good.true-raw)
 
 pub word-requires : goal.word-requires
 word-requires c = sym c.good.ensures ∙ not-false _ c.if-not-good.false-raw
