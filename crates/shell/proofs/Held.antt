@@ -1,8 +1,8 @@
 -- Bytes that are held between reads: what a read brought stands behind them, and what was not taken of both is held next.
-use Rattle.std.proofs.Common.{◌≡◌, ℕ, zero, suc, ◌+◌, ◌-◌, ◌≤◌, List, [], ◌∷◌, ◌++◌, length, take, drop, sym, ap, ◌∙◌, arith, length-drop, length-take-le, take_at, take-add}
+use Rattle.std.proofs.Common.{◌≡◌, ℕ, zero, suc, ◌+◌, ◌-◌, ◌≤◌, List, [], ◌∷◌, ◌++◌, length, take, drop, sym, ap, ◌∙◌, arith, length-drop, length-take-le, take_at, take-add, Result}
 use lib.Seq.{take-nil}
 use Rattle.shell.specs.Buffer.{Behind, Moved}
-use Rattle.shell.specs.declared.Got.{Got}
+use Rattle.shell.specs.declared.Failure.{Failure}
 
 drop_take : (n m : ℕ) (l : List ℕ) → drop n (take m l) ≡ take (m - n) (drop n l)
 drop_take zero m l = let z : m - 0 ≡ m = omega arith in rw z
@@ -19,6 +19,6 @@ holds all taken input after k there m =
     ap (take (all - taken)) (m.fits (omega arith)) ∙ take_at rest (drop (all - taken) input) (all - taken) long ∙ sym (drop_take taken all input)
 
 -- the bytes that are held, and those that a read brought
-pub both : (name : List ℕ) (held t t' : ℕ) (got : Got) (input after : List ℕ) → held ≤ length input → Behind name held t t' got input after
-    → take (held + got.count) after ≡ take held input ++ take got.count (drop held after)
-both name held t t' got input after there b = take-add held got.count after ∙ ap (λ (l : List ℕ). l ++ take got.count (drop held after)) (b.stays there)
+pub both : (name : List ℕ) (held t t' : ℕ) (got : Result ℕ Failure) (input after : List ℕ) → held ≤ length input → Behind name held t t' got input after
+    → (n : ℕ) → take (held + n) after ≡ take held input ++ take n (drop held after)
+both name held t t' got input after there b n = take-add held n after ∙ ap (λ (l : List ℕ). l ++ take n (drop held after)) (b.stays there)

@@ -1,9 +1,8 @@
 -- How a program goes on: it begins, reads, writes and ends.
 use Rattle.std.proofs.Common.{◌≡◌, ℕ, suc, ◌<◌, Bool, true, false, cond, List, [], ◌++◌, length, take, drop, sym, refl, ap, ◌∙◌, subst, inl, inr, true≢false, append_assoc, append-nil, arith, take-append-drop}
 use lib.Seq.{take-length}
-use Rattle.shell.specs.Outside.{Trace, Over, Complains, Failing, heard_in, Brought, Listened, Handed, Said}
-use Rattle.shell.specs.Standing.{Program, Stands, Closes, Settled, Fronts, Done, Failed, Tells, unread, unwritten, unsaid, Ends, Left, Leaves}
-use Rattle.shell.specs.declared.Got.{Got}
+use Rattle.shell.specs.Outside.{Trace, Over, heard_in, Reads, Misses, Hears, Handed, Said}
+use Rattle.shell.specs.Standing.{Program, Stands, Closes, Settled, Fronts, Done, Failed, unread, unwritten, unsaid, Ends, Left, Leaves}
 
 -- bytes, of which the first so many were handed out
 split : (n : ℕ) (outs bytes left : List ℕ) → outs ++ (bytes ++ left) ≡ (outs ++ take n bytes) ++ (drop n bytes ++ left)
@@ -11,14 +10,6 @@ split n outs bytes left =
     ap (λ (l : List ℕ). outs ++ (l ++ left)) (sym (take-append-drop n bytes))
     ∙ ap (λ (l : List ℕ). outs ++ l) (append_assoc (take n bytes) (drop n bytes) left)
     ∙ sym (append_assoc outs (take n bytes) (drop n bytes ++ left))
-
--- a read brings something only where it went well
-pub brings : (name : List ℕ) (t t' : ℕ) (got : Got) (part : List ℕ) → Brought name t t' got part → 0 < got.count → got.well ≡ true
-brings name t t' got part b k = go got.well refl
-  where
-    go : (w : Bool) → got.well ≡ w → w ≡ true
-    go true e = refl
-    go false e = absurd (omega (arith, k, b.none e))
 
 -- a loop that goes on only where a number falls
 pub falls_off : (on : Bool) (next here : ℕ) → (on ≡ true → next < here) → cond on (suc next) 0 < suc here
@@ -54,26 +45,20 @@ module _ (p : Program) where
       }
 
   -- a read that failed
-  unheard : (t t' : ℕ) (rest told : List ℕ → List ℕ) (s : Stands p t rest told) → Failing p.input t' s.ins s.outs [] → Failed p t'
-  unheard t t' rest told s f =
+  pub misses : (t t' : ℕ) (rest told : List ℕ → List ℕ) → Stands p t rest told → Misses p.input t t' → Failed p t'
+  misses t t' rest told s m =
+      let f = m.fails s.ins s.outs [] s.traced in
       record { ins = s.ins; outs = s.outs; errs = f.more; traced = f.traced; front = inr (rest, s.so); told = unread f.told }
 
   -- a read
-  module _ (t t' : ℕ) (got : Got) (part : List ℕ) (rest told : List ℕ → List ℕ) (s : Stands p t rest told) (b : Brought p.input t t' got part) where
-    pub reads : got.well ≡ true → Stands p t' (λ q. rest (take got.count part ++ q)) (λ q. told (take got.count part ++ q))
-    reads w = further t t' rest told s (take got.count part) (b.reads w s.ins s.outs [] s.traced)
-
-    pub fails_reading : got.well ≡ false → Failed p t'
-    fails_reading w = unheard t t' rest told s (b.fails w s.ins s.outs [] s.traced)
+  pub reads : (t t' n : ℕ) (part : List ℕ) (rest told : List ℕ → List ℕ) → Stands p t rest told → Reads t t' n part
+      → Stands p t' (λ q. rest (take n part ++ q)) (λ q. told (take n part ++ q))
+  reads t t' n part rest told s b = further t t' rest told s (take n part) (b.reads s.ins s.outs [] s.traced)
 
   -- a read of a tty
-  module _ (t t' : ℕ) (got : Got) (part : List ℕ) (rest told : List ℕ → List ℕ) (s : Stands p t rest told) (b : Listened p.input t t' got part) where
-    pub hears : got.well ≡ true → 0 < length part
-        → Stands p t' (λ q. rest (heard_in (take got.count part) ++ q)) (λ q. told (heard_in (take got.count part) ++ q))
-    hears w some = further t t' rest told s (heard_in (take got.count part)) (b.reads w some s.ins s.outs [] s.traced)
-
-    pub fails_hearing : got.well ≡ false → Failed p t'
-    fails_hearing w = unheard t t' rest told s (b.fails w s.ins s.outs [] s.traced)
+  pub hears : (t t' n : ℕ) (part : List ℕ) (rest told : List ℕ → List ℕ) → Stands p t rest told → Hears t t' n part → 0 < length part
+      → Stands p t' (λ q. rest (heard_in (take n part) ++ q)) (λ q. told (heard_in (take n part) ++ q))
+  hears t t' n part rest told s b some = further t t' rest told s (heard_in (take n part)) (b.reads some s.ins s.outs [] s.traced)
 
   -- a write of what is to be written next
   module _ (t t' : ℕ) (well : Bool) (bytes : List ℕ) (rest later told : List ℕ → List ℕ) (s : Stands p t rest told) (e : (q : List ℕ) → rest q ≡ bytes ++ later q)

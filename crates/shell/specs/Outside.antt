@@ -1,7 +1,8 @@
 -- What has passed between a program and the system. std's read and write say how many bytes they moved and not which, so it is said here,
 -- and believed: `Trace` and `Over` are opened by the proofs of this crate's own functions and by no other.
-use Rattle.std.specs.Prelude.{◌≡◌, ℕ, ◌<◌, Bool, true, false, List, [], ◌∷◌, ◌++◌, length, take}
-use Rattle.shell.specs.declared.Got.{Got}
+use Rattle.std.specs.Prelude.{◌≡◌, ℕ, ◌<◌, Bool, true, false, List, [], ◌∷◌, ◌++◌, length, take, Result, Ok, Err}
+use Rattle.shell.specs.declared.Failure.{Failure}
+use Rattle.shell.specs.declared.System.{System}
 
 -- at a moment these bytes had been read from standard input, and these handed to standard output, and these to standard error
 unfoldable pub Trace : ℕ → List ℕ → List ℕ → List ℕ → Type 0
@@ -27,12 +28,19 @@ pub record Failing (name : List ℕ) (t : ℕ) (ins outs errs : List ℕ) : Type
   pub told : Complains name more
   pub traced : Trace t ins outs (errs ++ more)
 
--- A READ: what it brought stands behind what was read before. Where it went well and brought nothing, though there was room, the input is over.
-pub record Brought (name : List ℕ) (t t' : ℕ) (got : Got) (part : List ℕ) : Type 0 where
-  pub reads : got.well ≡ true → (ins outs errs : List ℕ) → Trace t ins outs errs → Trace t' (ins ++ take got.count part) outs errs
-  pub over : got.well ≡ true → 0 < length part → got.count ≡ 0 → Over t'
-  pub none : got.well ≡ false → got.count ≡ 0
-  pub fails : got.well ≡ false → (ins outs errs : List ℕ) → Trace t ins outs errs → Failing name t' ins outs errs
+-- A READ that went well: what it brought stands behind what was read before. Where it brought nothing, though there was room, the input is over.
+pub record Reads (t t' count : ℕ) (part : List ℕ) : Type 0 where
+  pub reads : (ins outs errs : List ℕ) → Trace t ins outs errs → Trace t' (ins ++ take count part) outs errs
+  pub over : 0 < length part → count ≡ 0 → Over t'
+
+-- a read that failed: nothing more stands behind what was read, and standard error tells why
+pub record Misses (name : List ℕ) (t t' : ℕ) : Type 0 where
+  pub fails : (ins outs errs : List ℕ) → Trace t ins outs errs → Failing name t' ins outs errs
+
+-- A READ
+abbrev pub Brought : List ℕ → ℕ → ℕ → Result ℕ Failure → List ℕ → Type 0
+Brought name t t' (Ok count) part = Reads t t' count part
+Brought name t t' (Err e) part = Misses name t t'
 
 -- A WAIT: the system, asked, said that nothing came. It stands among what was read of a tty, and is no byte.
 abbrev pub wait : ℕ
@@ -44,11 +52,12 @@ heard_in [] = wait ∷ []
 heard_in (b ∷ bytes) = b ∷ bytes
 
 -- A READ OF A TTY that answers an empty read after a tenth of a second: what it told stands behind what was read before.
-pub record Listened (name : List ℕ) (t t' : ℕ) (got : Got) (part : List ℕ) : Type 0 where
-  pub reads : got.well ≡ true → 0 < length part → (ins outs errs : List ℕ) → Trace t ins outs errs
-      → Trace t' (ins ++ heard_in (take got.count part)) outs errs
-  pub none : got.well ≡ false → got.count ≡ 0
-  pub fails : got.well ≡ false → (ins outs errs : List ℕ) → Trace t ins outs errs → Failing name t' ins outs errs
+pub record Hears (t t' count : ℕ) (part : List ℕ) : Type 0 where
+  pub reads : 0 < length part → (ins outs errs : List ℕ) → Trace t ins outs errs → Trace t' (ins ++ heard_in (take count part)) outs errs
+
+abbrev pub Listened : List ℕ → ℕ → ℕ → Result ℕ Failure → List ℕ → Type 0
+Listened name t t' (Ok count) part = Hears t t' count part
+Listened name t t' (Err e) part = Misses name t t'
 
 -- A WRITE: the bytes stand behind what was handed out before, or a front of them where it failed.
 pub record Handed (name : List ℕ) (t t' : ℕ) (well : Bool) (bytes : List ℕ) : Type 0 where
@@ -61,3 +70,7 @@ pub record Said (t t' : ℕ) (well : Bool) (bytes : List ℕ) : Type 0 where
   pub says : well ≡ true → (ins outs errs : List ℕ) → Trace t ins outs errs → Trace t' ins outs (errs ++ bytes)
   pub fails : well ≡ false → (ins outs errs : List ℕ) → Trace t ins outs errs → (n : ℕ) × Trace t' ins outs (errs ++ take n bytes)
   pub still : Over t → Over t'
+
+-- the streams are the same, whatever the moment
+abbrev pub IsSameSystem : System → System → Type 0
+IsSameSystem old new = (new.input ≡ old.input) × (new.output ≡ old.output) × (new.errors ≡ old.errors)
