@@ -37,10 +37,8 @@ fn words(text: Text, bytes: &[u8]) -> Text
     ensures { result ≡ grown_by text bytes.now }
 {
     let mut r = text;
-    let mut i: usize = 0;
-    while i < bytes.len() {
-        r = r.with(bytes[i]);
-        i = i + 1;
+    for b in bytes {
+        r = r.with(*b);
     }
     r
 }
@@ -57,10 +55,8 @@ fn empty(row: Text, count: usize) -> Text
     ensures { result ≡ grown_by row (commas count) }
 {
     let mut r = row;
-    let mut i: usize = 0;
-    while i < count {
+    for k in 0..count {
         r = r.with(b',');
-        i = i + 1;
     }
     r
 }
@@ -161,9 +157,8 @@ fn rows(items: &[i32], count: usize, out: &mut [u8], at: usize) -> usize
     ensures { (is : List Item) → Among count items.now is → Written out.old at (rows_of is) out.new result }
 {
     let mut to = at;
-    let mut from: usize = 0;
-    let mut i: usize = 0;
-    while i < count {
+    for i in 0..count {
+        let from = 5 * i;
         let line = row(
             items[from],
             items[from + 1],
@@ -173,9 +168,7 @@ fn rows(items: &[i32], count: usize, out: &mut [u8], at: usize) -> usize
         )
         .with(b'\n');
         line.put(out, to);
-        to = to + line.len;
-        from = from + 5;
-        i = i + 1;
+        to += line.len;
     }
     to
 }

@@ -1,13 +1,11 @@
 use borrow.Author.Rules.{rules}
 use native.Mathlib.Omega.{arith}
-use Prim.Native.Nat.{suc, ◌≤◌}
 use mathlib.Core.Path.{◌≡◌, refl, ◌∙◌}
-use mathlib.Core.Bool.{cond, true≢false}
-use lib.ListN.{length, take}
+use mathlib.Core.Bool.{true≢false}
+use lib.ListN.{length}
 use Rattle.shell.proofs.Laws as standing
 use Rattle.readback.specs.Held.{to_go}
 use Rattle.mtable.specs.Program.{mtable}
-use Rattle.mtable.specs.Blocks.{Left}
 use Rattle.mtable.proofs.Turns.{ready_fresh}
 use Rattle.mtable.proofs.blocks.Goals as goal
 

@@ -1,15 +1,10 @@
 -- Block after block.
-use borrow.Author.Rules.{rules}
-use native.Mathlib.Omega.{arith}
 use Prim.Native.Nat.{suc, ◌≤◌}
-use mathlib.Core.Path.{◌≡◌, refl, ◌∙◌}
-use mathlib.Core.Bool.{cond, true≢false}
+use mathlib.Core.Path.{◌≡◌}
+use mathlib.Core.Bool.{cond}
 use lib.ListN.{length, take}
-use Rattle.shell.proofs.Laws as standing
 use Rattle.readback.specs.Held.{to_go}
-use Rattle.mtable.specs.Program.{mtable}
 use Rattle.mtable.specs.Blocks.{Left}
-use Rattle.mtable.proofs.Turns.{ready_fresh}
 use Rattle.mtable.proofs.blocks.Given as goal
 
 abbrev pub invariant-loop-went : goal.invariant-loop-went

@@ -1,5 +1,4 @@
 -- So many bytes are there.
-use borrow.Author.Rules.{rules}
 use mathlib.Core.Path.{sym}
 use lib.Seq.{length-take-le}
 use Rattle.mtable.proofs.front.Goals as goal

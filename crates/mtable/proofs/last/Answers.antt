@@ -1,5 +1,4 @@
 -- A fault, an end that is missing, or the end.
-use borrow.Author.Rules.{rules}
 use mathlib.Core.Path.{subst}
 use Prim.Native.Nat.{ℕ}
 use Rattle.shell.specs.Standing.{Closes}

@@ -1,9 +1,8 @@
 -- So many bytes are there.
 use borrow.Author.Rules.{rules}
 use native.Mathlib.Omega.{arith}
-use mathlib.Core.Path.{◌≡◌, sym}
+use mathlib.Core.Path.{◌≡◌}
 use lib.ListN.{length}
-use lib.Seq.{length-take-le}
 use Rattle.mtable.proofs.show.Goals as goal
 
 pub slice_bounds-bytes-end : goal.slice_bounds-bytes-end

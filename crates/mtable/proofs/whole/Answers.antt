@@ -1,5 +1,4 @@
 -- The head line, and all behind it, or what stood where something failed.
-use borrow.Author.Rules.{rules}
 use borrow.Author.Tests.{not-true, not-false}
 use Rattle.shell.proofs.Laws as standing
 use Rattle.mtable.specs.Program.{mtable}
