@@ -15,11 +15,10 @@ mod signed;
 mod table;
 
 use encoder::by_letter;
+pub use encoder::length_in;
 use line::format_of;
 use reading::{report, report_in};
-
-pub use encoder::length_in;
-pub use refusal::{number_in, Refusal};
+pub use refusal::{Refusal, number_in};
 
 // The words on the line that are no bytes: "256 a break or a byte that arrived damaged, 257 a silence of one character time".
 pub const BREAK: u16 = 256;
