@@ -72,7 +72,7 @@ pub enum Format {
     Hexadecimal,
 }
 
-// The movements that a format holds, from low to high.
+// The movements that a format holds, from low to high. A RangeInclusive is no plainer: it is not Copy, and the ballbox takes the two ends by name.
 #[derive(Clone, Copy, Debug, PartialEq, Eq, Drop)]
 pub struct Range {
     pub low: i16,
