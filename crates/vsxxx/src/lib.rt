@@ -4,7 +4,7 @@
 
 // What a self-test report says: the firmware's revision, the maker's location, the device's code, the error, 0 for none, and the buttons, as 4L+2M+R.
 #[repr(C)]
-#[derive(Clone, Copy, Drop)]
+#[derive(Clone, Copy, Debug, PartialEq, Eq, Drop)]
 pub struct SelfTest {
     pub revision: u8,
     pub maker: u8,

@@ -15,11 +15,10 @@ mod signed;
 mod table;
 
 use encoder::by_letter;
+pub use encoder::length_in;
 use line::format_of;
 use reading::{report, report_in};
-
-pub use encoder::length_in;
-pub use refusal::{number_in, Refusal};
+pub use refusal::{Refusal, number_in};
 
 // The words on the line that are no bytes: "256 a break or a byte that arrived damaged, 257 a silence of one character time".
 pub const BREAK: u16 = 256;
@@ -73,7 +72,7 @@ pub enum Format {
     Hexadecimal,
 }
 
-// The movements that a format holds, from low to high.
+// The movements that a format holds, from low to high. A RangeInclusive is no plainer: it is not Copy, and the ballbox takes the two ends by name.
 #[derive(Clone, Copy, Debug, PartialEq, Eq, Drop)]
 pub struct Range {
     pub low: i16,

@@ -2,9 +2,9 @@
 ghost use Rattle.std.specs.Prelude.{◌≡◌};
 ghost use Rattle.wire.specs.Places.{fits_first, fits_later, fits_at};
 
+use crate::Format;
 use crate::digits::is_digit;
 use crate::parity::is_even;
-use crate::Format;
 
 impl Format {
     #[inline(always)]
@@ -40,6 +40,10 @@ impl Format {
     pub(crate) fn fits_at(self, place: u8, b: u8) -> bool
         ensures { result ≡ fits_at self place b }
     {
-        if place == 0 { self.fits_first(b) } else { self.fits_later(b) }
+        if place == 0 {
+            self.fits_first(b)
+        } else {
+            self.fits_later(b)
+        }
     }
 }

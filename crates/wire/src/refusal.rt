@@ -3,7 +3,7 @@ ghost use Rattle.std.specs.Prelude.{◌≡◌};
 ghost use Rattle.wire.specs.Refusals.{refusal_for, NumberPromise};
 ghost use Rattle.wire.specs.Promises.{RefusalPromise};
 
-use crate::{Movement, BAD_LETTER, BAD_STATE, BAD_WORD, SUCCESS};
+use crate::{BAD_LETTER, BAD_STATE, BAD_WORD, Movement, SUCCESS};
 
 // The reasons that several crates give, in the order of their numbers.
 #[derive(Clone, Copy, Debug, PartialEq, Eq, Drop)]

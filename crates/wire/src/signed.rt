@@ -20,7 +20,11 @@ pub(crate) fn wrapped(v: i16, half: u16) -> u16
     ensures { result ≡ twos half v }
 {
     let magnitude = v.unsigned_abs();
-    if v < 0 { half + half - magnitude } else { magnitude }
+    if v < 0 {
+        half + half - magnitude
+    } else {
+        magnitude
+    }
 }
 
 // The movement that a number below 2 * half stands for: half more and half less, which turns the highest of its bits over.

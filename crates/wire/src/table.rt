@@ -83,23 +83,24 @@ pub(crate) fn bytes_of(f: Format, r: Report) -> [u8; 5]
     requires { accepted f r ≡ true }
     ensures { result ≡ five (bytes_of f r) }
 {
-    let b = r.buttons;
-    let x = r.x1;
-    let y = r.y1;
+    let Report {
+        buttons: b,
+        x1: x,
+        y1: y,
+        x2,
+        y2,
+    } = r;
     match f {
         Format::Mm => rows_s(b, x, y),
-        Format::Microsoft => {
-            let south = -y;
-            rows_v(b, wrapped_byte(x), wrapped_byte(south))
-        }
+        Format::Microsoft => rows_v(b, wrapped_byte(x), wrapped_byte(-y)),
         Format::Absolute => rows_a(r, x.unsigned_abs(), y.unsigned_abs()),
         Format::Relative => rows_a(r, wrapped(x, 2048), wrapped(y, 2048)),
         Format::FiveByte => [
             128 + (7 - b),
             wrapped_byte(x),
             wrapped_byte(y),
-            wrapped_byte(r.x2),
-            wrapped_byte(r.y2),
+            wrapped_byte(x2),
+            wrapped_byte(y2),
         ],
         Format::ThreeByte => [b, wrapped_byte(x), wrapped_byte(y), 0, 0],
         Format::Hexadecimal => rows_w(b, wrapped_byte(x), wrapped_byte(y)),

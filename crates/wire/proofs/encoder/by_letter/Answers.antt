@@ -4,9 +4,8 @@ use borrow.Author.Tests.{lt-leb, le-leb}
 use mathlib.Core.Path.{◌≡◌, sym, ◌∙◌, ap}
 use mathlib.Core.Bool.{not, cond}
 use mathlib.Core.List.{List}
-use Rattle.std.proofs.Common.{Option, Some, None, Err}
+use Rattle.std.proofs.Common.{Option, Some, Err}
 use Rattle.wire.specs.Line.{named_by}
-use Rattle.wire.specs.Refusals.{refusal_for}
 use Rattle.wire.specs.Encoder.{outcome, refused, writing, unheld_number, encode_in, encode_of}
 use Rattle.wire.specs.Holds.{is_none, unheld, holds, accepted}
 use Rattle.wire.specs.declared.Report.{Report}

@@ -11,6 +11,12 @@ use Rattle.wire.proofs.holds.unheld.Goals as goal
 test : {t b : Bool} {range its : Range} {v w : ℤ} → t ≡ within range w → range ≡ its → w ≡ v → t ≡ b → within its v ≡ b
 test tested is same t = sym (ap₂ within is same) ∙ sym tested ∙ t
 
+pub returns-then-not-has : goal.returns-then-not-has
+returns-then-not-has c =
+    let r = c.args.report in
+    let x : within (x_range c.args.f) r.x1 ≡ false = test c.has.ensures c.x_range.ensures (search rules) c.if-not-has.true in
+    simp x
+
 pub returns-then-not-has-2 : goal.returns-then-not-has-2
 returns-then-not-has-2 c =
     let r = c.args.report in

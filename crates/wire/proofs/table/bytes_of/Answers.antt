@@ -8,7 +8,7 @@ use mir.Syntax.{w16}
 use mir.Val.{to_z, of_z}
 use native.Mathlib.Omega.{arith}
 use Rattle.numbers.proofs.Machine.{near_neg, minus_fits, minus_kept}
-use Rattle.numbers.proofs.Twos.{within_near, mag_magnitude, twos_below}
+use Rattle.numbers.proofs.Twos.{within_near, twos_below}
 use Rattle.wire.proofs.Codec.Accepted.{Parts, parts}
 use Rattle.wire.proofs.Codec.Ranges.{at_most, magnitude, south}
 use Rattle.wire.proofs.Sums.{sum_u, sum_t}
@@ -29,8 +29,8 @@ rows_s-requires c =
     let y_is : to_z w16 (of_z w16 c.args.r.y1) ≡ c.args.r.y1 = search rules in
     let p = kept Mm c.requires c.in-Mm.is in (omega arith, rw x_is (magnitude 126 c.args.r.x1 p.moved.x), rw y_is (magnitude 126 c.args.r.y1 p.moved.y))
 
-pub overflow_sub-south : goal.overflow_sub-south
-overflow_sub-south c =
+pub overflow_sub-y : goal.overflow_sub-y
+overflow_sub-y c =
     let y_is : to_z w16 (of_z w16 c.args.r.y1) ≡ c.args.r.y1 = search rules in
     let p = kept Microsoft c.requires c.in-Microsoft.is in rw y_is (minus_fits w16 c.args.r.y1 (omega (arith, near_neg c.args.r.y1, south 126 c.args.r.y1 p.moved.y)))
 
