@@ -15,6 +15,10 @@ use Rattle.wire.specs.Line.{named_by, of_named, known, size_by, marked_of, marke
 use Rattle.wire.specs.declared.Format.TheVariants.{Mm, Microsoft, Absolute, Relative}
 use Rattle.wire.specs.declared.Named.{Named}
 use Rattle.wire.specs.declared.Named.TheVariants.{Known, Unknown}
+use Rattle.wire.specs.declared.refusal.Refusal.{Refusal}
+use Rattle.wire.specs.declared.refusal.Refusal.TheVariants.{NoSuchLetter, ButtonsAboveSeven, BadWord, BufferTooShort, BadState, FaultyLine, FirstXNotHeld}
+use Rattle.wire.specs.declared.refusal.Refusal.TheVariants.{FirstYNotHeld, SecondXNotHeld, SecondYNotHeld, NoReply, MarkedFormat, TooManyWords, NumberTooWide}
+use Rattle.wire.specs.Refusals.{number_of}
 use Rattle.wire.specs.Numbers.{success, bad_letter, bad_word, accepted, refusal}
 use Rattle.salvage.specs.Picking.{most_words, marked_format, long_log, refusal_of, whole, refused, picking, pick_of}
 use Rattle.salvage.specs.Promises.{PickPromise, PickRefusal}
@@ -62,6 +66,23 @@ module _ (letter : ℕ) (words : List ℕ) where
       go true p false q true r w s e = absurd (omega arith)
       go true p false q false r false s e = absurd (omega arith)
       go true p false q false r true s e = record { is_known = p; unmarked = q; few = ltb-false most_words (length words) r; line = s }
+
+-- a refusal is no success
+pub some_number : (r : Refusal) → eqb (number_of r) success ≡ false
+some_number NoSuchLetter = refl
+some_number ButtonsAboveSeven = refl
+some_number BadWord = refl
+some_number BufferTooShort = refl
+some_number BadState = refl
+some_number FaultyLine = refl
+some_number FirstXNotHeld = refl
+some_number FirstYNotHeld = refl
+some_number SecondXNotHeld = refl
+some_number SecondYNotHeld = refl
+some_number NoReply = refl
+some_number MarkedFormat = refl
+some_number TooManyWords = refl
+some_number NumberTooWide = refl
 
 -- the letters of the unmarked formats with their sizes, and that there are no others
 pub sizes : (size_by 0x55 ≡ 5) × (size_by 0x54 ≡ 3) × (size_by 0x57 ≡ 5)

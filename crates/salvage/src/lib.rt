@@ -4,15 +4,16 @@
 ghost use Rattle.std.specs.Prelude.{◌≡◌, cond, ◌<◌, ◌≤◌, length};
 ghost use Rattle.frames.specs.Words.{is_byte, line_words};
 ghost use Rattle.wire.specs.Line.{size_by};
+ghost use Rattle.wire.specs.Refusals.{number_in};
 ghost use Rattle.salvage.specs.Picking.{starts_by, fits_word, refusal_of, whole, picking};
 ghost use Rattle.salvage.specs.Promises.{StartsPromise, PickPromise};
 
-use wire::SILENCE;
+use wire::{Refusal, SILENCE};
 
 // The most words of a log.
 pub const MOST: usize = 4096;
 
-// What is told of the runs picked: 0 or a refusal; the words taken; the runs; and the bytes left out of the words taken.
+// What is told of the runs picked: the number of the refusal, 0 for success; the words taken; the runs; and the bytes left out of the words taken.
 #[repr(C)]
 #[derive(Clone, Copy, Drop)]
 pub struct Picked {
@@ -26,10 +27,10 @@ fn told(refusal: u8, taken: usize, runs: usize, left: usize) -> Picked
     ensures { result ≡ record { refusal = refusal; taken = taken; runs = runs; left = left } }
 {
     Picked {
-        refusal: refusal,
-        taken: taken,
-        runs: runs,
-        left: left,
+        refusal,
+        taken,
+        runs,
+        left,
     }
 }
 
@@ -44,18 +45,14 @@ fn is_byte(word: u16) -> bool
 fn fits_word(letter: u8, place: u8, word: u16) -> bool
     ensures { result ≡ fits_word letter place word }
 {
-    if is_byte(word) {
-        wire::fits(letter, place, word as u8)
-    } else {
-        false
-    }
+    is_byte(word) && wire::fits(letter, place, word as u8)
 }
 
 // 1 for a byte, 0 for a 256 or 257.
 fn byte(word: u16) -> usize
     ensures { result ≡ cond (is_byte word) 1 0 }
 {
-    if is_byte(word) { 1 } else { 0 }
+    usize::from(is_byte(word))
 }
 
 // Whether a run starts with the first of these words, by letter and size.
@@ -66,12 +63,10 @@ fn run_starts(letter: u8, size: usize, words: &[u16]) -> bool
     if words.len() < size {
         return false;
     }
-    let mut i: usize = 0;
-    while i < size {
-        if !fits_word(letter, i as u8, words[i]) {
+    for (place, word) in words[..size].iter().enumerate() {
+        if !fits_word(letter, place as u8, *word) {
             return false;
         }
-        i = i + 1;
     }
     true
 }
@@ -81,63 +76,60 @@ pub fn starts(letter: u8, words: &[u16]) -> bool
     ensures { StartsPromise letter words.now result }
 {
     let size = wire::size(letter);
-    if size == 0 {
-        return false;
-    }
-    run_starts(letter, size, words)
+    size != 0 && run_starts(letter, size, words)
 }
 
-// Whether none of the words is above 257.
+// Whether none of the words is above 257. None is a reason to stop early, so that many are compared at a time.
 fn line_words(words: &[u16]) -> bool
     ensures { result ≡ line_words words.now }
 {
     let mut ok = true;
-    let mut i: usize = 0;
-    while i < words.len() {
-        ok = ok & (words[i] <= SILENCE);
-        i = i + 1;
+    for word in words {
+        ok &= *word <= SILENCE;
     }
     ok
 }
 
-// Why a log is refused, or 0.
-fn refusal(letter: u8, words: &[u16]) -> u8
-    ensures { result ≡ refusal_of letter words.now }
+// Whether runs may be picked from a log, or why it is refused.
+#[tactic(auto, unfolding(crate::specs::Picking::refusal_of))]
+fn admitted(letter: u8, words: &[u16]) -> Result<(), Refusal>
+    ensures { number_in result ≡ refusal_of letter words.now }
 {
     if !wire::known(letter) {
-        return 1;
+        return Err(Refusal::NoSuchLetter);
     }
     if wire::marked(letter) {
-        return 13;
+        return Err(Refusal::MarkedFormat);
     }
     if words.len() > MOST {
-        return 14;
+        return Err(Refusal::TooManyWords);
     }
     if !line_words(words) {
-        return 4;
+        return Err(Refusal::BadWord);
     }
-    0
+    Ok(())
 }
 
-// From left to right, each run that starts where none before it reaches, as long as there is a place for it.
+// From left to right, each run that starts where none before it reaches, as long as there is a place for it. A step is a
+// run or a word, which no `for` takes.
 fn pick_runs(letter: u8, size: usize, words: &[u16], places: &mut [u16]) -> Picked
     requires { (size ≡ size_by letter) × (0 < size) × (length words.now ≤ 4096) }
     ensures { whole result places.new ≡ picking letter words.now places.old }
 {
-    let mut at: usize = 0;
-    let mut runs: usize = 0;
-    let mut left: usize = 0;
+    let mut at = 0;
+    let mut runs = 0;
+    let mut left = 0;
     while at < words.len() {
         if run_starts(letter, size, &words[at..]) {
             if runs >= places.len() {
                 return told(0, at, runs, left);
             }
             places[runs] = at as u16;
-            runs = runs + 1;
-            at = at + size;
+            runs += 1;
+            at += size;
         } else {
-            left = left + byte(words[at]);
-            at = at + 1;
+            left += byte(words[at]);
+            at += 1;
         }
     }
     told(0, at, runs, left)
@@ -148,14 +140,13 @@ fn pick_runs(letter: u8, size: usize, words: &[u16], places: &mut [u16]) -> Pick
 pub fn pick(letter: u8, words: &[u16], places: &mut [u16]) -> Picked
     ensures { PickPromise letter words.now places.old result places.new }
 {
-    let refusal = refusal(letter, words);
-    if refusal != 0 {
-        return told(refusal, 0, 0, 0);
+    if let Err(refusal) = admitted(letter, words) {
+        return told(refusal.number(), 0, 0, 0);
     }
     match letter {
         b'U' => pick_runs(b'U', 5, words, places),
         b'T' => pick_runs(b'T', 3, words, places),
         b'W' => pick_runs(b'W', 5, words, places),
-        _ => told(1, 0, 0, 0),
+        _ => told(Refusal::NoSuchLetter.number(), 0, 0, 0),
     }
 }

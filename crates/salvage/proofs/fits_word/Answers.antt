@@ -14,4 +14,4 @@ returns-then-is_byte c = rw (sym c.is_byte.ensures ∙ c.if-is_byte.true) c.fits
 
 pub returns-else-is_byte : goal.returns-else-is_byte
 unfolding fits_word
-returns-else-is_byte c = rw (sym c.is_byte.ensures ∙ c.if-is_byte.false)
+returns-else-is_byte c = rw (sym c.if-is_byte.ensures) c.if-is_byte.false
