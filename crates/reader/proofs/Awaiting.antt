@@ -14,7 +14,7 @@ use Rattle.fold.proofs.Laws.{by_words}
 use Rattle.frames.specs.Words.{silence}
 use Rattle.wire.specs.Line.{letter_of, named_by, marked_by, known}
 use Rattle.wire.specs.declared.Format.TheVariants.{FiveByte}
-use Rattle.reader.specs.State.{fresh}
+use Rattle.reader.specs.State.{fresh, NewReader, Read}
 use Rattle.reader.specs.Good.{good}
 use Rattle.reader.specs.Rules.{word_of}
 use Rattle.reader.specs.Line.{Long, reads}
@@ -22,8 +22,6 @@ use Rattle.reader.specs.Counts.{reports_in, handed_out}
 use Rattle.reader.specs.Promises.{FreshPromise, ReadPromise, fresh_of}
 use Rattle.reader.specs.Runs.{steps_of, StepsPromise, answers, has_silence}
 use Rattle.reader.specs.declared.Reader.{Reader}
-use Rattle.reader.specs.declared.NewReader.{NewReader}
-use Rattle.reader.specs.declared.Read.{Read}
 use Rattle.reader.specs.declared.Reading.{Reading}
 use Rattle.numbers.proofs.Choices.{neither}
 use Rattle.numbers.proofs.Tested.{holds}

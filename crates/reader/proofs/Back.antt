@@ -26,13 +26,12 @@ use Rattle.wire.specs.declared.Encoded.{Encoded}
 use Rattle.wire.proofs.Accepts.{accepts}
 use Rattle.wire.proofs.Letters.{size_named}
 use Rattle.wire.proofs.Codec as codec
-use Rattle.reader.specs.State.{kept_in}
+use Rattle.reader.specs.State.{kept_in, Read}
 use Rattle.reader.specs.Good.{placed, good}
 use Rattle.reader.specs.Rules.{entered, dropping, more, word_of}
 use Rattle.reader.specs.Counts.{reports_in}
 use Rattle.reader.specs.Promises.{StepPromise}
 use Rattle.reader.specs.declared.Reader.{Reader}
-use Rattle.reader.specs.declared.Read.{Read}
 use Rattle.reader.specs.declared.Answer.{Answer}
 use Rattle.reader.specs.declared.Answer.TheVariants as answer
 use Rattle.reader.proofs.Framed.{report_like}

@@ -22,7 +22,7 @@ use Rattle.reader.specs.Line.{reading, reads, reads_line}
 use Rattle.reader.specs.Counts.{byte_in, bytes_in, reports_in, dropped_in}
 use Rattle.reader.specs.Promises.{StepPromise, ReadPromise, step_of}
 use Rattle.reader.specs.declared.Reader.{Reader}
-use Rattle.reader.specs.declared.Read.{Read}
+use Rattle.reader.specs.State.{Read}
 use Rattle.reader.specs.declared.Reading.{Reading}
 use Rattle.reader.specs.declared.Answer.{Answer}
 use Rattle.reader.specs.declared.Answer.TheVariants.{Nothing, Report, Dropped}

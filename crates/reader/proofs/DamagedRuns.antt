@@ -17,13 +17,11 @@ use Rattle.wire.specs.declared.Report.{Report}
 use Rattle.wire.specs.declared.Format.{Format}
 use Rattle.wire.specs.declared.Format.TheVariants.{Mm, FiveByte, ThreeByte}
 use Rattle.frames.specs.Passages.{silent, finished, broken, nothing, first, Unbroken, Sub, none, gone, stays, of_finished, of_broken, of_going}
-use Rattle.reader.specs.State.{fresh}
+use Rattle.reader.specs.State.{fresh, NewReader, Read}
 use Rattle.reader.specs.Counts.{handed_out}
 use Rattle.reader.specs.Promises.{FreshPromise, ReadPromise, fresh_of}
 use Rattle.reader.specs.Runs.{steps_of, StepsPromise, answers}
 use Rattle.reader.specs.declared.Reader.{Reader}
-use Rattle.reader.specs.declared.NewReader.{NewReader}
-use Rattle.reader.specs.declared.Read.{Read}
 use Rattle.reader.specs.declared.Reading.{Reading}
 use Rattle.reader.specs.declared.Answer.{Answer}
 use Rattle.reader.specs.declared.Answer.TheVariants.{Nothing, Dropped}

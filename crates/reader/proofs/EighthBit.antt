@@ -29,7 +29,7 @@ use Rattle.reader.specs.Promises.{ReadPromise, step_of, read_of}
 use Rattle.reader.specs.Runs.{steps_of, StepsPromise}
 use Rattle.reader.specs.EighthBit.{turned, seven_bits, TurnedOver, none, stays, turns}
 use Rattle.reader.specs.declared.Reader.{Reader}
-use Rattle.reader.specs.declared.Read.{Read}
+use Rattle.reader.specs.State.{Read}
 use Rattle.reader.specs.declared.Reading.{Reading}
 use Rattle.reader.proofs.Entered.{enters_in_v, seven_bits_lem}
 use Rattle.reader.proofs.Framed.{frame_of}

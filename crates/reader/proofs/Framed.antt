@@ -24,7 +24,7 @@ use Rattle.wire.proofs.Front.{same_front, size_between}
 use Rattle.wire.proofs.Codec.{fits_byte, mark}
 use Rattle.frames.specs.Frame.{Frame, Laws, Marked, State, has, waits, move_of, fresh, complete, keep, step}
 use Rattle.frames.specs.Frame as frame
-use Rattle.reader.specs.State.{kept_in}
+use Rattle.reader.specs.State.{kept_in, NewReader, Read}
 use Rattle.reader.specs.State as reader
 use Rattle.reader.specs.Good.{good}
 use Rattle.reader.specs.Rules.{entered, dropping, fitting, more, starting, byte_of, break_of, silence_of, word_of}
@@ -32,8 +32,6 @@ use Rattle.reader.specs.Rules as rules
 use Rattle.reader.specs.Promises.{FreshPromise, step_of, fresh_of}
 use Rattle.reader.specs.Runs.{steps_of, StepsPromise, answers}
 use Rattle.reader.specs.declared.Reader.{Reader}
-use Rattle.reader.specs.declared.NewReader.{NewReader}
-use Rattle.reader.specs.declared.Read.{Read}
 use Rattle.reader.specs.declared.Answer.{Answer}
 use Rattle.reader.specs.declared.Answer.TheVariants as answer
 use Rattle.reader.proofs.Entered.{byte_enters, entered_word, entered_all}

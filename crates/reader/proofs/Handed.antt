@@ -19,13 +19,11 @@ use Rattle.frames.specs.Frame as frame
 use Rattle.frames.proofs.Words.{passing}
 use Rattle.frames.proofs.Reading.{on}
 use Rattle.frames.proofs.Replaced as replaced
-use Rattle.reader.specs.State.{five_of}
+use Rattle.reader.specs.State.{five_of, NewReader, Read}
 use Rattle.reader.specs.Counts.{handed_out, numbers}
 use Rattle.reader.specs.Promises.{step_of, FreshPromise}
 use Rattle.reader.specs.Runs.{steps_of, StepsPromise, answers}
 use Rattle.reader.specs.declared.Reader.{Reader}
-use Rattle.reader.specs.declared.NewReader.{NewReader}
-use Rattle.reader.specs.declared.Read.{Read}
 use Rattle.reader.specs.declared.Answer.{Answer}
 use Rattle.reader.specs.declared.Answer.TheVariants as answer
 use Rattle.reader.specs.DamagedLines.{Given, no_word, a_break, HandsOutBy, HandsOut, HandsOutAt}

@@ -11,11 +11,10 @@ use borrow.Author.Tests.{lt-ltb, le-ltb, ltb-true, ltb-false, eqb-true, eqb-fals
 use Rattle.numbers.proofs.Tested.{right}
 use Rattle.wire.specs.Line.{size_by, marked_by, known}
 use Rattle.wire.specs.Places.{fits_by}
-use Rattle.reader.specs.State.{reader, unmarked, no_bytes, fresh, ready}
+use Rattle.reader.specs.State.{reader, unmarked, no_bytes, fresh, ready, Read}
 use Rattle.reader.specs.Good.{placed, good}
 use Rattle.reader.specs.Rules.{entered, fitting, more, word_of}
 use Rattle.reader.specs.declared.Reader.{Reader}
-use Rattle.reader.specs.declared.Read.{Read}
 use Rattle.wire.proofs.Letters.{at_least_three, size_positive}
 use Rattle.reader.proofs.Parts.{Parts, parts, made, one_more_lem}
 use Rattle.reader.proofs.Word.{by_word}

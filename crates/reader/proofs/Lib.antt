@@ -6,6 +6,7 @@
 -- a marked format's first bytes tell (Scars); a reader that follows a line (Follows); and what their proofs and those of the functions share.
 pub mod Computing
 pub mod Parts
+pub mod Numbered
 pub mod Entered
 pub mod Word
 pub mod Keeps

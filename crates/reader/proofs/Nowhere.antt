@@ -19,12 +19,11 @@ use Rattle.wire.specs.declared.Format.{Format}
 use Rattle.wire.specs.declared.Format.TheVariants.{Mm, Absolute, Relative, FiveByte, ThreeByte, Hexadecimal}
 use Rattle.wire.specs.declared.Named.TheVariants.{Known}
 use Rattle.wire.proofs.Letters.{letter_named, marked_named, fits_named}
-use Rattle.reader.specs.State.{fresh}
+use Rattle.reader.specs.State.{fresh, Read}
 use Rattle.reader.specs.Good.{good}
 use Rattle.reader.specs.Rules.{entered, answered}
 use Rattle.reader.specs.Promises.{StepPromise}
 use Rattle.reader.specs.declared.Reader.{Reader}
-use Rattle.reader.specs.declared.Read.{Read}
 use Rattle.reader.specs.declared.Answer.TheVariants.{Dropped}
 use Rattle.reader.proofs.Entered.{enters_outside_v}
 use Rattle.reader.proofs.Sentences.{never_awaits, lost}

@@ -6,14 +6,12 @@ use mathlib.Core.List.{List, [], ◌∷◌}
 use lib.ListN.{length, get_or}
 use lib.Dec.{eqb}
 use lib.IntN.{ℤ, pos, nat_abs}
-use Rattle.reader.specs.State.{numbers_of}
+use Rattle.reader.specs.State.{numbers_of, NewReader, Read}
 use Rattle.reader.specs.Line.{Long, reading}
 use Rattle.reader.specs.Telling.{Told, answers_in}
 use Rattle.reader.specs.Promises.{Step, FreshPromise, GoodPromise, StepPromise, ReadPromise, AnswersPromise, step_of}
 use Rattle.reader.specs.Runs.{steps_of, StepsPromise}
 use Rattle.reader.specs.declared.Reader.{Reader}
-use Rattle.reader.specs.declared.NewReader.{NewReader}
-use Rattle.reader.specs.declared.Read.{Read}
 use Rattle.reader.specs.declared.Reading.{Reading}
 use Rattle.reader.specs.declared.Answers.{Answers}
 use Rattle.reader.specs.declared.Answer.{Answer}

@@ -15,15 +15,13 @@ use Rattle.frames.specs.Words.{break, silence}
 use Rattle.wire.specs.Line.{known, letter_of}
 use Rattle.wire.specs.Numbers.{success, bad_state, bad_letter, bad_word, accepted, refusal}
 use Rattle.wire.specs.declared.Format.TheVariants.{FiveByte}
-use Rattle.reader.specs.State.{fresh}
+use Rattle.reader.specs.State.{fresh, NewReader, Read}
 use Rattle.reader.specs.Good.{good}
 use Rattle.reader.specs.Rules.{refusing, word_of}
 use Rattle.reader.specs.Line.{Long, whole, reading, reads_line}
 use Rattle.reader.specs.Telling.{told, tells_line}
 use Rattle.reader.specs.Promises.{FreshPromise, StepPromise, ReadPromise, AnswersPromise, FreshRefusal, StepRefusal, ReadRefusal, AnswersRefusal, new_reader, fresh_of, step_of}
 use Rattle.reader.specs.declared.Reader.{Reader}
-use Rattle.reader.specs.declared.NewReader.{NewReader}
-use Rattle.reader.specs.declared.Read.{Read}
 use Rattle.reader.specs.declared.Reading.{Reading}
 use Rattle.reader.specs.declared.Answers.{Answers}
 use Rattle.numbers.proofs.Choices.{cases}

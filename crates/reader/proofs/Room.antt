@@ -14,7 +14,7 @@ use Rattle.reader.specs.Line.{whole, reads_line}
 use Rattle.reader.specs.Counts.{reports_in}
 use Rattle.reader.specs.Promises.{StepPromise, ReadPromise}
 use Rattle.reader.specs.declared.Reader.{Reader}
-use Rattle.reader.specs.declared.Read.{Read}
+use Rattle.reader.specs.State.{Read}
 use Rattle.reader.specs.declared.Reading.{Reading}
 use Rattle.reader.proofs.Counted.{lawful}
 use Rattle.reader.proofs.Permitted.{step_is}

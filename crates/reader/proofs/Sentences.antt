@@ -15,12 +15,11 @@ use Rattle.wire.specs.declared.Named.{Named}
 use Rattle.wire.specs.declared.Named.TheVariants.{Known, Unknown}
 use Rattle.wire.proofs.Letters.{at_most_five, at_least_three}
 use Rattle.wire.proofs.Codec.{mark}
-use Rattle.reader.specs.State.{reader, kept_in, fresh}
+use Rattle.reader.specs.State.{reader, kept_in, fresh, Read}
 use Rattle.reader.specs.Good.{good}
 use Rattle.reader.specs.Rules.{entered, answered, dropping, keep, start, lose, byte_of, word_of}
 use Rattle.reader.specs.Promises.{StepPromise}
 use Rattle.reader.specs.declared.Reader.{Reader}
-use Rattle.reader.specs.declared.Read.{Read}
 use Rattle.reader.specs.declared.Answer.TheVariants.{Dropped}
 use Rattle.reader.proofs.Parts.{parts, zeros}
 use Rattle.reader.proofs.Word.{lost_is}

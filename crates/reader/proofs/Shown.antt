@@ -13,11 +13,10 @@ use Rattle.frames.proofs.Words.{passing_append, passing_right}
 use Rattle.wire.specs.Line.{letter_of, marked_of}
 use Rattle.wire.specs.Messages.{Message, message_bytes, SoundIn, SoundEnd, finished_reports}
 use Rattle.wire.specs.declared.Format.{Format}
-use Rattle.reader.specs.State.{ready}
+use Rattle.reader.specs.State.{ready, NewReader}
 use Rattle.reader.specs.Promises.{FreshPromise}
 use Rattle.reader.specs.DamagedLines.{Given, no_word, a_break, TrueBy, AtStart, is_fresh, is_ready}
 use Rattle.reader.specs.declared.Reader.{Reader}
-use Rattle.reader.specs.declared.NewReader.{NewReader}
 use Rattle.reader.proofs.Framed.{frame_of, laws, is_marked, state_of, ReaderOf, fresh_of_lem, fresh_state, ready_of}
 use Rattle.reader.proofs.AsSent.{plain, as_sent, sent_legal, sent_enters, break_plain, silence_plain}
 use Rattle.reader.proofs.Lines.{framed_line, framed_going, carried_line, line_sent}

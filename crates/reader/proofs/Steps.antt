@@ -27,7 +27,7 @@ use Rattle.reader.specs.Promises.{step_of, ReadPromise, AnswersPromise}
 use Rattle.reader.specs.DamagedLines.{Took}
 use Rattle.reader.specs.Runs.{steps_of, StepsPromise, answers, reader_after}
 use Rattle.reader.specs.declared.Reader.{Reader}
-use Rattle.reader.specs.declared.Read.{Read}
+use Rattle.reader.specs.State.{Read}
 use Rattle.reader.specs.declared.Reading.{Reading}
 use Rattle.reader.specs.declared.Answers.{Answers}
 use Rattle.reader.specs.declared.Answer.{Answer}

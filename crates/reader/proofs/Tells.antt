@@ -15,11 +15,10 @@ use Rattle.fold.proofs.Laws.{taken, stops}
 use Rattle.fold.proofs.Calls.{places_sum}
 use Rattle.fold.proofs.Parts.{rest_is, back, none, one, joins, part_left, part_all, part_ends}
 use Rattle.wire.specs.declared.Report.{Report}
-use Rattle.reader.specs.State.{five_of}
+use Rattle.reader.specs.State.{five_of, Read}
 use Rattle.reader.specs.Rules.{word_of}
 use Rattle.reader.specs.Telling.{told_in, tells, tells_line, told, has_room, places_of, front_of}
 use Rattle.reader.specs.declared.Reader.{Reader}
-use Rattle.reader.specs.declared.Read.{Read}
 use Rattle.reader.specs.declared.Answer.{Answer}
 use Rattle.reader.specs.declared.Answer.TheVariants as answer
 use Rattle.reader.proofs.Counted.{told_lawful}

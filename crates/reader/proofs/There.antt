@@ -28,7 +28,7 @@ use Rattle.wire.specs.declared.Encoded.{Encoded}
 use Rattle.wire.proofs.Accepts.{done}
 use Rattle.wire.proofs.Codec as codec
 use Rattle.wire.proofs.Front.{size_between, size_small, same_front}
-use Rattle.reader.specs.State.{reader, ready, five_of}
+use Rattle.reader.specs.State.{reader, ready, five_of, Read}
 use Rattle.reader.specs.Good.{good}
 use Rattle.reader.specs.Rules.{answered, keep, byte_of, word_of}
 use Rattle.fold.specs.Calls.{stopped}
@@ -37,7 +37,6 @@ use Rattle.reader.specs.Line.{Long, whole, reads_line}
 use Rattle.reader.specs.Promises.{read_of, ReadPromise}
 use Rattle.reader.specs.Runs.{steps_of, StepsPromise, answers, reader_after}
 use Rattle.reader.specs.declared.Reader.{Reader}
-use Rattle.reader.specs.declared.Read.{Read}
 use Rattle.reader.specs.declared.Reading.{Reading}
 use Rattle.reader.specs.declared.Answer.{Answer}
 use Rattle.reader.specs.declared.Answer.TheVariants as answer

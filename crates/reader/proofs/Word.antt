@@ -13,11 +13,10 @@ use Rattle.wire.specs.Line.{size_by, marked_by}
 use Rattle.wire.specs.Places.{fits_by}
 use Rattle.wire.specs.Reading.{report_by}
 use Rattle.wire.specs.Numbers.{success, bad_word}
-use Rattle.reader.specs.State.{reader, fresh, ready}
+use Rattle.reader.specs.State.{reader, fresh, ready, Read}
 use Rattle.reader.specs.Rules.{entered, answered, more, refusing, dropping, alone, fitting, finishes, starting, straying, keep, start, stray, lose, byte_of, break_of, silence_of, word_of}
 use Rattle.reader.specs.Counts.{byte_in, reports_in, dropped_in}
 use Rattle.reader.specs.declared.Reader.{Reader}
-use Rattle.reader.specs.declared.Read.{Read}
 use Rattle.reader.specs.declared.Answer.TheVariants.{Nothing, Report, Dropped}
 use Rattle.numbers.proofs.Choices.{cases}
 

@@ -7,12 +7,11 @@ use lib.ListN.{length, get_or, replicate}
 use lib.IntN.{ℤ, pos, nat_abs}
 use Rattle.numbers.proofs.Tested.{holds}
 use Rattle.frames.specs.Words.{break}
-use Rattle.reader.specs.State.{reader, fresh, ready}
+use Rattle.reader.specs.State.{reader, fresh, ready, NewReader}
 use Rattle.reader.specs.Rules.{answered}
 use Rattle.reader.specs.Line.{Long}
 use Rattle.reader.specs.Telling.{Told}
 use Rattle.reader.specs.Promises.{Step, FreshPromise, GoodPromise, StepPromise, ReadPromise, AnswersPromise, new_reader}
-use Rattle.reader.specs.declared.NewReader.{NewReader}
 use Rattle.reader.specs.declared.Answer.TheVariants.{Nothing, Dropped}
 use Rattle.reader.proofs.Computing.{computing}
 

@@ -7,13 +7,11 @@ use Rattle.wire.specs.Messages.{Message, message_bytes, SoundIn, SoundEnd}
 use Rattle.wire.specs.Numbers.{success}
 use Rattle.wire.specs.declared.Report.{Report}
 use Rattle.wire.specs.declared.Format.{Format}
-use Rattle.reader.specs.State.{ready, five_of}
+use Rattle.reader.specs.State.{ready, five_of, NewReader, Read}
 use Rattle.reader.specs.Counts.{handed_out, numbers}
 use Rattle.reader.specs.Promises.{FreshPromise, ReadPromise}
 use Rattle.reader.specs.Runs.{StepsPromise, answers}
 use Rattle.reader.specs.declared.Reader.{Reader}
-use Rattle.reader.specs.declared.NewReader.{NewReader}
-use Rattle.reader.specs.declared.Read.{Read}
 use Rattle.reader.specs.declared.Reading.{Reading}
 use Rattle.reader.specs.declared.Answer.TheVariants as answer
 

@@ -6,11 +6,10 @@ use Rattle.wire.specs.Messages.{Message, finished_reports}
 use Rattle.wire.specs.Buttons.{buttons_of, buttons_in}
 use Rattle.wire.specs.declared.Report.{Report}
 use Rattle.wire.specs.declared.Format.{Format}
-use Rattle.reader.specs.State.{ready}
+use Rattle.reader.specs.State.{ready, NewReader}
 use Rattle.reader.specs.Promises.{FreshPromise}
 use Rattle.reader.specs.DamagedLines.{HandsOutBy, HandsOutAt}
 use Rattle.reader.specs.declared.Reader.{Reader}
-use Rattle.reader.specs.declared.NewReader.{NewReader}
 
 -- A reader that has followed a line of f, and what it has handed out of these passages. It was ready, or fresh in a
 -- marked format; where nothing was broken off, it was ready, or fresh and has heard a silence since.

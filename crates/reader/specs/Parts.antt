@@ -9,7 +9,7 @@ use Rattle.reader.specs.Good.{good}
 use Rattle.reader.specs.Counts.{reports_in, dropped_in, written_in}
 use Rattle.reader.specs.Line.{Long, whole, reads, reads_line}
 use Rattle.reader.specs.declared.Reader.{Reader}
-use Rattle.reader.specs.declared.Read.{Read}
+use Rattle.reader.specs.State.{Read}
 use Rattle.reader.specs.declared.Reading.{Reading}
 
 -- what a reader keeps over a line: that it is good, its format, and fewer bytes than a report of it has

@@ -4,15 +4,13 @@ use Rattle.std.specs.Prelude.{ℕ, ◌≡◌, Bool, cond, List, [], ◌∷◌, t
 use Rattle.wire.specs.Line.{letter_of, known}
 use Rattle.wire.specs.Numbers.{success, bad_state, bad_letter, bad_word, RefusesRightly}
 use Rattle.wire.specs.declared.Format.TheVariants.{FiveByte}
-use Rattle.reader.specs.State.{fresh, numbers_of}
+use Rattle.reader.specs.State.{fresh, numbers_of, NewReader, Read}
 use Rattle.reader.specs.Good.{good}
 use Rattle.reader.specs.Rules.{refusing, word_of}
 use Rattle.fold.specs.Calls.{stopped, with_refusal, call}
 use Rattle.reader.specs.Line.{Long, whole, reads_line}
 use Rattle.reader.specs.Telling.{Told, told, tells_line}
 use Rattle.reader.specs.declared.Reader.{Reader}
-use Rattle.reader.specs.declared.NewReader.{NewReader}
-use Rattle.reader.specs.declared.Read.{Read}
 use Rattle.reader.specs.declared.Reading.{Reading}
 use Rattle.reader.specs.declared.Answers.{Answers}
 

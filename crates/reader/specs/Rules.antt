@@ -7,9 +7,8 @@ use Rattle.wire.specs.Places.{fits_by}
 use Rattle.wire.specs.Reading.{report_by}
 use Rattle.wire.specs.Numbers.{success, bad_word}
 use Rattle.wire.specs.declared.Format.TheVariants.{Microsoft}
-use Rattle.reader.specs.State.{reader, unmarked, no_bytes, ready}
+use Rattle.reader.specs.State.{reader, unmarked, no_bytes, ready, Read}
 use Rattle.reader.specs.declared.Reader.{Reader}
-use Rattle.reader.specs.declared.Read.{Read}
 use Rattle.reader.specs.declared.Answer.{Answer}
 use Rattle.reader.specs.declared.Answer.TheVariants.{Nothing, Report, Dropped}
 

@@ -3,7 +3,7 @@ use Rattle.std.specs.Prelude.{ℕ, Bool, false, ◌||◌, List, [], ◌∷◌, m
 use Rattle.frames.specs.Words.{silence}
 use Rattle.reader.specs.Promises.{StepPromise, step_of}
 use Rattle.reader.specs.declared.Reader.{Reader}
-use Rattle.reader.specs.declared.Read.{Read}
+use Rattle.reader.specs.State.{Read}
 use Rattle.reader.specs.declared.Answer.{Answer}
 
 -- the steps of a reader over words

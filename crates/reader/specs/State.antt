@@ -1,8 +1,13 @@
 -- What a reader is, and what it answers.
-use Rattle.std.specs.Prelude.{ℕ, Bool, not, false, List, [], ◌∷◌, take, replicate, ℤ, pos}
-use Rattle.wire.specs.Line.{marked_by}
+use Rattle.std.specs.Prelude.{ℕ, Bool, not, false, List, [], ◌∷◌, take, replicate, ℤ, pos, Result, Ok, Err}
+use Rattle.wire.specs.Line.{letter_of, marked_by}
+use Rattle.wire.specs.Numbers.{success}
+use Rattle.wire.specs.Refusals.{number_of}
+use Rattle.wire.specs.declared.refusal.Refusal.{Refusal}
+use Rattle.wire.specs.declared.Format.TheVariants.{FiveByte}
 use Rattle.wire.specs.declared.Report.{Report}
 use Rattle.reader.specs.declared.Reader.{Reader}
+use Rattle.reader.specs.declared.Step.{Step}
 use Rattle.reader.specs.declared.Answer.{Answer}
 use Rattle.reader.specs.declared.Answer.TheVariants as answer
 
@@ -39,3 +44,26 @@ abbrev pub numbers_of : Answer → List ℤ
 numbers_of answer.Nothing = []
 numbers_of (answer.Report p) = five_of p
 numbers_of (answer.Dropped k) = pos k ∷ []
+
+-- what a new reader and a step give back, with the number of a refusal
+pub record NewReader : Type 0 where
+  pub refusal : ℕ
+  pub reader : Reader
+
+pub record Read : Type 0 where
+  pub refusal : ℕ
+  pub next : Reader
+  pub answer : Answer
+
+-- "(1 for a new reader: a fresh one of U)"
+abbrev pub new_in : Result Reader Refusal → NewReader
+new_in (Ok r) = record { refusal = success; reader = r }
+new_in (Err refusal) = record { refusal = number_of refusal; reader = fresh (letter_of FiveByte) }
+
+-- "A refusal returns the old state", and answers nothing
+abbrev pub given : Step → Read
+given s = record { refusal = success; next = s.next; answer = s.answer }
+
+abbrev pub read_in : Reader → Result Step Refusal → Read
+read_in r (Ok s) = given s
+read_in r (Err refusal) = record { refusal = number_of refusal; next = r; answer = answer.Nothing }

@@ -1,12 +1,15 @@
 // The reader: line words in, reports out. Here stand its parts, its words and numbers, and what a user calls.
 #![tactic(auto)]
 
+ghost use Rattle.std.specs.Prelude.{◌≡◌};
+ghost use Rattle.wire.specs.Line.{letter_of};
+ghost use Rattle.wire.specs.declared.Format.TheVariants.{FiveByte};
+ghost use Rattle.reader.specs.State.{fresh, new_in, read_in};
 ghost use Rattle.reader.specs.Promises.{FreshPromise, StepPromise, ReadPromise, AnswersPromise};
 
-use crate::rules::refusing;
 use crate::state::no_bytes;
 use crate::telling::so_far;
-use wire::{BAD_LETTER, BAD_STATE, FORMAT_U, Report, SUCCESS};
+use wire::{BAD_STATE, FORMAT_U, Refusal, Report};
 
 mod good;
 mod line;
@@ -32,17 +35,9 @@ pub enum Answer {
     Dropped(u8),
 }
 
-// A new reader, or why there is none of this letter.
-#[derive(Clone, Copy, Drop)]
-pub struct NewReader {
-    pub refusal: u8,
-    pub reader: Reader,
-}
-
 // What a step gives back.
 #[derive(Clone, Copy, Drop)]
-pub struct Read {
-    pub refusal: u8,
+pub struct Step {
     pub next: Reader,
     pub answer: Answer,
 }
@@ -66,29 +61,33 @@ pub struct Answers {
     pub written: usize,
 }
 
+// A fresh reader of U, where there is none of a letter.
+impl Default for Reader {
+    ghost is_default = { λ r. r ≡ fresh (letter_of FiveByte) };
+
+    #[inline(always)]
+    fn default() -> Reader {
+        no_bytes(FORMAT_U, true)
+    }
+}
+
 impl Reader {
-    // A fresh reader: no bytes, awaiting in U, T, W. A letter that is not in the table is refused with 1 and a fresh one of U.
-    pub fn fresh(letter: u8) -> NewReader
-        ensures { FreshPromise letter result }
+    // A fresh reader: no bytes, awaiting in U, T, W. A letter that is not in the table is refused.
+    pub fn fresh(letter: u8) -> Result<Reader, Refusal>
+        ensures { FreshPromise letter (new_in result) }
     {
         if !wire::known(letter) {
-            return NewReader {
-                refusal: BAD_LETTER,
-                reader: no_bytes(FORMAT_U, true),
-            };
+            return Err(Refusal::NoSuchLetter);
         }
-        NewReader {
-            refusal: SUCCESS,
-            reader: no_bytes(letter, !wire::marked(letter)),
-        }
+        Ok(no_bytes(letter, !wire::marked(letter)))
     }
 
-    // One word.
-    pub fn step(self, word: u16) -> Read
-        ensures { StepPromise self word result }
+    // One word. A refusal leaves the reader as it was.
+    pub fn step(self, word: u16) -> Result<Step, Refusal>
+        ensures { StepPromise self word (read_in self result) }
     {
         if !self.good() {
-            return refusing(BAD_STATE, self);
+            return Err(Refusal::BadState);
         }
         self.heard(word)
     }

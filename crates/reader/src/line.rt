@@ -1,6 +1,6 @@
 // Over many words: a line, and the numbers of its reports to a lent slice.
 ghost use Rattle.std.specs.Prelude.{◌≡◌, true, ◌*◌, ◌/◌, ◌<◌, ◌≤◌, ◌++◌, length, drop};
-ghost use Rattle.reader.specs.State.{ready, five_of};
+ghost use Rattle.reader.specs.State.{ready, five_of, read_in};
 ghost use Rattle.fold.specs.Calls.{line};
 ghost use Rattle.reader.specs.Line.{whole, reads_line};
 ghost use Rattle.reader.specs.Good.{good};
@@ -8,8 +8,8 @@ ghost use Rattle.reader.specs.Parts.{Stands, Begins, Sized, first_of, Alike, Awa
 
 use crate::state::no_bytes;
 use crate::whole::{passed, whole};
-use crate::{Answer, Read, Reader, Reading};
-use wire::{Report, SILENCE, SUCCESS};
+use crate::{Answer, Reader, Reading, Step};
+use wire::{Refusal, Report, SILENCE, SUCCESS};
 
 // The five numbers of a report, to the front of a slice.
 #[inline(always)]
@@ -61,15 +61,15 @@ fn alike(low: u16, high: u16, words: &[u16]) -> usize
 impl Reader {
     // What a word's answer makes of a line that begins with it, and its report to the front of the places that are left.
     #[inline(always)]
-    fn counted(self, s: Read, out: &mut [i16]) -> Reading
-        ensures { whole result out.new ≡ first_of self s out.old }
+    fn counted(self, heard: Result<Step, Refusal>, out: &mut [i16]) -> Reading
+        ensures { whole result out.new ≡ first_of self (read_in self heard) out.old }
     {
-        if s.refusal != SUCCESS {
-            return reading(s.refusal, self, 0, 0, 0);
-        }
-        let next = s.next;
-        let answer = s.answer;
-        match answer {
+        let step = match heard {
+            Ok(step) => step,
+            Err(refusal) => return reading(refusal.number(), self, 0, 0, 0),
+        };
+        let next = step.next;
+        match step.answer {
             Answer::Nothing => reading(SUCCESS, next, 1, 0, 0),
             Answer::Dropped(k) => reading(SUCCESS, next, 1, 0, k as usize),
             Answer::Report(report) => {
@@ -88,8 +88,8 @@ impl Reader {
         requires { (letter ≡ self.format) × Sized size marked self × (0 < length words.now) }
         ensures { Begins self words.now out.old result out.new × AwaitsBehind self words.now result }
     {
-        let s = self.word(letter, size, marked, words[0]);
-        self.counted(s, out)
+        let heard = self.word(letter, size, marked, words[0]);
+        self.counted(heard, out)
     }
 
     // Whether the reader is ready, and a whole report stands at the front.
@@ -205,8 +205,8 @@ impl Reader {
         requires { Sized size marked self × (length words.now ≡ 1) }
         ensures { whole result out.new ≡ line reads_line self words.now out.old }
     {
-        let s = self.word(self.format, size, marked, words[0]);
-        self.counted(s, out)
+        let heard = self.word(self.format, size, marked, words[0]);
+        self.counted(heard, out)
     }
 
     // The words of a line: swiftly where the reader is ready, and one by one up to where it is again, or may go no further. What is left of the line, from the

@@ -1,14 +1,14 @@
 // What one word does to a good reader: the rule. whole.rt is the quick way.
 ghost use Rattle.std.specs.Prelude.{◌≡◌, true, false, ◌<◌};
 ghost use Rattle.wire.specs.Line.{size_by, marked_by};
-ghost use Rattle.reader.specs.State.{no_bytes};
+ghost use Rattle.reader.specs.State.{no_bytes, given, read_in};
 ghost use Rattle.reader.specs.Good.{good};
 ghost use Rattle.reader.specs.Parts.{Sized};
-ghost use Rattle.reader.specs.Rules.{entered, answered, refusing, dropping, fitting, starting, keep, start, lose, byte_of, word_of};
+ghost use Rattle.reader.specs.Rules.{entered, answered, dropping, fitting, starting, keep, start, lose, byte_of, word_of};
 
 use crate::state::no_bytes;
-use crate::{Answer, Read, Reader};
-use wire::{BAD_STATE, BAD_WORD, BREAK, FORMAT_V, SILENCE, SUCCESS};
+use crate::{Answer, Reader, Step};
+use wire::{BREAK, FORMAT_V, Refusal, SILENCE};
 
 // Every byte enters the reader through this, by the letter of the format: in V without bit 7.
 #[inline(always)]
@@ -24,26 +24,10 @@ pub(crate) fn entered(letter: u8, byte: u8) -> u8
 
 // What a word that is not refused gives.
 #[inline(always)]
-fn answered(next: Reader, answer: Answer) -> Read
-    ensures { result ≡ answered next answer }
+fn answered(next: Reader, answer: Answer) -> Step
+    ensures { given result ≡ answered next answer }
 {
-    Read {
-        refusal: SUCCESS,
-        next: next,
-        answer: answer,
-    }
-}
-
-// A refusal gives the old reader back, and answers nothing.
-#[inline(always)]
-pub(crate) fn refusing(number: u8, reader: Reader) -> Read
-    ensures { result ≡ refusing number reader }
-{
-    Read {
-        refusal: number,
-        next: reader,
-        answer: Answer::Nothing,
-    }
+    Step { next, answer }
 }
 
 // Where none is dropped the answer is nothing.
@@ -70,9 +54,9 @@ impl Reader {
 
     // A byte that fits its place is kept; the last gives the report.
     #[inline(always)]
-    fn keep(mut self, letter: u8, size: usize, byte: u8) -> Read
+    fn keep(mut self, letter: u8, size: usize, byte: u8) -> Step
         requires { (letter ≡ self.format) × (self.count < size) × (size ≡ size_by self.format) × (self.awaiting ≡ false) }
-        ensures { result ≡ keep self byte }
+        ensures { given result ≡ keep self byte }
     {
         let at = self.count as usize;
         self.kept[at] = byte;
@@ -80,7 +64,7 @@ impl Reader {
             let report = wire::report_of(letter, self.kept);
             return answered(no_bytes(letter, false), Answer::Report(report));
         }
-        self.count = self.count + 1;
+        self.count += 1;
         answered(self, Answer::Nothing)
     }
 
@@ -95,9 +79,9 @@ impl Reader {
 
     // Such a byte starts a report anywhere; the kept bytes are dropped.
     #[inline(always)]
-    fn start(self, letter: u8, byte: u8) -> Read
+    fn start(self, letter: u8, byte: u8) -> Step
         requires { letter ≡ self.format }
-        ensures { result ≡ start self byte }
+        ensures { given result ≡ start self byte }
     {
         let next = Reader {
             format: letter,
@@ -110,18 +94,18 @@ impl Reader {
 
     // A byte that no rule takes is dropped with the kept; U, T, W then await silence.
     #[inline(always)]
-    fn lose(self, letter: u8, marked: bool) -> Read
+    fn lose(self, letter: u8, marked: bool) -> Step
         requires { (letter ≡ self.format) × (self.count < 5) × (marked ≡ marked_by self.format) }
-        ensures { result ≡ lose self }
+        ensures { given result ≡ lose self }
     {
         answered(no_bytes(letter, !marked), Answer::Dropped(self.count + 1))
     }
 
     // A byte. While a silence is awaited, each is dropped alone.
     #[inline(always)]
-    fn byte(self, letter: u8, size: usize, marked: bool, byte: u8) -> Read
+    fn byte(self, letter: u8, size: usize, marked: bool, byte: u8) -> Step
         requires { (letter ≡ self.format) × (self.count < size) × (size ≡ size_by self.format) × (marked ≡ marked_by self.format) }
-        ensures { result ≡ byte_of self byte }
+        ensures { given result ≡ byte_of self byte }
     {
         if self.awaiting {
             return answered(self, Answer::Dropped(1));
@@ -137,34 +121,41 @@ impl Reader {
 
     // A break or a silence drops the kept; U, T, W then await silence, or are ready.
     #[inline(always)]
-    fn pause(self, letter: u8, awaiting: bool) -> Read
+    fn pause(self, letter: u8, awaiting: bool) -> Step
         requires { letter ≡ self.format }
-        ensures { result ≡ answered (no_bytes self.format awaiting) (dropping self.count) }
+        ensures { given result ≡ answered (no_bytes self.format awaiting) (dropping self.count) }
     {
         answered(no_bytes(letter, awaiting), dropping(self.count))
     }
 
-    // A word, by its letter: a byte, a break, a silence; any other is refused with 4.
+    // A word, by its letter: a byte, a break, a silence; any other is refused.
     #[inline(always)]
-    pub(crate) fn word(self, letter: u8, size: usize, marked: bool, word: u16) -> Read
+    pub(crate) fn word(
+        self,
+        letter: u8,
+        size: usize,
+        marked: bool,
+        word: u16,
+    ) -> Result<Step, Refusal>
         requires { (letter ≡ self.format) × Sized size marked self }
-        ensures { result ≡ word_of self word }
+        ensures { read_in self result ≡ word_of self word }
     {
         if word <= 255 {
-            return self.byte(letter, size, marked, entered(letter, word as u8));
+            let byte = entered(letter, word as u8);
+            return Ok(self.byte(letter, size, marked, byte));
         }
         match word {
-            BREAK => self.pause(letter, !marked),
-            SILENCE => self.pause(letter, false),
-            _ => refusing(BAD_WORD, self),
+            BREAK => Ok(self.pause(letter, !marked)),
+            SILENCE => Ok(self.pause(letter, false)),
+            _ => Err(Refusal::BadWord),
         }
     }
 
     // A word to a good reader, each letter with code of its own.
     #[inline(always)]
-    pub(crate) fn heard(self, word: u16) -> Read
+    pub(crate) fn heard(self, word: u16) -> Result<Step, Refusal>
         requires { good self ≡ true }
-        ensures { result ≡ word_of self word }
+        ensures { read_in self result ≡ word_of self word }
     {
         let letter = self.format;
         match letter {
@@ -175,7 +166,7 @@ impl Reader {
             b'U' => self.word(b'U', 5, false, word),
             b'T' => self.word(b'T', 3, false, word),
             b'W' => self.word(b'W', 5, false, word),
-            _ => refusing(BAD_STATE, self),
+            _ => Err(Refusal::BadState),
         }
     }
 }

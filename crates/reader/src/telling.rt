@@ -64,19 +64,17 @@ impl Reader {
         let mut at: usize = 0;
         let mut used: usize = 0;
         while at < words.len() {
-            let s = r.word(letter, size, marked, words[at]);
-            if s.refusal != SUCCESS {
-                return so_far(s.refusal, r, at, used);
-            }
-            let answer = s.answer;
-            let n = tell(answer, &mut out[used..]);
+            let step = match r.word(letter, size, marked, words[at]) {
+                Ok(step) => step,
+                Err(refusal) => return so_far(refusal.number(), r, at, used),
+            };
+            let n = tell(step.answer, &mut out[used..]);
             if n == 0 {
                 return so_far(SUCCESS, r, at, used);
             }
-            let next = s.next;
-            r = next;
-            at = at + 1;
-            used = used + n;
+            r = step.next;
+            at += 1;
+            used += n;
         }
         so_far(SUCCESS, r, at, used)
     }

@@ -6,7 +6,7 @@ use Rattle.reader.proofs.Reader.step.Goals as goal
 
 pub returns-then-not-good : goal.returns-then-not-good
 unfolding step_of
-returns-then-not-good c = simp (sym c.good.ensures ∙ not-true _ c.if-not-good.true-raw) (ap outcome c.refusing.ensures)
+returns-then-not-good c = simp (sym c.good.ensures ∙ not-true _ c.if-not-good.true-raw)
 
 pub heard-requires : goal.heard-requires
 heard-requires c = sym c.good.ensures ∙ not-false _ c.if-not-good.false-raw
