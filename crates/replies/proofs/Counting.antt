@@ -1,4 +1,5 @@
 -- Every byte is somewhere: in a report, dropped, in a whole reply or a broken one, discarded by a new telling, or kept.
+use Rattle.std.proofs.Common.{Option, None, Some}
 use Prim.Native.Nat.{ℕ, ◌+◌, ◌*◌}
 use mathlib.Core.Path.{◌≡◌, refl, sym, ◌∙◌, ap}
 use mathlib.Core.Bool.{Bool, true, false}
@@ -24,11 +25,9 @@ use Rattle.replies.specs.Line.{Both, hears, or_else, reply_among, told_in, repli
 use Rattle.replies.specs.Counts.{whole_bytes, broken_bytes}
 use Rattle.replies.specs.Promises.{TellPromise, StepPromise, ReadPromise, tell_of}
 use Rattle.replies.specs.declared.Kind.{Kind}
-use Rattle.replies.specs.declared.Kind.TheVariants as kind
 use Rattle.replies.specs.declared.Asked.{Asked}
 use Rattle.replies.specs.declared.Awaited.{Awaited}
 use Rattle.replies.specs.declared.Reply.{Reply}
-use Rattle.replies.specs.declared.Reply.TheVariants as reply
 use Rattle.replies.specs.declared.ToldReader.{ToldReader}
 use Rattle.replies.specs.declared.Telling.{Telling}
 use Rattle.replies.specs.declared.Heard.{Heard}
@@ -58,15 +57,12 @@ step_counts s w h g e = rw (step_is s w h e ∙ step_word s w g) (word_counts s 
 
 -- where no reply is awaited none is told, and the telling of one ends the awaiting
 abbrev Settles : ToldReader → Heard → Type 0
-Settles s h = ((h.reply ≡ reply.Nothing) ⊎ (is_none h.next.awaited.kind ≡ true)) × (is_none s.awaited.kind ≡ true → (h.reply ≡ reply.Nothing) × (is_none h.next.awaited.kind ≡ true))
+Settles s h = ((h.reply ≡ None) ⊎ (is_none h.next.awaited.kind ≡ true)) × (is_none s.awaited.kind ≡ true → (h.reply ≡ None) × (is_none h.next.awaited.kind ≡ true))
 
-none_fits : (k : Kind) (place byte : ℕ) → is_none k ≡ true → fits k place byte ≡ false
+none_fits : (k : Option Kind) (place byte : ℕ) → is_none k ≡ true → fits k place byte ≡ false
 unfolding fits
-none_fits kind.Nothing place byte n = refl
-none_fits kind.Ack place byte n = absurd (holds n)
-none_fits kind.Code place byte n = absurd (holds n)
-none_fits kind.Letters place byte n = absurd (holds n)
-none_fits kind.Buttons place byte n = absurd (holds n)
+none_fits None place byte n = refl
+none_fits (Some k) place byte n = absurd (holds n)
 
 not_next : (a : Awaited) (w : ℕ) → is_none a.kind ≡ true → continues a w ≡ true → ⊥
 not_next a w n e = holds (sym (none_fits a.kind a.came.count w n) ∙ right (is_byte w) (fitting a w) e)
@@ -83,9 +79,9 @@ settles s w g =
 -- so that there is at most one in a call, and it is the one that is told
 pub record Once (s : ToldReader) (answers : List Both) : Type 0 where
   pub is : replies_among answers ≡ told_in (reply_among answers)
-  pub none : is_none s.awaited.kind ≡ true → reply_among answers ≡ reply.Nothing
+  pub none : is_none s.awaited.kind ≡ true → reply_among answers ≡ None
 
-first_once : (a : Both) (l : List Both) → (a.reply ≡ reply.Nothing) ⊎ (reply_among l ≡ reply.Nothing) → replies_among l ≡ told_in (reply_among l)
+first_once : (a : Both) (l : List Both) → (a.reply ≡ None) ⊎ (reply_among l ≡ None) → replies_among l ≡ told_in (reply_among l)
     → told_in a.reply ++ replies_among l ≡ told_in (or_else a.reply (reply_among l))
 first_once a l (inl z) e = rw z e
 first_once a l (inr z) e = rw (e, z, or_nothing a.reply, append-nil)
@@ -97,7 +93,7 @@ Counted size s words answers next =
     ≡ size * length (handed_out (own_answers answers)) + dropped_among (own_answers answers) + whole_bytes (reply_among answers) + broken_bytes (reply_among answers)
     + (next.reader.count + next.awaited.came.count)
 
-either_bytes : (p q : Reply) → (p ≡ reply.Nothing) ⊎ (q ≡ reply.Nothing)
+either_bytes : (p q : Option Reply) → (p ≡ None) ⊎ (q ≡ None)
     → whole_bytes (or_else p q) + broken_bytes (or_else p q) ≡ whole_bytes p + broken_bytes p + (whole_bytes q + broken_bytes q)
 either_bytes p q (inl z) = rw z (omega arith)
 either_bytes p q (inr z) = rw (z, or_nothing p) (omega arith)

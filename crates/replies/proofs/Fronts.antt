@@ -1,4 +1,5 @@
 -- The reply at the front of a line, word by word.
+use Rattle.std.proofs.Common.{None}
 use Prim.Native.Nat.{ℕ, suc, ◌+◌, ◌%◌, ◌<◌, ◌≤◌}
 use mathlib.Core.Path.{◌≡◌, ap}
 use mathlib.Core.Bool.{true, false}
@@ -17,7 +18,6 @@ use Rattle.replies.specs.Rules.{continues}
 use Rattle.replies.specs.Fronts.{front, ahead, front_of}
 use Rattle.replies.specs.declared.Awaited.{Awaited}
 use Rattle.replies.specs.declared.Front.{Front}
-use Rattle.replies.specs.declared.Reply.TheVariants as reply
 
 -- a word that is a byte
 pub byte_same : (a : Awaited) (w : ℕ) → continues a w ≡ true → w % 256 ≡ w
@@ -28,7 +28,7 @@ module _ (a : Awaited) (words : List ℕ) (at : ℕ) where
   next = get_or words at 0
 
   -- the rest of the line has a first word, which is not the reply's, or its last byte, or one before it
-  pub not_its : at < length words → continues a next ≡ false → ahead at (front_of a (drop at words)) ≡ front a at reply.Nothing
+  pub not_its : at < length words → continues a next ≡ false → ahead at (front_of a (drop at words)) ≡ front a at None
   unfolding front_of
   not_its h e = rw (drop-cons words at 0 h, e, add-zero at)
 
@@ -45,7 +45,7 @@ module _ (a : Awaited) (words : List ℕ) (at : ℕ) where
       rw (drop-cons words at 0 h, e, f, add-one at) (ap (λ (k : ℕ). front later.awaited k later.reply) n)
 
   -- or none
-  pub no_more : length words ≤ at → ahead at (front_of a (drop at words)) ≡ front a at reply.Nothing
+  pub no_more : length words ≤ at → ahead at (front_of a (drop at words)) ≡ front a at None
   unfolding front_of
   no_more h = rw (drop_of_length-le words h, add-zero at)
 

@@ -1,4 +1,5 @@
 -- No reader that we make is ever refused: a fresh one is good, and every telling, step and read of a good one gives a good one of the same format.
+use Rattle.std.proofs.Common.{None}
 use Prim.Native.Nat.{ℕ}
 use mathlib.Core.Path.{◌≡◌, refl, ◌∙◌, ap}
 use mathlib.Core.Bool.{true}
@@ -19,7 +20,6 @@ use Rattle.replies.specs.Good.{good}
 use Rattle.replies.specs.Rules.{kind_of, word_of}
 use Rattle.replies.specs.Line.{Long, hears, hears_line}
 use Rattle.replies.specs.Promises.{FreshPromise, TellPromise, StepPromise, ReadPromise, tell_of, step_of, read_of}
-use Rattle.replies.specs.declared.Kind.TheVariants as kind
 use Rattle.replies.specs.declared.Asked.{Asked}
 use Rattle.replies.specs.declared.ToldReader.{ToldReader}
 use Rattle.replies.specs.declared.NewToldReader.{NewToldReader}
@@ -52,7 +52,7 @@ pub read_line : (s : ToldReader) (words : List ℕ) (out : List ℤ) → good s 
 read_line = call_line hears_line lawful
 
 pub fresh_is_good : (letter : ℕ) (a : NewToldReader) → FreshPromise letter a → good a.reader ≡ true
-fresh_is_good letter a e = rw e (made _ (report.fresh_is_good letter (reader.fresh_of letter) refl) (awaiting_good kind.Nothing))
+fresh_is_good letter a e = rw e (made _ (report.fresh_is_good letter (reader.fresh_of letter) refl) (awaiting_good None))
 
 pub tell_stays_good : (s : ToldReader) (asked : Asked) (t : Telling) → good s ≡ true → TellPromise s asked t → (good t.next ≡ true) × (t.next.reader.format ≡ s.reader.format)
 unfolding tell_of

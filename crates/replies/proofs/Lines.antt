@@ -1,4 +1,5 @@
 -- A long read is the reply at its front, and then the report reader's own long read.
+use Rattle.std.proofs.Common.{Option, None}
 use Prim.Native.Nat.{ℕ, suc, ◌+◌, ◌-◌, ◌≤◌}
 use mathlib.Core.Path.{◌≡◌, refl, sym, ◌∙◌, ap}
 use mathlib.Core.Bool.{Bool, true, false, cond, ◌&&◌}
@@ -33,7 +34,6 @@ use Rattle.replies.specs.Fronts.{front, ahead, front_of, closed}
 use Rattle.replies.specs.declared.Awaited.{Awaited}
 use Rattle.replies.specs.declared.Front.{Front}
 use Rattle.replies.specs.declared.Reply.{Reply}
-use Rattle.replies.specs.declared.Reply.TheVariants as reply
 use Rattle.replies.specs.declared.ToldReader.{ToldReader}
 use Rattle.replies.proofs.Counted.{both, or_nothing}
 
@@ -91,7 +91,7 @@ module _ (s : ToldReader) (w room : ℕ) (g : good s.reader ≡ true) (e : conti
 
 -- the report reader's run, as that of a reader that awaits no reply
 abbrev lifted : Ran Reader Answer → Ran ToldReader Both
-lifted f = ran f.refusal (told_reader f.next nothing) (map (both reply.Nothing) f.answers)
+lifted f = ran f.refusal (told_reader f.next nothing) (map (both None) f.answers)
 
 pub plain_run : (words : List ℕ) (r : Reader) (room : ℕ) → good r ≡ true → run hears (told_reader r nothing) words room ≡ lifted (run report.reads r words room)
 unfolding run broken
@@ -100,23 +100,23 @@ plain_run (w ∷ words) r room g = run_passed (told_reader r nothing) w room g (
   where
     go : (t : Bool)
         → run hears (told_reader (readers.word_of r w).next nothing) words (room - places report.reads r w) ≡ lifted (run report.reads (readers.word_of r w).next words (room - places report.reads r w))
-        → cond t (behind (both reply.Nothing (readers.word_of r w).answer ∷ []) (run hears (told_reader (readers.word_of r w).next nothing) words (room - places report.reads r w))) (ran (readers.word_of r w).refusal (told_reader r nothing) [])
+        → cond t (behind (both None (readers.word_of r w).answer ∷ []) (run hears (told_reader (readers.word_of r w).next nothing) words (room - places report.reads r w))) (ran (readers.word_of r w).refusal (told_reader r nothing) [])
         ≡ lifted (cond t (behind ((readers.word_of r w).answer ∷ []) (run report.reads (readers.word_of r w).next words (room - places report.reads r w))) (ran (readers.word_of r w).refusal r []))
-    go true ih = ap (behind (both reply.Nothing (readers.word_of r w).answer ∷ [])) ih
+    go true ih = ap (behind (both None (readers.word_of r w).answer ∷ [])) ih
     go false ih = refl
 
 -- its answers tell of no reply
-sum_lifted : (l : List Answer) → let k = sum report.reads_line l in sum hears_line (map (both reply.Nothing) l) ≡ counts k.reports k.dropped reply.Nothing
+sum_lifted : (l : List Answer) → let k = sum report.reads_line l in sum hears_line (map (both None) l) ≡ counts k.reports k.dropped None
 unfolding sum
 sum_lifted [] = refl
 sum_lifted (a ∷ l) = rw (sum_lifted l)
 
-written_lifted : (l : List Answer) → written hears (map (both reply.Nothing) l) ≡ written report.reads l
+written_lifted : (l : List Answer) → written hears (map (both None) l) ≡ written report.reads l
 written_lifted [] = refl
 written_lifted (a ∷ l) = ap (λ (x : List ℤ). written_in a ++ x) (written_lifted l)
 
 -- words in front that are the reply's: they write nothing
-abbrev in_front : ℕ → Reply → Long → Long
+abbrev in_front : ℕ → Option Reply → Long → Long
 in_front k y l =
     record {
       refusal = l.refusal;
@@ -126,7 +126,7 @@ in_front k y l =
       out = l.out;
     }
 
-quiet_first : (y : Reply) (f : Ran ToldReader Both) (out : List ℤ) → counted hears_line (behind (both y answer.Nothing ∷ []) f) out ≡ in_front 1 y (counted hears_line f out)
+quiet_first : (y : Option Reply) (f : Ran ToldReader Both) (out : List ℤ) → counted hears_line (behind (both y answer.Nothing ∷ []) f) out ≡ in_front 1 y (counted hears_line f out)
 unfolding sum
 quiet_first y f out = rw (one-add (length f.answers), zero-add (sum hears_line f.answers).reports, zero-add (sum hears_line f.answers).dropped)
 
@@ -143,29 +143,29 @@ assembled f l =
     }
 
 -- where the reply is whole, or none is awaited
-closed_whole : (n k : ℕ) (y : Reply) → closed (front nothing k y) n ≡ front nothing k y
+closed_whole : (n k : ℕ) (y : Option Reply) → closed (front nothing k y) n ≡ front nothing k y
 unfolding closed broken
 closed_whole n k y = cases (λ (f : Front). f ≡ front nothing k y) (eqb n 0) (λ _. refl) (λ _. ap (front nothing k) (or_nothing y))
 
-counted_lifted : (f : Ran Reader Answer) (k : ℕ) (y : Reply) (out : List ℤ) → in_front k y (counted hears_line (lifted f) out) ≡ assembled (front nothing k y) (counted report.reads_line f out)
+counted_lifted : (f : Ran Reader Answer) (k : ℕ) (y : Option Reply) (out : List ℤ) → in_front k y (counted hears_line (lifted f) out) ≡ assembled (front nothing k y) (counted report.reads_line f out)
 counted_lifted f k y out =
-    rw (closed_whole (length f.answers) k y, length-map f.answers (both reply.Nothing), sum_lifted f.answers, written_lifted f.answers, or_nothing y)
+    rw (closed_whole (length f.answers) k y, length-map f.answers (both None), sum_lifted f.answers, written_lifted f.answers, or_nothing y)
 
 -- where the first word is the report reader's
 abbrev later_of : Reader → ℕ → List ℕ → ℕ → Ran Reader Answer
 later_of r w words room = run report.reads (readers.word_of r w).next words (room - places report.reads r w)
 
 counted_passed : (a : Awaited) (r : Reader) (w : ℕ) (words : List ℕ) (out : List ℤ) → good r ≡ true → continues a w ≡ false
-    → counted hears_line (run hears (told_reader r a) (w ∷ words) (length out)) out ≡ assembled (front a 0 reply.Nothing) (counted report.reads_line (run report.reads r (w ∷ words) (length out)) out)
+    → counted hears_line (run hears (told_reader r a) (w ∷ words) (length out)) out ≡ assembled (front a 0 None) (counted report.reads_line (run report.reads r (w ∷ words) (length out)) out)
 unfolding run closed sum
 counted_passed a r w words out g e =
     rw (run_passed (told_reader r a) w (length out) g e words) (go (takes report.reads r w (length out)))
   where
     go : (t : Bool)
         → counted hears_line (cond t (behind (both (broken a) (readers.word_of r w).answer ∷ []) (run hears (told_reader (readers.word_of r w).next nothing) words (length out - places report.reads r w))) (ran (readers.word_of r w).refusal (told_reader r a) [])) out
-        ≡ assembled (front a 0 reply.Nothing) (counted report.reads_line (cond t (behind ((readers.word_of r w).answer ∷ []) (later_of r w words (length out))) (ran (readers.word_of r w).refusal r [])) out)
+        ≡ assembled (front a 0 None) (counted report.reads_line (cond t (behind ((readers.word_of r w).answer ∷ []) (later_of r w words (length out))) (ran (readers.word_of r w).refusal r [])) out)
     go true =
-        rw (plain_run words (readers.word_of r w).next (length out - places report.reads r w) (word_good r g w), length-map (later_of r w words (length out)).answers (both reply.Nothing), sum_lifted (later_of r w words (length out)).answers, written_lifted (later_of r w words (length out)).answers, or_nothing (broken a), ne_eqb (suc (length (later_of r w words (length out)).answers)) 0 (λ z. omega arith), zero-add)
+        rw (plain_run words (readers.word_of r w).next (length out - places report.reads r w) (word_good r g w), length-map (later_of r w words (length out)).answers (both None), sum_lifted (later_of r w words (length out)).answers, written_lifted (later_of r w words (length out)).answers, or_nothing (broken a), ne_eqb (suc (length (later_of r w words (length out)).answers)) 0 (λ z. omega arith), zero-add)
     go false = refl
 
 -- one byte of a reply more in front
@@ -177,7 +177,7 @@ closed_ahead f n = go (eqb n 0)
     go true = refl
     go false = refl
 
-ahead_one : (f : Front) (l : report.Long) → in_front 1 reply.Nothing (assembled f l) ≡ assembled (ahead 1 f) l
+ahead_one : (f : Front) (l : report.Long) → in_front 1 None (assembled f l) ≡ assembled (ahead 1 f) l
 ahead_one f l = rw (closed_ahead f l.taken, add_assoc 1 f.taken l.taken)
 
 -- the last byte of a reply, and one before it
@@ -185,14 +185,14 @@ pub keep_last : (r : Reader) (a : Awaited) (w : ℕ) → finishes a ≡ true →
 unfolding keep
 keep_last r a w f = rw f
 
-pub keep_more : (r : Reader) (a : Awaited) (w : ℕ) → finishes a ≡ false → keep (told_reader r a) w ≡ heard (told_reader r (more a w)) reply.Nothing answer.Nothing
+pub keep_more : (r : Reader) (a : Awaited) (w : ℕ) → finishes a ≡ false → keep (told_reader r a) w ≡ heard (told_reader r (more a w)) None answer.Nothing
 unfolding keep
 keep_more r a w f = rw f
 
 room_same : (room : ℕ) → room - 0 ≡ room
 room_same room = omega arith
 
-pub run_kept : (s : ToldReader) (w : ℕ) (words : List ℕ) (room : ℕ) (next : ToldReader) (y : Reply) → word_of s w ≡ heard next y answer.Nothing
+pub run_kept : (s : ToldReader) (w : ℕ) (words : List ℕ) (room : ℕ) (next : ToldReader) (y : Option Reply) → word_of s w ≡ heard next y answer.Nothing
     → run hears s (w ∷ words) room ≡ behind (both y answer.Nothing ∷ []) (run hears next words room)
 unfolding run
 run_kept s w words room next y e =
@@ -218,9 +218,9 @@ line_front (w ∷ words) a r out g = go (continues a w) refl (finishes a) refl (
         ∙ counted_lifted (run report.reads r words (length out)) 1 (told a w) out)
     go true e false f ih =
         rw (e, f)
-        (ap (λ (x : Ran ToldReader Both). counted hears_line x out) (run_kept (told_reader r a) w words (length out) (told_reader r (more a w)) reply.Nothing (word_kept (told_reader r a) w e ∙ keep_more r a w f))
-        ∙ quiet_first reply.Nothing (run hears (told_reader r (more a w)) words (length out)) out
-        ∙ ap (in_front 1 reply.Nothing) ih
+        (ap (λ (x : Ran ToldReader Both). counted hears_line x out) (run_kept (told_reader r a) w words (length out) (told_reader r (more a w)) None (word_kept (told_reader r a) w e ∙ keep_more r a w f))
+        ∙ quiet_first None (run hears (told_reader r (more a w)) words (length out)) out
+        ∙ ap (in_front 1 None) ih
         ∙ ahead_one (front_of (more a w) words) (line report.reads_line r (drop (front_of (more a w) words).taken words) out)
         ∙ ap (λ (l : List ℕ). assembled (ahead 1 (front_of (more a w) words)) (line report.reads_line r l out)) (drop_one w words (front_of (more a w) words).taken))
     go false e u f ih = rw e (counted_passed a r w words out g e)

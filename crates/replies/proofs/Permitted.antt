@@ -1,4 +1,5 @@
 -- "Each public operation's promise determines one answer, and every number in the lent slice after it, refused or not".
+use Rattle.std.proofs.Common.{Option, None, Some}
 use Prim.Native.Nat.{ℕ}
 use mathlib.Core.Path.{◌≡◌, refl, sym, ◌∙◌, ap}
 use mathlib.Core.Bool.{Bool, cond}
@@ -20,25 +21,25 @@ use Rattle.replies.specs.declared.Heard.{Heard}
 use Rattle.replies.specs.declared.HeardLine.{HeardLine}
 
 -- what became of a reply is told by its numbers
-abbrev reply_of : List ℕ → Reply
+abbrev reply_of : List ℕ → Option Reply
 reply_of l =
     let n = get_or l 0 0 in
-    cond (eqb n 0) reply.Nothing
-    (cond (eqb n 1) reply.Ack
-    (cond (eqb n 2) (reply.Format (get_or l 1 0))
-    (cond (eqb n 3) (reply.Letters (get_or l 1 0) (get_or l 2 0))
-    (cond (eqb n 4) (reply.Buttons (get_or l 1 0))
-    (reply.Broken (came (get_or l 1 0) (get_or l 2 0) (get_or l 3 0)))))))
+    cond (eqb n 0) None
+    (cond (eqb n 1) (Some reply.Ack)
+    (cond (eqb n 2) (Some (reply.Format (get_or l 1 0)))
+    (cond (eqb n 3) (Some (reply.Letters (get_or l 1 0) (get_or l 2 0)))
+    (cond (eqb n 4) (Some (reply.Buttons (get_or l 1 0)))
+    (Some (reply.Broken (came (get_or l 1 0) (get_or l 2 0) (get_or l 3 0))))))))
 
-reply_is : (r : Reply) → reply_of (reply_numbers r) ≡ r
-reply_is reply.Nothing = refl
-reply_is reply.Ack = refl
-reply_is (reply.Format f) = refl
-reply_is (reply.Letters f m) = refl
-reply_is (reply.Buttons n) = refl
-reply_is (reply.Broken c) = refl
+reply_is : (r : Option Reply) → reply_of (reply_numbers r) ≡ r
+reply_is None = refl
+reply_is (Some reply.Ack) = refl
+reply_is (Some (reply.Format f)) = refl
+reply_is (Some (reply.Letters f m)) = refl
+reply_is (Some (reply.Buttons n)) = refl
+reply_is (Some (reply.Broken c)) = refl
 
-by_reply : (p q : Reply) → reply_numbers p ≡ reply_numbers q → p ≡ q
+by_reply : (p q : Option Reply) → reply_numbers p ≡ reply_numbers q → p ≡ q
 by_reply p q e = sym (reply_is p) ∙ ap reply_of e ∙ reply_is q
 
 -- so that what the promises permit is their definitions' answer

@@ -1,4 +1,5 @@
 -- What one word does to a good reader, case by case, and what a good reply that is awaited has.
+use Rattle.std.proofs.Common.{Option, None, Some}
 use Prim.Native.Nat.{ℕ, ◌+◌, ◌*◌, ◌<◌}
 use mathlib.Core.Path.{◌≡◌, refl}
 use mathlib.Core.Bool.{Bool, true, false, ◌&&◌}
@@ -28,7 +29,6 @@ use Rattle.replies.specs.declared.Kind.{Kind}
 use Rattle.replies.specs.declared.Kind.TheVariants as kind
 use Rattle.replies.specs.declared.Came.{Came}
 use Rattle.replies.specs.declared.Awaited.{Awaited}
-use Rattle.replies.specs.declared.Reply.TheVariants as reply
 use Rattle.replies.specs.declared.ToldReader.{ToldReader}
 use Rattle.replies.specs.declared.Heard.{Heard}
 use Rattle.replies.proofs.Lines.{word_kept, keep_last, keep_more, word_passes}
@@ -48,7 +48,7 @@ module _ (P : Heard → Type 0) (s : ToldReader) (w : ℕ) (g : readers.good s.r
   own = report.word_of s.reader w
 
   pub by_word : (continues s.awaited w ≡ true → finishes s.awaited ≡ true → P (heard (told_reader s.reader nothing) (told s.awaited w) answer.Nothing))
-      → (continues s.awaited w ≡ true → finishes s.awaited ≡ false → P (heard (told_reader s.reader (more s.awaited w)) reply.Nothing answer.Nothing))
+      → (continues s.awaited w ≡ true → finishes s.awaited ≡ false → P (heard (told_reader s.reader (more s.awaited w)) None answer.Nothing))
       → (continues s.awaited w ≡ false → own.refusal ≡ success → P (heard (told_reader own.next nothing) (broken s.awaited) own.answer))
       → (continues s.awaited w ≡ false → silence < w → P (refusing bad_word s))
       → P (word_of s w)
@@ -62,7 +62,7 @@ module _ (P : Heard → Type 0) (s : ToldReader) (w : ℕ) (g : readers.good s.r
           (⊎_elim (λ z. rw (eq-eqb own.refusal success z) (passes e z)) (λ b. rw (ne_eqb own.refusal success (λ z. omega (arith, b.0)), b.0) (bad e b.1)) (kept.word_number s.reader w))
 
 -- a reply of which no byte has come is good
-pub awaiting_good : (k : Kind) → replying.good (awaiting k none) ≡ true
+pub awaiting_good : (k : Option Kind) → replying.good (awaiting k none) ≡ true
 unfolding replying.good placed
 awaiting_good k = refl
 
@@ -79,51 +79,51 @@ abbrev OneMore : Awaited → Awaited → Type 0
 OneMore a b = (replying.good b ≡ true) × (b.came.count ≡ a.came.count + 1)
 
 -- where it is the first, and where one has come
-first_more : (k : Kind) (c : Came) (w : ℕ) → c.count ≡ 0 → replying.good (awaiting k (came 1 w 0)) ≡ true → OneMore (awaiting k c) (more (awaiting k c) w)
+first_more : (k : Option Kind) (c : Came) (w : ℕ) → c.count ≡ 0 → replying.good (awaiting k (came 1 w 0)) ≡ true → OneMore (awaiting k c) (more (awaiting k c) w)
 unfolding more
 first_more k c w z h = rw z (h, refl)
 
-next_more : (k : Kind) (c : Came) (w : ℕ) → c.count ≡ 1 → replying.good (awaiting k (came 2 c.first w)) ≡ true → OneMore (awaiting k c) (more (awaiting k c) w)
+next_more : (k : Option Kind) (c : Came) (w : ℕ) → c.count ≡ 1 → replying.good (awaiting k (came 2 c.first w)) ≡ true → OneMore (awaiting k c) (more (awaiting k c) w)
 unfolding more
 next_more k c w z h = rw z (h, refl)
 
-more_by : (k : Kind) (c : Came) (w : ℕ) → replying.good (awaiting k c) ≡ true → fits k c.count w ≡ true → finishes (awaiting k c) ≡ false → OneMore (awaiting k c) (more (awaiting k c) w)
+more_by : (k : Option Kind) (c : Came) (w : ℕ) → replying.good (awaiting k c) ≡ true → fits k c.count w ≡ true → finishes (awaiting k c) ≡ false → OneMore (awaiting k c) (more (awaiting k c) w)
 unfolding replying.good placed fits
-more_by kind.Nothing c w g e f = absurd (holds e)
-more_by kind.Ack c w g e f = let n = eqb-false (c.count + 1) 1 f in absurd (⊎_elim (λ z. n (omega arith)) (λ l. n (omega arith)) (few (awaiting kind.Ack c) g))
-more_by kind.Code c w g e f = let n = eqb-false (c.count + 1) 1 f in absurd (⊎_elim (λ z. n (omega arith)) (λ l. n (omega arith)) (few (awaiting kind.Code c) g))
-more_by kind.Letters c w g e f =
+more_by None c w g e f = absurd (holds e)
+more_by (Some kind.Ack) c w g e f = let n = eqb-false (c.count + 1) 1 f in absurd (⊎_elim (λ z. n (omega arith)) (λ l. n (omega arith)) (few (awaiting (Some kind.Ack) c) g))
+more_by (Some kind.Code) c w g e f = let n = eqb-false (c.count + 1) 1 f in absurd (⊎_elim (λ z. n (omega arith)) (λ l. n (omega arith)) (few (awaiting (Some kind.Code) c) g))
+more_by (Some kind.Letters) c w g e f =
     let n = eqb-false (c.count + 1) 2 f in
-    let z : c.count ≡ 0 = ⊎_elim (λ z. z) (λ l. omega arith) (few (awaiting kind.Letters c) g) in
-    first_more kind.Letters c w z (both (replying.letter_fits 0 w) true (rw z at e) refl)
-more_by kind.Buttons c w g e f =
+    let z : c.count ≡ 0 = ⊎_elim (λ z. z) (λ l. omega arith) (few (awaiting (Some kind.Letters) c) g) in
+    first_more (Some kind.Letters) c w z (both (replying.letter_fits 0 w) true (rw z at e) refl)
+more_by (Some kind.Buttons) c w g e f =
     let n = eqb-false (c.count + 1) 3 f in
-    ⊎_elim (λ z. first_more kind.Buttons c w z refl)
+    ⊎_elim (λ z. first_more (Some kind.Buttons) c w z refl)
     (λ l. go (eqb c.count 0) refl (λ d. omega (arith, n, eqb-false c.count 0 d)))
-    (few (awaiting kind.Buttons c) g)
+    (few (awaiting (Some kind.Buttons) c) g)
   where
-    go : (t : Bool) → eqb c.count 0 ≡ t → (t ≡ false → c.count ≡ 1) → OneMore (awaiting kind.Buttons c) (more (awaiting kind.Buttons c) w)
-    go true z one = first_more kind.Buttons c w (eqb-true c.count 0 z) refl
-    go false z one = next_more kind.Buttons c w (one refl) refl
+    go : (t : Bool) → eqb c.count 0 ≡ t → (t ≡ false → c.count ≡ 1) → OneMore (awaiting (Some kind.Buttons) c) (more (awaiting (Some kind.Buttons) c) w)
+    go true z one = first_more (Some kind.Buttons) c w (eqb-true c.count 0 z) refl
+    go false z one = next_more (Some kind.Buttons) c w (one refl) refl
 
 pub more_good : (a : Awaited) (w : ℕ) → replying.good a ≡ true → continues a w ≡ true → finishes a ≡ false → OneMore a (more a w)
 more_good a w g e f = more_by a.kind a.came w g (right (is_byte w) (fitting a w) e) f
 
 -- the bytes of a whole reply, and of a broken one
-pub told_bytes : (k : Kind) (c : Came) (w : ℕ) → whole_bytes (told (awaiting k c) w) + broken_bytes (told (awaiting k c) w) ≡ size_of k
-told_bytes kind.Nothing c w = refl
-told_bytes kind.Ack c w = refl
-told_bytes kind.Code c w = refl
-told_bytes kind.Letters c w = refl
-told_bytes kind.Buttons c w = refl
+pub told_bytes : (k : Option Kind) (c : Came) (w : ℕ) → whole_bytes (told (awaiting k c) w) + broken_bytes (told (awaiting k c) w) ≡ size_of k
+told_bytes None c w = refl
+told_bytes (Some kind.Ack) c w = refl
+told_bytes (Some kind.Code) c w = refl
+told_bytes (Some kind.Letters) c w = refl
+told_bytes (Some kind.Buttons) c w = refl
 
-broken_by : (k : Kind) (c : Came) → replying.good (awaiting k c) ≡ true → whole_bytes (broken (awaiting k c)) + broken_bytes (broken (awaiting k c)) ≡ c.count
+broken_by : (k : Option Kind) (c : Came) → replying.good (awaiting k c) ≡ true → whole_bytes (broken (awaiting k c)) + broken_bytes (broken (awaiting k c)) ≡ c.count
 unfolding broken
-broken_by kind.Nothing c g = ⊎_elim (λ z. omega arith) (λ l. omega arith) (few (awaiting kind.Nothing c) g)
-broken_by kind.Ack c g = omega arith
-broken_by kind.Code c g = omega arith
-broken_by kind.Letters c g = omega arith
-broken_by kind.Buttons c g = omega arith
+broken_by None c g = ⊎_elim (λ z. omega arith) (λ l. omega arith) (few (awaiting None c) g)
+broken_by (Some kind.Ack) c g = omega arith
+broken_by (Some kind.Code) c g = omega arith
+broken_by (Some kind.Letters) c g = omega arith
+broken_by (Some kind.Buttons) c g = omega arith
 
 pub broken_bytes_lem : (a : Awaited) → replying.good a ≡ true → whole_bytes (broken a) + broken_bytes (broken a) ≡ a.came.count
 broken_bytes_lem a g = broken_by a.kind a.came g
@@ -140,12 +140,12 @@ pub word_fine : (s : ToldReader) (w : ℕ) → good s ≡ true → Fine s (word_
 word_fine s w g =
     let h = good_reader s g in
     by_word (Fine s) s w h
-    (λ e f. (made (told_reader s.reader nothing) h (awaiting_good kind.Nothing), refl))
+    (λ e f. (made (told_reader s.reader nothing) h (awaiting_good None), refl))
     (λ e f. (made (told_reader s.reader (more s.awaited w)) h (more_good s.awaited w (good_awaited s g) e f).0, refl))
-    (λ e z. (made (told_reader (report.word_of s.reader w).next nothing) (word_good s.reader h w) (awaiting_good kind.Nothing), word_format s.reader w))
+    (λ e z. (made (told_reader (report.word_of s.reader w).next nothing) (word_good s.reader h w) (awaiting_good None), word_format s.reader w))
     (λ e b. (g, refl))
 
-pub told_fine : (s : ToldReader) (k : Kind) → good s ≡ true → good (told_reader s.reader (awaiting k none)) ≡ true
+pub told_fine : (s : ToldReader) (k : Option Kind) → good s ≡ true → good (told_reader s.reader (awaiting k none)) ≡ true
 told_fine s k g = made (told_reader s.reader (awaiting k none)) (good_reader s g) (awaiting_good k)
 
 -- its bytes, and those kept before, are in a report, dropped, of a whole reply or a broken one, or kept after

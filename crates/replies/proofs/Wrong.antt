@@ -1,4 +1,5 @@
 -- Wrong answers, two for each promise, that it does not permit.
+use Rattle.std.proofs.Common.{None, Some}
 use mathlib.Core.Path.{ap, sym}
 use mathlib.Core.Bool.{true, false}
 use mathlib.Core.List.{[], ◌∷◌}
@@ -32,7 +33,7 @@ unfolding computing
 fresh_not_refused e = omega (arith, ap (λ (n : NewToldReader). n.refusal) e)
 
 -- a reader that has a mode where the format stands called good; and a fresh one not
-pub good_bad_letter : GoodPromise (told_reader (ready 0x55) (awaiting kind.Letters (came 1 0x4F 0))) true → ⊥
+pub good_bad_letter : GoodPromise (told_reader (ready 0x55) (awaiting (Some kind.Letters) (came 1 0x4F 0))) true → ⊥
 unfolding computing
 good_bad_letter e = holds (sym e)
 
@@ -45,25 +46,25 @@ pub tell_takes_p : TellPromise ready_u (Command letter_p) (telling_of 0 ready_u 
 unfolding computing
 tell_takes_p e = omega (arith, ap (λ (t : Telling). t.refusal) e)
 
-pub tell_keeps_old : TellPromise (told_reader (ready 0x55) (awaiting kind.Letters (came 1 0x55 0))) (Command letterf) (telling_of 0 (told_reader (ready 0x55) (awaiting kind.Letters (came 1 0x55 0))) 0) → ⊥
+pub tell_keeps_old : TellPromise (told_reader (ready 0x55) (awaiting (Some kind.Letters) (came 1 0x55 0))) (Command letterf) (telling_of 0 (told_reader (ready 0x55) (awaiting (Some kind.Letters) (came 1 0x55 0))) 0) → ⊥
 unfolding computing
 tell_keeps_old e = omega (arith, ap (λ (t : Telling). t.discarded) e)
 
 -- an `f` byte of no format accepted; and the byte that broke the reply not given to the report reader
-pub step_takes_18 : StepPromise (told_reader (ready 0x55) (awaiting kind.Code none)) 0x18 (heard ready_u (reply.Format 0x55) answer.Nothing) → ⊥
+pub step_takes_18 : StepPromise (told_reader (ready 0x55) (awaiting (Some kind.Code) none)) 0x18 (heard ready_u (Some (reply.Format 0x55)) answer.Nothing) → ⊥
 unfolding computing
 step_takes_18 e = omega (arith, ap (λ (o : Step). get_or o.reply 0 0) e)
 
-pub step_keeps_breaker : StepPromise (told_reader (reader 0x53 (0x94 ∷ 0x05 ∷ 0 ∷ 0 ∷ 0 ∷ []) 2 false) (awaiting kind.Letters none)) 0x03
-    (heard (told_reader (reader 0x53 (0x94 ∷ 0x05 ∷ 0 ∷ 0 ∷ 0 ∷ []) 2 false) nothing) (reply.Broken none) answer.Nothing) → ⊥
+pub step_keeps_breaker : StepPromise (told_reader (reader 0x53 (0x94 ∷ 0x05 ∷ 0 ∷ 0 ∷ 0 ∷ []) 2 false) (awaiting (Some kind.Letters) none)) 0x03
+    (heard (told_reader (reader 0x53 (0x94 ∷ 0x05 ∷ 0 ∷ 0 ∷ 0 ∷ []) 2 false) nothing) (Some (reply.Broken none)) answer.Nothing) → ⊥
 unfolding computing
 step_keeps_breaker e = omega (arith, ap (λ (o : Step). o.next.reader.count) e)
 
 -- a reply read and not told; and one that is told whole at its first byte
-pub read_untold : ReadPromise (told_reader (ready 0x55) (awaiting kind.Code none)) (0x10 ∷ []) [] (record { refusal = 0; next = ready_u; taken = 1; reports = 0; dropped = 0; reply = reply.Nothing }) [] → ⊥
+pub read_untold : ReadPromise (told_reader (ready 0x55) (awaiting (Some kind.Code) none)) (0x10 ∷ []) [] (record { refusal = 0; next = ready_u; taken = 1; reports = 0; dropped = 0; reply = None }) [] → ⊥
 unfolding computing
 read_untold e = omega (arith, ap (λ (l : Left). get_or l.reply 0 0) e)
 
-pub read_too_soon : ReadPromise (told_reader (ready 0x55) (awaiting kind.Letters none)) (0x55 ∷ []) [] (record { refusal = 0; next = ready_u; taken = 1; reports = 0; dropped = 0; reply = reply.Letters 0x55 0x4F }) [] → ⊥
+pub read_too_soon : ReadPromise (told_reader (ready 0x55) (awaiting (Some kind.Letters) none)) (0x55 ∷ []) [] (record { refusal = 0; next = ready_u; taken = 1; reports = 0; dropped = 0; reply = Some (reply.Letters 0x55 0x4F) }) [] → ⊥
 unfolding computing
 read_too_soon e = omega (arith, ap (λ (l : Left). get_or l.reply 0 0) e)

@@ -1,5 +1,6 @@
 -- "Over many words": a line of words, word by word, and a lent slice.
-use Rattle.std.specs.Prelude.{ℕ, ◌+◌, ◌*◌, ◌≤◌, List, [], ◌∷◌, ◌++◌, map, length, ℤ}
+use Rattle.std.specs.Prelude.{ℕ, ◌+◌, ◌*◌, ◌≤◌, List, [], ◌∷◌, ◌++◌, map, length, ℤ, Option, None, Some}
+use Rattle.std.specs.Option.{option_or}
 use Rattle.fold.specs.Fold.{Machine}
 use Rattle.fold.specs.Calls.{Call}
 use Rattle.fold.specs.Calls as calls
@@ -9,13 +10,12 @@ use Rattle.reader.specs.declared.Answer.{Answer}
 use Rattle.replies.specs.Good.{good}
 use Rattle.replies.specs.Rules.{word_of}
 use Rattle.replies.specs.declared.Reply.{Reply}
-use Rattle.replies.specs.declared.Reply.TheVariants as reply
 use Rattle.replies.specs.declared.ToldReader.{ToldReader}
 use Rattle.replies.specs.declared.HeardLine.{HeardLine}
 
 -- the answer to a word: what became of the reply, and the report reader's own
 pub record Both : Type 0 where
-  pub reply : Reply
+  pub reply : Option Reply
   pub answer : Answer
 
 -- the reader as a machine over the words of a line
@@ -29,26 +29,17 @@ hears =
     }
 
 -- what became of the reply, of which there is at most one in a call: the first that tells something
-abbrev pub or_else : Reply → Reply → Reply
-or_else reply.Nothing second = second
-or_else reply.Ack second = reply.Ack
-or_else (reply.Format f) second = reply.Format f
-or_else (reply.Letters f m) second = reply.Letters f m
-or_else (reply.Buttons n) second = reply.Buttons n
-or_else (reply.Broken came) second = reply.Broken came
+abbrev pub or_else : Option Reply → Option Reply → Option Reply
+or_else first second = option_or first second
 
-abbrev pub reply_among : List Both → Reply
-reply_among [] = reply.Nothing
+abbrev pub reply_among : List Both → Option Reply
+reply_among [] = None
 reply_among (a ∷ answers) = or_else a.reply (reply_among answers)
 
 -- the replies among answers, whole or broken, in their order
-abbrev pub told_in : Reply → List Reply
-told_in reply.Nothing = []
-told_in reply.Ack = reply.Ack ∷ []
-told_in (reply.Format f) = reply.Format f ∷ []
-told_in (reply.Letters f m) = reply.Letters f m ∷ []
-told_in (reply.Buttons n) = reply.Buttons n ∷ []
-told_in (reply.Broken came) = reply.Broken came ∷ []
+abbrev pub told_in : Option Reply → List Reply
+told_in None = []
+told_in (Some r) = r ∷ []
 
 abbrev pub replies_among : List Both → List Reply
 replies_among [] = []
@@ -61,9 +52,9 @@ own_answers answers = map (λ (a : Both). a.answer) answers
 pub record Counts : Type 0 where
   pub reports : ℕ
   pub dropped : ℕ
-  pub reply : Reply
+  pub reply : Option Reply
 
-abbrev pub counts : ℕ → ℕ → Reply → Counts
+abbrev pub counts : ℕ → ℕ → Option Reply → Counts
 counts reports dropped reply = record { reports = reports; dropped = dropped; reply = reply }
 
 -- the long read: a report has five numbers. It stops, with answer 0, before a word that would finish a report when fewer
@@ -73,7 +64,7 @@ hears_line =
     record {
       machine = hears;
       tally = record {
-        none = counts 0 0 reply.Nothing;
+        none = counts 0 0 None;
         plus = λ j k. counts (j.reports + k.reports) (j.dropped + k.dropped) (or_else j.reply k.reply);
         of = λ a. counts (reports_in a.answer) (dropped_in a.answer) a.reply;
         places = λ k. 5 * k.reports;

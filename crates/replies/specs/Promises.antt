@@ -1,5 +1,5 @@
 -- What is promised of `ToldReader::fresh`, `good`, `tell`, `step` and `read`. "Refusals: 12 for a command that has no reply, tested after 6."
-use Rattle.std.specs.Prelude.{ℕ, ◌≡◌, Bool, not, cond, List, [], ◌∷◌, take, ℤ}
+use Rattle.std.specs.Prelude.{ℕ, ◌≡◌, Bool, not, cond, List, [], ◌∷◌, take, ℤ, Option, None, Some}
 use Rattle.fold.specs.Calls.{stopped, with_refusal, call}
 use Rattle.wire.specs.Numbers.{success, bad_state, bad_word, RefusesRightly}
 use Rattle.reader.specs.State.{numbers_of}
@@ -52,13 +52,13 @@ TellRefusal s answer = RefusesRightly (λ (t : Telling). t.refusal) (telling_of 
 
 -- for each case of what became of a reply its number and values: 0 nothing yet, 1 ACK, 2 and the format, 3 and format
 -- and mode, 4 and the buttons, 5 and the bytes of a broken one, how many and which
-abbrev pub reply_numbers : Reply → List ℕ
-reply_numbers reply.Nothing = 0 ∷ []
-reply_numbers reply.Ack = 1 ∷ []
-reply_numbers (reply.Format f) = 2 ∷ f ∷ []
-reply_numbers (reply.Letters f m) = 3 ∷ f ∷ m ∷ []
-reply_numbers (reply.Buttons n) = 4 ∷ n ∷ []
-reply_numbers (reply.Broken came) = 5 ∷ came.count ∷ came.first ∷ came.second ∷ []
+abbrev pub reply_numbers : Option Reply → List ℕ
+reply_numbers None = 0 ∷ []
+reply_numbers (Some reply.Ack) = 1 ∷ []
+reply_numbers (Some (reply.Format f)) = 2 ∷ f ∷ []
+reply_numbers (Some (reply.Letters f m)) = 3 ∷ f ∷ m ∷ []
+reply_numbers (Some (reply.Buttons n)) = 4 ∷ n ∷ []
+reply_numbers (Some (reply.Broken came)) = 5 ∷ came.count ∷ came.first ∷ came.second ∷ []
 
 -- a word: 6 before "a line word above 257", 4
 unfoldable pub step_of : ToldReader → ℕ → Heard

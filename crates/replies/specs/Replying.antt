@@ -1,6 +1,6 @@
 -- The reply that is awaited: "Only the seven `f` bytes and the `t` pairs of a known format and mode are accepted; of
 -- 05H all but the low three bits of byte 1 is ignored."
-use Rattle.std.specs.Prelude.{ℕ, ◌+◌, ◌*◌, ◌%◌, Bool, true, false, not, cond, ◌&&◌, ◌||◌, eqb, ltb}
+use Rattle.std.specs.Prelude.{ℕ, ◌+◌, ◌*◌, ◌%◌, Bool, true, false, not, cond, ◌&&◌, ◌||◌, eqb, ltb, Option, None, Some}
 use Rattle.wire.specs.Line.{letter_of, known}
 use Rattle.wire.specs.declared.Format.{Format}
 use Rattle.wire.specs.declared.Format.TheVariants.{Mm, Microsoft, Absolute, Relative, FiveByte, ThreeByte, Hexadecimal}
@@ -20,27 +20,24 @@ came count first second = record { count = count; first = first; second = second
 abbrev pub none : Came
 none = came 0 0 0
 
-abbrev pub awaiting : Kind → Came → Awaited
+abbrev pub awaiting : Option Kind → Came → Awaited
 awaiting kind came = record { kind = kind; came = came }
 
 -- no reply is awaited
 abbrev pub nothing : Awaited
-nothing = awaiting kind.Nothing none
+nothing = awaiting None none
 
-abbrev pub is_none : Kind → Bool
-is_none kind.Nothing = true
-is_none kind.Ack = false
-is_none kind.Code = false
-is_none kind.Letters = false
-is_none kind.Buttons = false
+abbrev pub is_none : Option Kind → Bool
+is_none None = true
+is_none (Some k) = false
 
 -- "Space: ACK. `f`: one byte [..]. `t`: format letter, mode letter. 05H: buttons, 0, 0."
-abbrev pub size_of : Kind → ℕ
-size_of kind.Nothing = 0
-size_of kind.Ack = 1
-size_of kind.Code = 1
-size_of kind.Letters = 2
-size_of kind.Buttons = 3
+abbrev pub size_of : Option Kind → ℕ
+size_of None = 0
+size_of (Some kind.Ack) = 1
+size_of (Some kind.Code) = 1
+size_of (Some kind.Letters) = 2
+size_of (Some kind.Buttons) = 3
 
 -- "10H plus twice the code": the byte that tells a format, and the letter of the format that a byte tells, 0 where it is none of the seven
 abbrev pub code_byte_of : Format → ℕ
@@ -65,12 +62,12 @@ unfoldable pub letter_fits : ℕ → ℕ → Bool
 letter_fits place byte = cond (eqb place 0) (known byte) (is_mode byte)
 
 -- the byte may stand at this place of the reply
-unfoldable pub fits : Kind → ℕ → ℕ → Bool
-fits kind.Nothing place byte = false
-fits kind.Ack place byte = eqb byte 0x06
-fits kind.Code place byte = not (eqb (letter_of_code byte) 0)
-fits kind.Letters place byte = letter_fits place byte
-fits kind.Buttons place byte = true
+unfoldable pub fits : Option Kind → ℕ → ℕ → Bool
+fits None place byte = false
+fits (Some kind.Ack) place byte = eqb byte 0x06
+fits (Some kind.Code) place byte = not (eqb (letter_of_code byte) 0)
+fits (Some kind.Letters) place byte = letter_fits place byte
+fits (Some kind.Buttons) place byte = true
 
 -- it is the next byte of the reply, and the last
 abbrev pub fitting : Awaited → ℕ → Bool
@@ -84,19 +81,19 @@ unfoldable pub more : Awaited → ℕ → Awaited
 more a byte = awaiting a.kind (cond (eqb a.came.count 0) (came 1 byte 0) (came 2 a.came.first byte))
 
 -- what the reply tells, with its last byte
-abbrev pub told_by : Kind → Came → ℕ → Reply
-told_by kind.Nothing came byte = reply.Nothing
-told_by kind.Ack came byte = reply.Ack
-told_by kind.Code came byte = reply.Format (letter_of_code byte)
-told_by kind.Letters came byte = reply.Letters came.first byte
-told_by kind.Buttons came byte = reply.Buttons (came.first % 8)
+abbrev pub told_by : Option Kind → Came → ℕ → Option Reply
+told_by None came byte = None
+told_by (Some kind.Ack) came byte = Some reply.Ack
+told_by (Some kind.Code) came byte = Some (reply.Format (letter_of_code byte))
+told_by (Some kind.Letters) came byte = Some (reply.Letters came.first byte)
+told_by (Some kind.Buttons) came byte = Some (reply.Buttons (came.first % 8))
 
-abbrev pub told : Awaited → ℕ → Reply
+abbrev pub told : Awaited → ℕ → Option Reply
 told a byte = told_by a.kind a.came byte
 
 -- it is broken, behind the bytes that have come
-unfoldable pub broken : Awaited → Reply
-broken a = cond (is_none a.kind) reply.Nothing (reply.Broken a.came)
+unfoldable pub broken : Awaited → Option Reply
+broken a = cond (is_none a.kind) None (Some (reply.Broken a.came))
 
 -- a good one: fewer bytes have come than the reply has, each is valid in its place, and the rest is 0
 abbrev pub below_size : Awaited → Bool

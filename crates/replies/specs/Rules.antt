@@ -1,5 +1,5 @@
 -- What a telling and a word do: "It is told the command just sent [..] and reads exactly that reply, then hands over to the report reader."
-use Rattle.std.specs.Prelude.{ℕ, Bool, cond, ◌&&◌, eqb}
+use Rattle.std.specs.Prelude.{ℕ, Bool, cond, ◌&&◌, eqb, Option, None, Some}
 use Rattle.frames.specs.Words.{is_byte}
 use Rattle.wire.specs.Numbers.{success}
 use Rattle.reader.specs.Promises as reader
@@ -15,7 +15,6 @@ use Rattle.replies.specs.declared.Asked.{Asked}
 use Rattle.replies.specs.declared.Asked.TheVariants.{Command, Waking}
 use Rattle.replies.specs.declared.Awaited.{Awaited}
 use Rattle.replies.specs.declared.Reply.{Reply}
-use Rattle.replies.specs.declared.Reply.TheVariants as reply
 use Rattle.replies.specs.declared.ToldReader.{ToldReader}
 use Rattle.replies.specs.declared.Heard.{Heard}
 
@@ -23,34 +22,34 @@ abbrev pub told_reader : Reader → Awaited → ToldReader
 told_reader r a = record { reader = r; awaited = a }
 
 -- "(space, `f`, `t`, 05H, or the byte that woke a dormant box)"; no other command has a reply
-unfoldable pub reply_to : ℕ → Kind
+unfoldable pub reply_to : ℕ → Option Kind
 reply_to byte =
-    cond (eqb byte space) kind.Ack
-    (cond (eqb byte letterf) kind.Code
-    (cond (eqb byte lettert) kind.Letters
-    (cond (eqb byte byte05) kind.Buttons
-    kind.Nothing)))
+    cond (eqb byte space) (Some kind.Ack)
+    (cond (eqb byte letterf) (Some kind.Code)
+    (cond (eqb byte lettert) (Some kind.Letters)
+    (cond (eqb byte byte05) (Some kind.Buttons)
+    None)))
 
-abbrev pub kind_of : Asked → Kind
+abbrev pub kind_of : Asked → Option Kind
 kind_of (Command byte) = reply_to byte
-kind_of Waking = kind.Ack
+kind_of Waking = (Some kind.Ack)
 
 -- "A new telling replaces an unfinished one."
 abbrev pub telling : Asked → ToldReader → ToldReader
 telling asked s = told_reader s.reader (awaiting (kind_of asked) none)
 
-abbrev pub heard : ToldReader → Reply → Answer → Heard
+abbrev pub heard : ToldReader → Option Reply → Answer → Heard
 heard next reply answer = record { refusal = success; next = next; reply = reply; answer = answer }
 
 -- "A refusal returns the old state", and answers nothing
 abbrev pub refusing : ℕ → ToldReader → Heard
-refusing n s = record { refusal = n; next = s; reply = reply.Nothing; answer = answer.Nothing }
+refusing n s = record { refusal = n; next = s; reply = None; answer = answer.Nothing }
 
 -- the next byte of the reply; the last tells it. The report reader stays as it was.
 unfoldable pub keep : ToldReader → ℕ → Heard
 keep s byte =
     cond (finishes s.awaited) (heard (told_reader s.reader nothing) (told s.awaited byte) answer.Nothing)
-    (heard (told_reader s.reader (more s.awaited byte)) reply.Nothing answer.Nothing)
+    (heard (told_reader s.reader (more s.awaited byte)) None answer.Nothing)
 
 -- "256, 257 or any other byte before the reply is whole ends it as broken, and that word goes to the report reader"
 abbrev pub passed : ToldReader → Read → Heard

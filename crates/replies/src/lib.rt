@@ -23,10 +23,9 @@ pub enum Asked {
     Waking,
 }
 
-// The reply that is awaited: none, or that to a space or a waking byte, to `f`, to `t` or to 05H.
+// A reply that may be awaited: that to a space or a waking byte, to `f`, to `t` or to 05H.
 #[derive(Clone, Copy, Drop)]
 pub enum Kind {
-    Nothing,
     Ack,
     Code,
     Letters,
@@ -42,10 +41,10 @@ pub struct Came {
     pub second: u8,
 }
 
-// A reply that is awaited, and what has come of it.
+// The reply that is awaited, if any, and what has come of it.
 #[derive(Clone, Copy, Drop)]
 pub struct Awaited {
-    pub kind: Kind,
+    pub kind: Option<Kind>,
     pub came: Came,
 }
 
@@ -56,10 +55,9 @@ pub struct ToldReader {
     pub awaited: Awaited,
 }
 
-// What became of a reply: nothing yet; it is whole, with the format, the format and the mode, or the buttons that it tells; it was broken, behind these bytes.
+// What became of a reply: it is whole, with the format, the format and the mode, or the buttons that it tells; or it was broken, behind these bytes.
 #[derive(Clone, Copy, Drop)]
 pub enum Reply {
-    Nothing,
     Ack,
     Format(u8),
     Letters(u8, u8),
@@ -82,12 +80,12 @@ pub struct Telling {
     pub discarded: u8,
 }
 
-// What a word gives back: what became of the reply, and the report reader's own answer.
+// What a word gives back: what became of the reply, where anything did, and the report reader's own answer.
 #[derive(Clone, Copy, Drop)]
 pub struct Heard {
     pub refusal: u8,
     pub next: ToldReader,
-    pub reply: Reply,
+    pub reply: Option<Reply>,
     pub answer: Answer,
 }
 
@@ -99,7 +97,7 @@ pub struct HeardLine {
     pub taken: usize,
     pub reports: usize,
     pub dropped: usize,
-    pub reply: Reply,
+    pub reply: Option<Reply>,
 }
 
 // The bytes of a reply at the front of a line: how many, what is awaited behind them, and the reply, where it is whole.
@@ -107,7 +105,7 @@ pub struct HeardLine {
 pub(crate) struct Front {
     pub awaited: Awaited,
     pub taken: usize,
-    pub reply: Reply,
+    pub reply: Option<Reply>,
 }
 
 impl ToldReader {
@@ -147,7 +145,7 @@ impl ToldReader {
                 discarded: 0,
             };
         }
-        if next.is_none() {
+        if next.kind.is_none() {
             return Telling {
                 refusal: NO_REPLY,
                 next: self,
@@ -185,7 +183,7 @@ impl ToldReader {
                 taken: 0,
                 reports: 0,
                 dropped: 0,
-                reply: Reply::Nothing,
+                reply: None,
             };
         }
         self.line(words, out)

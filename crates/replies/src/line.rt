@@ -2,34 +2,20 @@
 ghost use Rattle.std.specs.Prelude.{◌≡◌, true};
 ghost use Rattle.reader.specs.Good.{good};
 ghost use Rattle.fold.specs.Calls.{line};
-ghost use Rattle.replies.specs.Line.{or_else, whole, hears_line};
+ghost use Rattle.replies.specs.Line.{whole, hears_line};
 ghost use Rattle.replies.specs.Fronts.{front, front_of, closed};
 
 use crate::replying::nothing;
 use crate::{Awaited, Front, HeardLine, Reply, ToldReader};
 
 // How far it goes.
-fn at_front(awaited: Awaited, taken: usize, reply: Reply) -> Front
+fn at_front(awaited: Awaited, taken: usize, reply: Option<Reply>) -> Front
     ensures { result ≡ front awaited taken reply }
 {
     Front {
-        awaited: awaited,
-        taken: taken,
-        reply: reply,
-    }
-}
-
-// The first of two that tells something.
-fn or_else(first: Reply, second: Reply) -> Reply
-    ensures { result ≡ or_else first second }
-{
-    match first {
-        Reply::Nothing => second,
-        Reply::Ack => first,
-        Reply::Format(f) => first,
-        Reply::Letters(f, m) => first,
-        Reply::Buttons(n) => first,
-        Reply::Broken(came) => first,
+        awaited,
+        taken,
+        reply,
     }
 }
 
@@ -39,21 +25,17 @@ impl Awaited {
         ensures { result ≡ front_of self words.now }
     {
         let mut awaited = self;
-        let mut at: usize = 0;
-        while at < words.len() {
-            let word = words[at];
-            if !awaited.continues(word) {
-                return at_front(awaited, at, Reply::Nothing);
+        for (at, word) in words.iter().enumerate() {
+            if !awaited.continues(*word) {
+                return at_front(awaited, at, None);
             }
-            let byte = (word % 256) as u8;
-            at = at + 1;
+            let byte = (*word % 256) as u8;
             if awaited.finishes() {
-                return at_front(nothing(), at, awaited.told(byte));
+                return at_front(nothing(), at + 1, awaited.told(byte));
             }
-            let next = awaited.more(byte);
-            awaited = next;
+            awaited = awaited.more(byte);
         }
-        at_front(awaited, at, Reply::Nothing)
+        at_front(awaited, words.len(), None)
     }
 }
 
@@ -62,12 +44,10 @@ impl Front {
     fn closed(self, taken: usize) -> Front
         ensures { result ≡ closed self taken }
     {
-        let pending = self.awaited;
-        let reply = self.reply;
         if taken == 0 {
             return self;
         }
-        at_front(nothing(), self.taken, or_else(reply, pending.broken()))
+        at_front(nothing(), self.taken, self.reply.or(self.awaited.broken()))
     }
 }
 
@@ -77,25 +57,19 @@ impl ToldReader {
         requires { good self.reader ≡ true }
         ensures { whole result out.new ≡ line hears_line self words.now out.old }
     {
-        let awaited = self.awaited;
-        let reader = self.reader;
-        let first = awaited.over(words);
-        let at = first.taken;
-        let rest = reader.read(&words[at..], out);
+        let first = self.awaited.over(words);
+        let rest = self.reader.read(&words[first.taken..], out);
         let then = first.closed(rest.taken);
-        let next = rest.next;
-        let pending = then.awaited;
-        let reply = then.reply;
         HeardLine {
             refusal: rest.refusal,
             next: ToldReader {
-                reader: next,
-                awaited: pending,
+                reader: rest.next,
+                awaited: then.awaited,
             },
-            taken: at + rest.taken,
+            taken: first.taken + rest.taken,
             reports: rest.reports,
             dropped: rest.dropped,
-            reply: reply,
+            reply: then.reply,
         }
     }
 }

@@ -1,6 +1,6 @@
 // What a telling and one word do to a good reader.
-ghost use Rattle.std.specs.Prelude.{◌≡◌};
-ghost use Rattle.replies.specs.Rules.{reply_to, kind_of, heard, refusing, keep, pass, word_of};
+ghost use Rattle.std.specs.Prelude.{◌≡◌, true};
+ghost use Rattle.replies.specs.Rules.{reply_to, kind_of, heard, refusing, keep, pass, continues, word_of};
 
 use crate::replying::nothing;
 use crate::{Asked, Heard, Kind, Reply, ToldReader};
@@ -8,38 +8,38 @@ use ballbox::{BYTE_05, LETTER_F, LETTER_T, SPACE};
 use reader::Answer;
 use wire::SUCCESS;
 
-// The reply that a command has.
-fn reply_to(byte: u8) -> Kind
+// The reply that a command has, if any.
+fn reply_to(byte: u8) -> Option<Kind>
     ensures { result ≡ reply_to byte }
 {
     match byte {
-        SPACE => Kind::Ack,
-        LETTER_F => Kind::Code,
-        LETTER_T => Kind::Letters,
-        BYTE_05 => Kind::Buttons,
-        _ => Kind::Nothing,
+        SPACE => Some(Kind::Ack),
+        LETTER_F => Some(Kind::Code),
+        LETTER_T => Some(Kind::Letters),
+        BYTE_05 => Some(Kind::Buttons),
+        _ => None,
     }
 }
 
 // The reply to what was just sent.
-pub(crate) fn kind_of(asked: Asked) -> Kind
+pub(crate) fn kind_of(asked: Asked) -> Option<Kind>
     ensures { result ≡ kind_of asked }
 {
     match asked {
         Asked::Command(byte) => reply_to(byte),
-        Asked::Waking => Kind::Ack,
+        Asked::Waking => Some(Kind::Ack),
     }
 }
 
 // What a word that is not refused gives.
-fn heard(next: ToldReader, reply: Reply, answer: Answer) -> Heard
+fn heard(next: ToldReader, reply: Option<Reply>, answer: Answer) -> Heard
     ensures { result ≡ heard next reply answer }
 {
     Heard {
         refusal: SUCCESS,
-        next: next,
-        reply: reply,
-        answer: answer,
+        next,
+        reply,
+        answer,
     }
 }
 
@@ -50,7 +50,7 @@ pub(crate) fn refusing(number: u8, reader: ToldReader) -> Heard
     Heard {
         refusal: number,
         next: reader,
-        reply: Reply::Nothing,
+        reply: None,
         answer: Answer::Nothing,
     }
 }
@@ -58,22 +58,21 @@ pub(crate) fn refusing(number: u8, reader: ToldReader) -> Heard
 impl ToldReader {
     // The next byte of the reply; the last tells it. The report reader stays as it was.
     fn keep(self, byte: u8) -> Heard
+        requires { continues self.awaited byte ≡ true }
         ensures { result ≡ keep self byte }
     {
-        let reader = self.reader;
-        let awaited = self.awaited;
-        if awaited.finishes() {
+        if self.awaited.finishes() {
             let next = ToldReader {
-                reader: reader,
+                reader: self.reader,
                 awaited: nothing(),
             };
-            return heard(next, awaited.told(byte), Answer::Nothing);
+            return heard(next, self.awaited.told(byte), Answer::Nothing);
         }
         let next = ToldReader {
-            reader: reader,
-            awaited: awaited.more(byte),
+            reader: self.reader,
+            awaited: self.awaited.more(byte),
         };
-        heard(next, Reply::Nothing, Answer::Nothing)
+        heard(next, None, Answer::Nothing)
     }
 
     // A word for the report reader; the reply that was awaited is broken.
@@ -98,8 +97,7 @@ impl ToldReader {
     pub(crate) fn word(self, word: u16) -> Heard
         ensures { result ≡ word_of self word }
     {
-        let awaited = self.awaited;
-        if awaited.continues(word) {
+        if self.awaited.continues(word) {
             return self.keep((word % 256) as u8);
         }
         self.pass(word)

@@ -1,4 +1,6 @@
-use mathlib.Core.Path.{sym, ◌∙◌}
+use Prim.Native.Nat.{◌≤◌}
+use mathlib.Core.Path.{◌≡◌, sym, ◌∙◌}
+use lib.ListN.{length}
 use native.Mathlib.Nat.{zero-add}
 use native.Mathlib.Omega.{arith}
 use borrow.Author.Tests.{not-true, not-false}
@@ -22,8 +24,10 @@ returns-then-finishes c = let l = c.loop-at in
 pub loop-at-preserved : goal.loop-at-preserved
 loop-at-preserved c = let l = c.loop-at in
     let e = sym c.continues.ensures ∙ not-false _ c.if-not-continues.false-raw in
-    (rw (c.more-next.ensures, byte_same l.awaited _ e) (l.invariant.0 ∙ its_next l.awaited c.args.words.now l.at (omega arith) e (sym c.finishes.ensures ∙ c.if-finishes.false)), omega arith)
+    (rw (c.more-awaited.ensures, byte_same l.awaited _ e) (l.invariant.0 ∙ its_next l.awaited c.args.words.now l.at (omega arith) e (sym c.finishes.ensures ∙ c.if-finishes.false)), omega arith)
 
 pub returns : goal.returns
 returns c = let l = c.loop-at in
-    rw c.at_front-2.ensures (sym (l.invariant.0 ∙ no_more l.awaited c.args.words.now l.at c.loop-at-test.false))
+    let all : length c.args.words.now ≤ l.at = omega arith in
+    let here : length c.args.words.now ≡ l.at = omega (arith, l.invariant.1) in
+    rw (c.at_front-2.ensures, here) (sym (l.invariant.0 ∙ no_more l.awaited c.args.words.now l.at all))

@@ -1,5 +1,5 @@
 -- `over`: what is left of the line gives what is left of the reply.
-use Prim.Native.Nat.{◌-◌, ◌≤◌}
+use Prim.Native.Nat.{◌≤◌}
 use mathlib.Core.Path.{◌≡◌}
 use lib.ListN.{length, drop}
 use Rattle.replies.specs.Fronts.{ahead, front_of}
@@ -8,6 +8,3 @@ use Rattle.replies.proofs.Awaited.over.Given as goal
 abbrev pub invariant-loop-at : goal.invariant-loop-at
 invariant-loop-at l =
     (front_of l.initial.awaited l.words ≡ ahead l.at (front_of l.awaited (drop l.at l.words))) × (l.at ≤ length l.words)
-
-abbrev pub decreases-loop-at : goal.decreases-loop-at
-decreases-loop-at l = length l.words - l.at

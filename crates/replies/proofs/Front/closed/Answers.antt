@@ -9,4 +9,4 @@ returns-then-taken-eq0 c = rw c.if-taken-eq0.true
 
 pub returns : goal.returns
 unfolding closed
-returns c = simp (ne_eqb _ 0 c.if-taken-eq0.false) (rw (c.or_else.ensures, c.broken.ensures, c.nothing.ensures) at c.at_front.ensures)
+returns c = simp (ne_eqb _ 0 c.if-taken-eq0.false) (rw (c.or.ensures, c.broken.ensures, c.nothing.ensures) at c.at_front.ensures)

@@ -10,8 +10,8 @@ use Rattle.replies.proofs.Fronts.{front_within}
 use Rattle.replies.proofs.Lines.{assembled, line_front}
 use Rattle.replies.proofs.ToldReader.line.Goals as goal
 
-pub offset_bounds-words-at : goal.offset_bounds-words-at
-offset_bounds-words-at c = let short : c.over-first.result.taken ≤ length c.args.words.now = rw c.over-first.ensures (front_within c.args.words.now c.args.self.awaited) in
+pub offset_bounds-words-first : goal.offset_bounds-words-first
+offset_bounds-words-first c = let short : c.over-first.result.taken ≤ length c.args.words.now = rw c.over-first.ensures (front_within c.args.words.now c.args.self.awaited) in
     omega (arith, short, c.well_formed.1.0.1)
 
 pub slice_bounds-read-count : goal.slice_bounds-read-count
