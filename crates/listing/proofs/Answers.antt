@@ -1,4 +1,5 @@
 -- Two answers that meet a promise are equal, and so is every byte of the slice.
+use Rattle.std.proofs.Common.{Option}
 use Prim.Native.Nat.{ℕ}
 use mathlib.Core.Path.{◌≡◌, sym, ◌∙◌, ap}
 use mathlib.Core.Bool.{Bool}
@@ -7,7 +8,6 @@ use Rattle.listing.specs.Promises.{Whole, whole, LinePromise, FreshPromise, Feed
 use Rattle.listing.specs.declared.Scan.{Scan}
 use Rattle.listing.specs.declared.Scanner.{Scanner}
 use Rattle.text.specs.declared.Text.{Text}
-use Rattle.listing.specs.declared.Given.{Given}
 use Rattle.wire.specs.declared.Report.{Report}
 use Rattle.listing.specs.declared.Item.{Item}
 use Rattle.listing.specs.declared.Lister.{Lister}
@@ -19,7 +19,7 @@ parts e = (ap (λ (w : Whole). w.listed) e, ap (λ (w : Whole). w.out) e)
 pub one_fresh : {a b : Lister} → FreshPromise a → FreshPromise b → a ≡ b
 one_fresh p q = p ∙ sym q
 
-pub one_line : (g : Given) (salvage : Bool) (w : ℕ) {a b : Text} → LinePromise g salvage w a → LinePromise g salvage w b → a ≡ b
+pub one_line : (g : Option Item) (salvage : Bool) (w : ℕ) {a b : Text} → LinePromise g salvage w a → LinePromise g salvage w b → a ≡ b
 one_line g salvage w p q = p ∙ sym q
 
 pub one_feed : (m : Lister) (input before : List ℕ) {a b : Listed} {left right : List ℕ} → FeedPromise m input before a left → FeedPromise m input before b right

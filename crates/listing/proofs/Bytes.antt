@@ -19,6 +19,9 @@ pub none_told : (t : Told) → t ≡ record { taken = 0; word = 0 } → (t.taken
 none_told t e some = some (ap (λ (t : Told). t.taken) e)
 
 -- a digit
+pub a_digit : {c : ℕ} → (48 ≤ c) × (c ≤ 57) → is_digit c ≡ true
+a_digit {c} h = rw (le-leb 48 c h.0, le-leb c 57 h.1)
+
 pub digit_low : (c : ℕ) → is_digit c ≡ true → 48 ≤ c
 digit_low c h = leb-true 48 c (left (leb 48 c) (leb c 57) h)
 

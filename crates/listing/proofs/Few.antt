@@ -1,4 +1,5 @@
 -- No text of the lister is longer than forty bytes.
+use Rattle.std.proofs.Common.{Option, None, Some}
 use Prim.Native.Nat.{ℕ, ◌+◌, ◌-◌, ◌<◌, ◌≤◌, ◌^◌}
 use mathlib.Core.Path.{◌≡◌}
 use mathlib.Core.Bool.{Bool, true, false, cond}
@@ -28,8 +29,6 @@ use Rattle.listing.specs.declared.Field.{Field}
 use Rattle.listing.specs.declared.Field.TheVariants as field
 use Rattle.listing.specs.declared.Item.{Item}
 use Rattle.listing.specs.declared.Item.TheVariants as item
-use Rattle.listing.specs.declared.Given.{Given}
-use Rattle.listing.specs.declared.Given.TheVariants as goal
 use Rattle.listing.specs.declared.Scan.{Scan}
 use Rattle.listing.specs.declared.Scanner.{Scanner}
 use Rattle.listing.specs.declared.Lister.{Lister}
@@ -64,9 +63,9 @@ unfolding line_of
 few_form f h = omega (arith, few_fields f.fields h, length-append (head_of width f) (newline ∷ []))
 
 -- the line of what is given
-abbrev pub ShortGiven : Given → Type 0
-ShortGiven goal.Nothing = Unit {0}
-ShortGiven (goal.One i) = Short (form_of i).fields
+abbrev pub ShortGiven : Option Item → Type 0
+ShortGiven None = Unit {0}
+ShortGiven (Some i) = Short (form_of i).fields
 
 pub most_item : (i : Item) → most_of (form_of i).fields ≤ 24
 most_item (item.D n k) = omega arith
@@ -75,9 +74,9 @@ most_item (item.H k) = omega arith
 most_item (item.E n) = omega arith
 most_item item.Over = omega arith
 
-few_given : (g : Given) → ShortGiven g → length (all_bytes width (items_in g)) ≤ 26
-few_given goal.Nothing h = omega arith
-few_given (goal.One i) h = omega (arith, few_form (form_of i) h, most_item i, length-append (line_of width (form_of i)) [])
+few_given : (g : Option Item) → ShortGiven g → length (all_bytes width (items_in g)) ≤ 26
+few_given None h = omega arith
+few_given (Some i) h = omega (arith, few_form (form_of i) h, most_item i, length-append (line_of width (form_of i)) [])
 
 -- what is found on a line, whose number is below the most lines
 abbrev pub Numbered : Found → Type 0

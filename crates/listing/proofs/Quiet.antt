@@ -1,4 +1,5 @@
 -- Silences that change nothing: those to a reader that has no bytes and awaits nothing.
+use Rattle.std.proofs.Common.{None}
 use Prim.Native.Nat.{ℕ}
 use mathlib.Core.Path.{◌≡◌, refl, sym, subst}
 use mathlib.Core.Bool.{Bool, true, false, not, ◌&&◌}
@@ -13,15 +14,14 @@ use Rattle.reader.specs.declared.Reader.{Reader}
 use Rattle.reader.specs.declared.Read.{Read}
 use Rattle.reader.proofs.WholeReports.{is_ready}
 use Rattle.listing.specs.Items.{answer_given, gave, word_gave}
-use Rattle.listing.specs.declared.Given.TheVariants.{Nothing}
 
 -- to this reader a silence changes nothing, and gives nothing
 abbrev pub Quiet : Reader → Type 0
-Quiet r = (n : ℕ) → word_gave r n silence ≡ gave r Nothing
+Quiet r = (n : ℕ) → word_gave r n silence ≡ gave r None
 
 ready_quiet : (f : ℕ) → Quiet (ready f)
 unfolding step_of word_of silence_of dropping
-ready_quiet f n = cases (λ (s : Read). gave s.next (answer_given f n s.answer) ≡ gave (ready f) Nothing) (good (ready f)) (λ _. refl) (λ _. refl)
+ready_quiet f n = cases (λ (s : Read). gave s.next (answer_given f n s.answer) ≡ gave (ready f) None) (good (ready f)) (λ _. refl) (λ _. refl)
 
 bad_quiet : (r : Reader) → good r ≡ false → Quiet r
 unfolding step_of

@@ -1,4 +1,5 @@
 -- Lines of words, some at a time.
+use Rattle.std.proofs.Common.{None}
 use Prim.Native.Nat.{ℕ, zero, suc, ◌+◌, ◌-◌, ◌*◌, ◌<◌, ◌≤◌}
 use mathlib.Core.Path.{◌≡◌, refl, sym, ◌∙◌, ap, subst}
 use mathlib.Core.List.{List, [], ◌∷◌, ◌++◌, map, map-append}
@@ -18,7 +19,6 @@ use Rattle.listing.specs.Items.{gave, items_in, word_gave}
 use Rattle.listing.specs.Printing.{all_bytes}
 use Rattle.listing.specs.Feeding.{passed_to, Stands}
 use Rattle.listing.specs.Batches.{LineAt, LinesAt, Gathered, Unread, Printed, items_over, reader_over}
-use Rattle.listing.specs.declared.Given.TheVariants.{Nothing}
 use Rattle.listing.specs.declared.Lister.{Lister}
 use Rattle.listing.specs.declared.Told.{Told}
 use Rattle.listing.proofs.Fronts.{few_word}
@@ -107,9 +107,9 @@ unfolding LinesAt
 quiet_lines [] {n} s e words quiet some few room = rw (add-zero n, ← e) s
 quiet_lines {m₀} {input} {out₀} (t ∷ lines) {n} {r} {at} {used} {out} s l words quiet some few room =
     let is : t.word ≡ silence = ap (λ (l : List ℕ). get_or l 0 0) words in
-    let same : word_gave r (n + 1) t.word ≡ gave r Nothing = ap (word_gave r (n + 1)) is ∙ quiet (n + 1) in
+    let same : word_gave r (n + 1) t.word ≡ gave r None = ap (word_gave r (n + 1)) is ∙ quiet (n + 1) in
     let first : Stands m₀ input out₀ (passed_to (n + 1) r) (at + t.taken) used out =
-    word_more s t l.0.0 some (omega arith) room l.0.1 l.0.2 (gave r Nothing) (sym same) out used refl in
+    word_more s t l.0.0 some (omega arith) room l.0.1 l.0.2 (gave r None) (sym same) out used refl in
     let one : n + 1 + length lines ≡ n + suc (length lines) = omega arith in
     rw one at (quiet_lines lines first l.1 (ap (drop 1) words) quiet (omega arith) (omega arith) room)
 

@@ -1,4 +1,5 @@
 -- Wrong answers, two or more for each promise, that it does not permit. In the comments a blank stands for a tab and / for a newline.
+use Rattle.std.proofs.Common.{None, Some}
 use Prim.Native.Nat.{ℕ}
 use mathlib.Core.Path.{ap}
 use mathlib.Core.Bool.{Bool, true, false, true≢false}
@@ -30,7 +31,6 @@ use Rattle.listing.specs.declared.Middle.TheVariants.{Up, Down, Unknown}
 use Rattle.listing.specs.declared.Buttons.{Buttons}
 use Rattle.listing.specs.declared.Item.{Item}
 use Rattle.listing.specs.declared.Item.TheVariants as item
-use Rattle.listing.specs.declared.Given.TheVariants as goal
 use Rattle.listing.specs.declared.Lister.{Lister}
 use Rattle.listing.specs.declared.Listed.{Listed}
 use Rattle.listing.proofs.Keeps.{fresh_is_good}
@@ -67,15 +67,15 @@ abbrev six : ℕ → List ℕ
 six digit = 48 ∷ 48 ∷ 48 ∷ 48 ∷ 48 ∷ digit ∷ []
 
 -- D 2 1 at width 4 with six digits; and the first line of a salvage as that of a listing, and the other way round
-pub line_too_wide : LinePromise (goal.One (item.D 2 1)) false 4 (text_of (68 ∷ 9 ∷ six 50 ++ 9 ∷ 49 ∷ 10 ∷ [])) → ⊥
+pub line_too_wide : LinePromise (Some (item.D 2 1)) false 4 (text_of (68 ∷ 9 ∷ six 50 ++ 9 ∷ 49 ∷ 10 ∷ [])) → ⊥
 unfolding printing
 line_too_wide e = omega (arith, ap (λ (t : Text). t.len) e)
 
-pub line_not_marked : LinePromise goal.Nothing true 4 (text_of (76 ∷ 9 ∷ 52 ∷ 10 ∷ [])) → ⊥
+pub line_not_marked : LinePromise None true 4 (text_of (76 ∷ 9 ∷ 52 ∷ 10 ∷ [])) → ⊥
 unfolding printing
 line_not_marked e = omega (arith, ap (λ (t : Text). get_or t.bytes 0 0) e)
 
-pub line_wrongly_marked : LinePromise goal.Nothing false 4 (text_of (83 ∷ 9 ∷ 52 ∷ 10 ∷ [])) → ⊥
+pub line_wrongly_marked : LinePromise None false 4 (text_of (83 ∷ 9 ∷ 52 ∷ 10 ∷ [])) → ⊥
 unfolding printing
 line_wrongly_marked e = omega (arith, ap (λ (t : Text). get_or t.bytes 0 0) e)
 

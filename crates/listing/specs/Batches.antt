@@ -1,5 +1,5 @@
 -- Lines of words, some at a time: the quick way. Where they lie in a piece, and what their words give.
-use Rattle.std.specs.Prelude.{ℕ, ◌+◌, ◌<◌, ◌≤◌, ◌≡◌, Bool, true, false, not, cond, ◌&&◌, eqb, List, [], ◌∷◌, ◌++◌, map, length, get_or, take, replicate, ℤ, pos, negsuc, ◌+ℤ◌}
+use Rattle.std.specs.Prelude.{ℕ, ◌+◌, ◌<◌, ◌≤◌, ◌≡◌, Bool, true, false, not, cond, ◌&&◌, eqb, List, [], ◌∷◌, ◌++◌, map, length, get_or, take, replicate, ℤ, pos, negsuc, ◌+ℤ◌, Option, None, Some}
 use Rattle.std.specs.Int.Signed.{lt_z}
 use Rattle.fold.specs.Fold.{written, run}
 use Rattle.frames.specs.Words.{silence}
@@ -14,8 +14,6 @@ use Rattle.listing.specs.Printing.{all_bytes}
 use Rattle.text.specs.Growth.{slice, filled_by}
 use Rattle.listing.specs.declared.Item.{Item}
 use Rattle.listing.specs.declared.Item.TheVariants.{D, R}
-use Rattle.listing.specs.declared.Given.{Given}
-use Rattle.listing.specs.declared.Given.TheVariants.{Nothing, One}
 use Rattle.listing.specs.declared.Told.{Told}
 
 -- the line of a word lies at a place of a piece, and six bytes from there on are in it
@@ -66,10 +64,10 @@ report_at letter n told from =
     let number : ℕ → ℤ = λ i. get_or told (from + i) (pos 0) in
     R n (buttons_of letter (plain_of (number 1))) (number 2 +ℤ number 4) (number 3 +ℤ number 5)
 
-unfoldable pub given_at : ℕ → ℕ → List ℤ → ℕ → Given
+unfoldable pub given_at : ℕ → ℕ → List ℤ → ℕ → Option Item
 given_at letter n told from =
     let first = get_or told from (pos 0) in
-    cond (lt_z (pos 0) first) (One (D n (plain_of first))) (cond (lt_z first (pos 0)) (One (report_at letter n told from)) Nothing)
+    cond (lt_z (pos 0) first) (Some (D n (plain_of first))) (cond (lt_z first (pos 0)) (Some (report_at letter n told from)) None)
 
 -- the place of the next word's numbers
 unfoldable pub next_at : List ℤ → ℕ → ℕ

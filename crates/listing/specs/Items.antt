@@ -1,5 +1,5 @@
 -- What is found in a recording, to items of the listing.
-use Rattle.std.specs.Prelude.{ℕ, cond, List, [], ◌∷◌, ◌++◌, eqb, ◌+ℤ◌}
+use Rattle.std.specs.Prelude.{ℕ, cond, List, [], ◌∷◌, ◌++◌, eqb, ◌+ℤ◌, Option, None, Some}
 use Rattle.numbers.specs.Bits.{bit}
 use Rattle.wire.specs.Line.{letter_of}
 use Rattle.wire.specs.declared.Report.{Report}
@@ -15,8 +15,6 @@ use Rattle.listing.specs.declared.Middle.TheVariants.{Up, Down, Unknown}
 use Rattle.listing.specs.declared.Buttons.{Buttons}
 use Rattle.listing.specs.declared.Item.{Item}
 use Rattle.listing.specs.declared.Item.TheVariants as item
-use Rattle.listing.specs.declared.Given.{Given}
-use Rattle.listing.specs.declared.Given.TheVariants.{Nothing, One}
 use Rattle.listing.specs.declared.Gave.{Gave}
 
 -- "buttons as L M R or `-` (middle `?` in V)"
@@ -31,33 +29,33 @@ buttons_of letter buttons = record { left = bit 2 buttons; middle = middle_of le
 abbrev pub report_item : ℕ → ℕ → Report → Item
 report_item letter n p = item.R n (buttons_of letter p.buttons) (p.x1 +ℤ p.x2) (p.y1 +ℤ p.y2)
 
-abbrev pub answer_given : ℕ → ℕ → Answer → Given
-answer_given letter n answer.Nothing = Nothing
-answer_given letter n (answer.Report p) = One (report_item letter n p)
-answer_given letter n (answer.Dropped k) = One (item.D n k)
+abbrev pub answer_given : ℕ → ℕ → Answer → Option Item
+answer_given letter n answer.Nothing = None
+answer_given letter n (answer.Report p) = Some (report_item letter n p)
+answer_given letter n (answer.Dropped k) = Some (item.D n k)
 
-abbrev pub gave : Reader → Given → Gave
+abbrev pub gave : Reader → Option Item → Gave
 gave r g = record { next = r; given = g }
 
 -- a format's reader, and a word of line n
 abbrev pub format_gave : ℕ → Gave
-format_gave f = gave (fresh_of f).reader Nothing
+format_gave f = gave (fresh_of f).reader None
 
 abbrev pub word_gave : Reader → ℕ → ℕ → Gave
 word_gave r n w = gave (step_of r w).next (answer_given r.format n (step_of r w).answer)
 
 -- what is found goes to the reader; "at the end `H` and bytes kept", "without `H`" where a line is bad
 unfoldable pub gave_of : Reader → Found → Gave
-gave_of r found.Nothing = gave r Nothing
+gave_of r found.Nothing = gave r None
 gave_of r (found.Format f) = format_gave f
 gave_of r (found.Word n w) = word_gave r n w
-gave_of r (found.Bad n) = gave r (One (item.E n))
-gave_of r found.Over = gave r (One item.Over)
-gave_of r found.End = gave r (One (item.H r.count))
+gave_of r (found.Bad n) = gave r (Some (item.E n))
+gave_of r found.Over = gave r (Some item.Over)
+gave_of r found.End = gave r (Some (item.H r.count))
 
-abbrev pub items_in : Given → List Item
-items_in Nothing = []
-items_in (One i) = i ∷ []
+abbrev pub items_in : Option Item → List Item
+items_in None = []
+items_in (Some i) = i ∷ []
 
 -- one after the other
 unfoldable pub items_from : Reader → List Found → List Item

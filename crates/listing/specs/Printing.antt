@@ -1,6 +1,6 @@
 -- Items to bytes, at a width of line numbers: the rule. A line is a letter and its fields, each behind a tab. Stamped is
 -- the quick way.
-use Rattle.std.specs.Prelude.{ℕ, Bool, true, false, cond, List, [], ◌∷◌, ◌++◌, pos}
+use Rattle.std.specs.Prelude.{ℕ, Bool, true, false, cond, List, [], ◌∷◌, ◌++◌, pos, Option, None, Some}
 use Rattle.text.specs.Decimals.{plain, decimal_of}
 use Rattle.listing.specs.Lines.{newline, tab}
 use Rattle.listing.specs.declared.Middle.{Middle}
@@ -8,8 +8,6 @@ use Rattle.listing.specs.declared.Middle.TheVariants.{Up, Down, Unknown}
 use Rattle.listing.specs.declared.Buttons.{Buttons}
 use Rattle.listing.specs.declared.Item.{Item}
 use Rattle.listing.specs.declared.Item.TheVariants as item
-use Rattle.listing.specs.declared.Given.{Given}
-use Rattle.listing.specs.declared.Given.TheVariants.{Nothing, One}
 use Rattle.listing.specs.declared.Field.{Field}
 use Rattle.listing.specs.declared.Field.TheVariants as field
 
@@ -100,9 +98,9 @@ unfoldable pub line_of : ℕ → Form → List ℕ
 line_of w f = head_of w f ++ newline ∷ []
 
 -- the first line where nothing is given, or an item's
-abbrev pub line_at : Bool → ℕ → Given → List ℕ
-line_at salvage w Nothing = line_of w (opening_of salvage w)
-line_at salvage w (One i) = line_of w (form_of i)
+abbrev pub line_at : Bool → ℕ → Option Item → List ℕ
+line_at salvage w None = line_of w (opening_of salvage w)
+line_at salvage w (Some i) = line_of w (form_of i)
 
 -- one line after the other
 abbrev pub all_bytes : ℕ → List Item → List ℕ

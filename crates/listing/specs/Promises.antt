@@ -1,6 +1,6 @@
--- What is promised of `Lister::fresh`, `Lister::feed`, `Lister::finish` and `Given::line`: for every argument one
+-- What is promised of `Lister::fresh`, `Lister::feed`, `Lister::finish` and `line_at`: for every argument one
 -- answer, and every byte of the slice; and of the scanner.
-use Rattle.std.specs.Prelude.{ℕ, ◌≡◌, Bool, cond, List, ◌++◌, length, drop}
+use Rattle.std.specs.Prelude.{ℕ, ◌≡◌, Bool, cond, List, ◌++◌, length, drop, Option}
 use Rattle.wire.specs.Numbers.{success, bad_state}
 use Rattle.listing.specs.Scanning.{scanned_byte, closed_of, end_of}
 use Rattle.text.specs.Growth.{text_of}
@@ -12,7 +12,6 @@ use Rattle.listing.specs.Printing.{form_of, opening_s, line_of, line_at}
 use Rattle.listing.specs.Feeding.{fresh, Feed, feed_in, finish_in, good}
 use Rattle.listing.specs.declared.Scanner.{Scanner}
 use Rattle.listing.specs.declared.Scan.{Scan}
-use Rattle.listing.specs.declared.Given.{Given}
 use Rattle.listing.specs.declared.Item.{Item}
 use Rattle.listing.specs.declared.Lister.{Lister}
 use Rattle.listing.specs.declared.Listed.{Listed}
@@ -47,8 +46,8 @@ feed_of m input out = cond (good m) (written (feed_in m input (length out)) out)
 unfoldable pub finish_of : Lister → List ℕ → Whole
 finish_of m out = cond (good m) (written (finish_in m (length out)) out) (refused m out)
 
--- `Given::line(self, salvage, width)`: the text of a line at a width
-abbrev pub LinePromise : Given → Bool → ℕ → Text → Type 0
+-- `line_at(given, salvage, width)`: the text of a line at a width
+abbrev pub LinePromise : Option Item → Bool → ℕ → Text → Type 0
 LinePromise g salvage w answer = answer ≡ text_of (line_at salvage w g)
 
 -- `Lister::fresh()`

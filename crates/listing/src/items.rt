@@ -2,7 +2,7 @@
 ghost use Rattle.std.specs.Prelude.{◌≡◌, ◌+ℤ◌};
 ghost use Rattle.listing.specs.Items.{middle_of, buttons_of, report_item, answer_given, format_gave, word_gave, gave_of};
 
-use crate::{Buttons, Found, Gave, Given, Item, Middle};
+use crate::{Buttons, Found, Gave, Item, Middle};
 use reader::{Answer, Reader};
 use wire::Report;
 
@@ -11,12 +11,12 @@ fn middle(letter: u8, buttons: u16) -> Middle
     ensures { result ≡ middle_of letter buttons }
 {
     if letter == b'V' {
-        return Middle::Unknown;
+        Middle::Unknown
+    } else if buttons / 2 % 2 == 1 {
+        Middle::Down
+    } else {
+        Middle::Up
     }
-    if buttons / 2 % 2 == 1 {
-        return Middle::Down;
-    }
-    Middle::Up
 }
 
 pub(crate) fn buttons(letter: u8, buttons: u16) -> Buttons
@@ -33,32 +33,28 @@ pub(crate) fn buttons(letter: u8, buttons: u16) -> Buttons
 pub(crate) fn sum(a: i16, b: i16) -> i64
     ensures { result ≡ a +ℤ b }
 {
-    a as i64 + b as i64
+    i64::from(a) + i64::from(b)
 }
 
 pub(crate) fn report(letter: u8, n: u32, p: Report) -> Item
     ensures { result ≡ report_item letter n p }
 {
-    let x1 = p.x1;
-    let y1 = p.y1;
-    let x2 = p.x2;
-    let y2 = p.y2;
     Item::R(
         n,
-        buttons(letter, p.buttons as u16),
-        sum(x1, x2),
-        sum(y1, y2),
+        buttons(letter, u16::from(p.buttons)),
+        sum(p.x1, p.x2),
+        sum(p.y1, p.y2),
     )
 }
 
 // The answer to the word of line n.
-fn answered(letter: u8, n: u32, answer: Answer) -> Given
+fn answered(letter: u8, n: u32, answer: Answer) -> Option<Item>
     ensures { result ≡ answer_given letter n answer }
 {
     match answer {
-        Answer::Nothing => Given::Nothing,
-        Answer::Report(p) => Given::One(report(letter, n, p)),
-        Answer::Dropped(k) => Given::One(Item::D(n, k as u16)),
+        Answer::Nothing => None,
+        Answer::Report(p) => Some(report(letter, n, p)),
+        Answer::Dropped(k) => Some(Item::D(n, k as u16)),
     }
 }
 
@@ -67,11 +63,9 @@ fn word(reader: Reader, n: u32, word: u16) -> Gave
     ensures { result ≡ word_gave reader n word }
 {
     let read = reader.step(word);
-    let next = read.next;
-    let answer = read.answer;
     Gave {
-        next: next,
-        given: answered(reader.format, n, answer),
+        next: read.next,
+        given: answered(reader.format, n, read.answer),
     }
 }
 
@@ -79,11 +73,9 @@ fn word(reader: Reader, n: u32, word: u16) -> Gave
 fn format(letter: u8) -> Gave
     ensures { result ≡ format_gave letter }
 {
-    let new = Reader::fresh(letter);
-    let reader = new.reader;
     Gave {
-        next: reader,
-        given: Given::Nothing,
+        next: Reader::fresh(letter).reader,
+        given: None,
     }
 }
 
@@ -94,21 +86,21 @@ pub(crate) fn gave(reader: Reader, found: Found) -> Gave
     match found {
         Found::Nothing => Gave {
             next: reader,
-            given: Given::Nothing,
+            given: None,
         },
         Found::Format(letter) => format(letter),
         Found::Word(n, w) => word(reader, n, w),
         Found::Bad(n) => Gave {
             next: reader,
-            given: Given::One(Item::E(n)),
+            given: Some(Item::E(n)),
         },
         Found::Over => Gave {
             next: reader,
-            given: Given::One(Item::Over),
+            given: Some(Item::Over),
         },
         Found::End => Gave {
             next: reader,
-            given: Given::One(Item::H(reader.count as u16)),
+            given: Some(Item::H(reader.count as u16)),
         },
     }
 }

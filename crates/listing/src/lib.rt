@@ -2,7 +2,7 @@
 // the reader makes items of them (items), and the items are printed (printing). Lines that lie whole in a piece are taken some at a time (batches, stamped).
 #![tactic(auto)]
 
-ghost use Rattle.listing.specs.Promises.{SalvagePromise};
+ghost use Rattle.listing.specs.Promises.{SalvagePromise, LinePromise};
 
 use reader::Reader;
 use text::Text;
@@ -80,18 +80,11 @@ pub enum Item {
     Over,
 }
 
-// What is given: nothing, or an item.
-#[derive(Clone, Copy, Drop)]
-pub enum Given {
-    Nothing,
-    One(Item),
-}
-
 // A reader, and what it gave.
 #[derive(Clone, Copy, Drop)]
 pub(crate) struct Gave {
     pub next: Reader,
-    pub given: Given,
+    pub given: Option<Item>,
 }
 
 // A field of a line: the number of a line, a number, buttons, or `over`.
@@ -135,7 +128,7 @@ pub(crate) struct Front {
     pub used: usize,
 }
 
-// The bytes of a line with its newline, 0 where there is none, and its word.
+// The bytes of a line with its newline, and its word.
 #[derive(Clone, Copy, Drop)]
 pub(crate) struct Told {
     pub taken: usize,
@@ -154,4 +147,14 @@ pub fn salvage_opening() -> Text
     ensures { SalvagePromise result }
 {
     printing::opening(true, WIDTH)
+}
+
+// A line of a listing, or of a salvage's, at a width: the first where nothing is given, or an item's.
+pub fn line_at(given: Option<Item>, salvage: bool, width: u8) -> Text
+    ensures { LinePromise given salvage width result }
+{
+    match given {
+        None => printing::opening(salvage, width),
+        Some(item) => printing::line(item, width),
+    }
 }

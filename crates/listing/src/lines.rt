@@ -1,7 +1,7 @@
 // What a line of a recording says.
-ghost use Rattle.std.specs.Prelude.{◌≡◌, [], ◌∷◌, ◌+◌, ◌≤◌, length, take};
-ghost use Rattle.text.specs.Decimals.{is_digit};
-ghost use Rattle.listing.specs.Lines.{tab, byte_of, byte_in, mark_in, format_in, said_by, Tells, six_at};
+ghost use Rattle.std.specs.Prelude.{◌≡◌, ◌≢◌, [], ◌∷◌, ◌≤◌, length, take, IfSome};
+ghost use Rattle.listing.specs.Lines.{tab, byte_of, byte_in, mark_in, format_in, said_by, Tells};
+ghost use Rattle.listing.specs.Batches.{LineAt};
 
 use crate::{Line, Told};
 use text::Number;
@@ -75,81 +75,69 @@ pub(crate) fn said_by(n: usize, a: u8, b: u8, c: u8, d: u8, e: u8) -> Line
     Line::Bad
 }
 
-// The bytes of a line, and its word.
-fn told(taken: usize, word: u16) -> Told
-    ensures { result ≡ record { taken = taken; word = word } }
-{
-    Told {
-        taken: taken,
-        word: word,
-    }
-}
-
-fn is_digit(c: u8) -> bool
-    ensures { result ≡ is_digit c }
-{
-    (b'0' <= c) & (c <= b'9')
-}
-
 // The byte of a line that begins with `B` and a tab.
-fn byte_at(c: u8, d: u8, e: u8, f: u8) -> Told
-    ensures { Tells (0x42 ∷ tab ∷ c ∷ d ∷ e ∷ f ∷ []) result }
+fn byte_at(c: u8, d: u8, e: u8, f: u8) -> Option<Told>
+    ensures { IfSome result (λ t. Tells (0x42 ∷ tab ∷ c ∷ d ∷ e ∷ f ∷ []) t × (t.taken ≢ 0)) }
 {
-    if !is_digit(c) {
-        return told(0, 0);
+    if !c.is_ascii_digit() {
+        return None;
     }
-    let one = (c - 48) as u16;
+    let one = u16::from(c - b'0');
     if d == b'\n' {
-        return told(4, one);
+        return Some(Told {
+            taken: 4,
+            word: one,
+        });
     }
-    if !is_digit(d) {
-        return told(0, 0);
+    if !d.is_ascii_digit() || c == b'0' {
+        return None;
     }
-    if c == b'0' {
-        return told(0, 0);
-    }
-    let two = 10 * one + (d - 48) as u16;
+    let two = 10 * one + u16::from(d - b'0');
     if e == b'\n' {
-        return told(5, two);
+        return Some(Told {
+            taken: 5,
+            word: two,
+        });
     }
-    if !is_digit(e) {
-        return told(0, 0);
+    if !e.is_ascii_digit() || f != b'\n' {
+        return None;
     }
-    if f != b'\n' {
-        return told(0, 0);
-    }
-    let three = 10 * two + (e - 48) as u16;
+    let three = 10 * two + u16::from(e - b'0');
     if three > 255 {
-        return told(0, 0);
+        return None;
     }
-    told(6, three)
+    Some(Told {
+        taken: 6,
+        word: three,
+    })
 }
 
 // The word of a line that lies whole at the front of six bytes.
-fn word_at(a: u8, b: u8, c: u8, d: u8, e: u8, f: u8) -> Told
-    ensures { Tells (a ∷ b ∷ c ∷ d ∷ e ∷ f ∷ []) result }
+fn word_at(a: u8, b: u8, c: u8, d: u8, e: u8, f: u8) -> Option<Told>
+    ensures { IfSome result (λ t. Tells (a ∷ b ∷ c ∷ d ∷ e ∷ f ∷ []) t × (t.taken ≢ 0)) }
 {
-    if a == b'B' {
-        if b != b'\t' {
-            return told(0, 0);
-        }
-        return byte_at(c, d, e, f);
-    }
-    if b != b'\n' {
-        return told(0, 0);
-    }
-    match a {
-        b'Q' => told(2, SILENCE),
-        b'X' => told(2, BREAK),
-        _ => told(0, 0),
+    match (a, b) {
+        (b'B', b'\t') => byte_at(c, d, e, f),
+        (b'Q', b'\n') => Some(Told {
+            taken: 2,
+            word: SILENCE,
+        }),
+        (b'X', b'\n') => Some(Told {
+            taken: 2,
+            word: BREAK,
+        }),
+        _ => None,
     }
 }
 
-// And of one at a place of a piece.
-pub(crate) fn word_in(input: &[u8], at: usize) -> Told
-    requires { at + 6 ≤ length input.now }
-    ensures { Tells (six_at input.now at) result }
+// And of one at a place of a piece, in which six bytes are left there.
+pub(crate) fn word_in(input: &[u8], at: usize) -> Option<Told>
+    requires { at ≤ length input.now }
+    ensures { IfSome result (LineAt input.now at) }
 {
+    if input.len() < at + 6 {
+        return None;
+    }
     let a = input[at];
     let b = input[at + 1];
     let c = input[at + 2];

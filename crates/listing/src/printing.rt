@@ -5,12 +5,11 @@ ghost use Rattle.text.specs.Decimals.{decimal_of};
 ghost use Rattle.text.specs.Growth.{grown_by, text_of, slice, filled_by};
 ghost use Rattle.listing.specs.Lines.{tab};
 ghost use Rattle.listing.specs.Items.{items_in};
-ghost use Rattle.listing.specs.Promises.{LinePromise};
 ghost use Rattle.listing.specs.Printing.{pressed, middle, three, over, form, form_of, head_of, line_of, first_letter, opening_of, all_bytes};
 ghost use Rattle.listing.specs.declared.Field.TheVariants.{Number};
 ghost use Rattle.listing.specs.declared.Item.TheVariants.{D, R};
 
-use crate::{Buttons, Given, Item, Middle};
+use crate::{Buttons, Item, Middle};
 use text::{PLAIN, Text};
 
 // A letter where a button is down.
@@ -110,17 +109,17 @@ fn line_to(out: &mut [u8], at: usize, width: u8, item: Item) -> usize
 }
 
 // The line of what is given, if anything.
-pub(crate) fn put(out: &mut [u8], at: usize, width: u8, given: Given) -> usize
+pub(crate) fn put(out: &mut [u8], at: usize, width: u8, given: Option<Item>) -> usize
     ensures { slice out.new result ≡ filled_by (slice out.old at) (all_bytes width (items_in given)) }
 {
     match given {
-        Given::Nothing => at,
-        Given::One(item) => line_to(out, at, width, item),
+        None => at,
+        Some(item) => line_to(out, at, width, item),
     }
 }
 
 // The same behind a text.
-pub(crate) fn printed(front: Text, width: u8, given: Given) -> Text
+pub(crate) fn printed(front: Text, width: u8, given: Option<Item>) -> Text
     ensures { result ≡ grown_by front (all_bytes width (items_in given)) }
 {
     let mut bytes = front.bytes;
@@ -129,6 +128,13 @@ pub(crate) fn printed(front: Text, width: u8, given: Given) -> Text
         bytes: bytes,
         len: len,
     }
+}
+
+// The line of an item.
+pub(crate) fn line(item: Item, width: u8) -> Text
+    ensures { result ≡ text_of (line_of width (form_of item)) }
+{
+    printed(Text::none(), width, Some(item))
 }
 
 // A first line: its letter, and the width of line numbers.
@@ -154,16 +160,4 @@ pub(crate) fn opening(salvage: bool, width: u8) -> Text
     ensures { result ≡ text_of (line_of width (opening_of salvage width)) }
 {
     headed(first(salvage), width)
-}
-
-impl Given {
-    // A line of a listing, or of a salvage's, at a width: the first where nothing is given, or an item's.
-    pub fn line(self, salvage: bool, width: u8) -> Text
-        ensures { LinePromise self salvage width result }
-    {
-        match self {
-            Given::Nothing => opening(salvage, width),
-            Given::One(item) => printed(Text::none(), width, Given::One(item)),
-        }
-    }
 }

@@ -1,7 +1,7 @@
 // What other listings are made of: an item, and the text of its line.
 ghost use Rattle.listing.specs.Promises.{ReportedPromise, ItemLinePromise};
 
-use crate::{Given, Item, WIDTH, items, printing};
+use crate::{Item, WIDTH, items, printing};
 use text::Text;
 use wire::Report;
 
@@ -17,6 +17,6 @@ impl Item {
     pub fn line(self) -> Text
         ensures { ItemLinePromise self result }
     {
-        printing::printed(Text::none(), WIDTH, Given::One(self))
+        printing::line(self, WIDTH)
     }
 }

@@ -1,7 +1,6 @@
 // Lines of the listing in places that are there: the quick way, proved to be the rule (printing.rt). None of the bytes
 // asks for its own place. The number of a line is carried on to the next, which mostly changes its last digit alone.
 ghost use Rattle.std.specs.Prelude.{◌≡◌, [], ◌∷◌, ◌++◌, ◌+◌, ◌-◌, ◌<◌, ◌≤◌, pos, nat_abs, length};
-ghost use Rattle.std.proofs.Math.Seq.{paste};
 ghost use Rattle.text.specs.Decimals.{digit_of, digits_of, plain, unsigned_of, decimal_of};
 ghost use Rattle.listing.specs.Lines.{tab, newline};
 ghost use Rattle.listing.specs.Printing.{three, letter_d, letter_r};
@@ -22,12 +21,10 @@ fn digits(out: &mut [u8], at: usize, places: usize, n: u32) -> usize
     requires { at + places ≤ length out.old }
     ensures { Filled out.old at (digits_of places n) out.new result }
 {
-    let mut k = places;
     let mut v = n;
-    while k > 0 {
-        k = k - 1;
+    for k in (0..places).rev() {
         out[at + k] = digit(v);
-        v = v / 10;
+        v /= 10;
     }
     at + places
 }
@@ -39,7 +36,7 @@ pub(crate) fn stamp_of(n: u32) -> Stamp
     let mut bytes = [b'\t'; 8];
     digits(&mut bytes, 1, 6, n);
     Stamp {
-        bytes: bytes,
+        bytes,
         last: digit(n),
     }
 }
@@ -50,10 +47,9 @@ pub(crate) fn next(stamp: Stamp, n: u32) -> Stamp
     ensures { Stamps n result }
 {
     if stamp.last < b'9' {
-        let bytes = stamp.bytes;
         return Stamp {
-            bytes: bytes,
             last: stamp.last + 1,
+            ..stamp
         };
     }
     stamp_of(n)
@@ -100,26 +96,13 @@ fn signed(out: &mut [u8], at: usize, x: i64) -> usize
     number(out, at, x as u32)
 }
 
-// Eight bytes, to a slice from a place on.
-fn copy(out: &mut [u8], at: usize, bytes: [u8; 8])
-    requires { at + 8 ≤ length out.old }
-    ensures { out.new ≡ paste out.old at bytes 8 }
-{
-    let mut i: usize = 0;
-    while i < 8 {
-        out[at + i] = bytes[i];
-        i = i + 1;
-    }
-}
-
 // A letter and a stamp.
 fn headed(out: &mut [u8], at: usize, letter: u8, stamp: Stamp) -> usize
     requires { at + 9 ≤ length out.old }
     ensures { Filled out.old at (letter ∷ stamped stamp) out.new result × (result ≡ at + 9) }
 {
     out[at] = letter;
-    let bytes = stamp.bytes;
-    copy(out, at + 1, bytes);
+    out[at + 1..at + 9].copy_from_slice(&stamp.bytes);
     out[at + 7] = stamp.last;
     at + 9
 }
@@ -129,9 +112,8 @@ fn three(out: &mut [u8], at: usize, buttons: Buttons) -> usize
     requires { at + 4 ≤ length out.old }
     ensures { Filled out.old at (three buttons ++ tab ∷ []) out.new result }
 {
-    let mid = buttons.middle;
     let second = byte(out, at, pressed(buttons.left, b'L'));
-    let third = byte(out, second, middle(mid));
+    let third = byte(out, second, middle(buttons.middle));
     let end = byte(out, third, pressed(buttons.right, b'R'));
     byte(out, end, b'\t')
 }

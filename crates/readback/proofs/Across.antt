@@ -1,4 +1,5 @@
 -- A line that is rewritten reads, at the other width, as it did: the same item, and a reader that differs in the width alone.
+use Rattle.std.proofs.Common.{Option, None, Some}
 use Prim.Native.Nat.{ℕ, zero, suc, ◌+◌, ◌<◌, ◌≤◌, ◌^◌}
 use mathlib.Core.Path.{◌≡◌, refl, sym, ◌∙◌, ap, subst}
 use mathlib.Core.Bool.{Bool, true, false, cond, ◌&&◌, true≢false}
@@ -17,8 +18,6 @@ use Rattle.listing.specs.Scanning.{most_at}
 use Rattle.listing.specs.Printing.{form_of, line_of, opening_of, line_at}
 use Rattle.listing.specs.declared.Item.{Item}
 use Rattle.listing.specs.declared.Item.TheVariants as item
-use Rattle.listing.specs.declared.Given.{Given}
-use Rattle.listing.specs.declared.Given.TheVariants.{Nothing, One}
 use Rattle.readback.specs.Items.{Numbered, Proper, item_in, width_in, salvage_in}
 use Rattle.readback.specs.Steps.{width_known, fresh, opened_at, passed_by, above, faulty, said, step_of, good, has_ended, of_salvage}
 use Rattle.readback.specs.Pieces.{cut_in, is_whole, body_of, faulty_line, reads}
@@ -63,7 +62,7 @@ module _ (r : Readback) (g : good r ≡ true) where
   no_item y f = absurd (true≢false (sym y))
 
   -- the first line
-  first_goes : r.lines ≡ 0 → has_ended r ≡ false → (s : Bool) (w : ℕ) → width_known w ≡ true → Goes r (record { good = true; next = opened_at s w; given = Nothing })
+  first_goes : r.lines ≡ 0 → has_ended r ≡ false → (s : Bool) (w : ℕ) → width_known w ≡ true → Goes r (record { good = true; next = opened_at s w; given = None })
   first_goes z on s w k y f =
       let v = other_width w in
       let none = unread r g z in
@@ -75,18 +74,18 @@ module _ (r : Readback) (g : good r ≡ true) where
       }
 
   -- an item's
-  item_goes : (n : r.lines ≡ 0 → ⊥) → has_ended r ≡ false → (i : Item) → Proper r.width i → above r.last i ≡ true → Goes r (record { good = true; next = passed_by r i; given = One i })
+  item_goes : (n : r.lines ≡ 0 → ⊥) → has_ended r ≡ false → (i : Item) → Proper r.width i → above r.last i ≡ true → Goes r (record { good = true; next = passed_by r i; given = Some i })
   item_goes n on i h up y f =
       let v = other_width r.width in
       let wide : (across r).width ≡ v = rw (ne_eqb r.lines 0 n) in
       let next : passed_by (across r) i ≡ across (passed_by r i) = rw (ne_eqb r.lines 0 n) (rw (ne_eqb (r.lines + 1) 0 (λ z. omega (arith, z)))) in
       record {
         whole = line_whole v (form_of i) (letter_plain i);
-        step = go v wide refl ∙ ap (λ (q : Readback). record { good = true; next = q; given = One i }) next;
+        step = go v wide refl ∙ ap (λ (q : Readback). record { good = true; next = q; given = Some i }) next;
         cut = cut_first v (form_of i) (letter_plain i);
       }
     where
-      go : (v : ℕ) → (across r).width ≡ v → v ≡ other_width r.width → step_of (across r) (body_of (line_of v (form_of i))) ≡ record { good = true; next = passed_by (across r) i; given = One i }
+      go : (v : ℕ) → (across r).width ≡ v → v ≡ other_width r.width → step_of (across r) (body_of (line_of v (form_of i))) ≡ record { good = true; next = passed_by (across r) i; given = Some i }
       go zero wide e = absurd (true≢false (sym (ap width_known e ∙ other_known r.width)))
       go (suc p) wide e = item_step p (across r) wide on n i (proper_there r.width (suc p) i (ap width_known e ∙ other_known r.width) (ap (λ w. fits_at w i) e ∙ f) h) up
 
@@ -94,9 +93,9 @@ module _ (r : Readback) (g : good r ≡ true) where
   pub line_goes : (line : List ℕ) → Goes r (step_of r line)
   line_goes line = go (has_ended r) refl (eqb r.lines 0) refl
     where
-      said_goes : (n : r.lines ≡ 0 → ⊥) → has_ended r ≡ false → (i : Given) → Reads r.width line i → Goes r (said r i)
-      said_goes n on Nothing h = no_item
-      said_goes n on (One i) h = cases (Goes r) (above r.last i) (λ up. item_goes n on i h.1 up) (λ _. no_item)
+      said_goes : (n : r.lines ≡ 0 → ⊥) → has_ended r ≡ false → (i : Option Item) → Reads r.width line i → Goes r (said r i)
+      said_goes n on None h = no_item
+      said_goes n on (Some i) h = cases (Goes r) (above r.last i) (λ up. item_goes n on i h.1 up) (λ _. no_item)
 
       go : (t : Bool) → has_ended r ≡ t → (u : Bool) → eqb r.lines 0 ≡ u → Goes r (step_of r line)
       go true e u z = subst (Goes r) (sym (step_ended r line e)) no_item

@@ -1,4 +1,5 @@
 -- WHAT IS ACCEPTED, PRINTED AGAIN, IS THE SAME BYTES.
+use Rattle.std.proofs.Common.{Option, None, Some}
 use Prim.Native.Nat.{ℕ, suc, ◌+◌, ◌<◌, ◌≤◌}
 use mathlib.Core.Path.{◌≡◌, refl, sym, ◌∙◌, ap, subst}
 use mathlib.Core.Bool.{Bool, true, false, cond, ◌&&◌, true≢false}
@@ -16,8 +17,6 @@ use Rattle.listing.specs.Items.{items_in}
 use Rattle.listing.specs.Printing.{form_of, head_of, line_of, opening_of, all_bytes}
 use Rattle.listing.specs.declared.Item.{Item}
 use Rattle.listing.specs.declared.Item.TheVariants as item
-use Rattle.listing.specs.declared.Given.{Given}
-use Rattle.listing.specs.declared.Given.TheVariants.{Nothing, One}
 use Rattle.readback.specs.Items.{Proper, item_in, width_in, salvage_in}
 use Rattle.readback.specs.Steps.{width_known, fresh, opened_at, passed_by, last_behind, above, closes, faulty, opens, said, step_of, has_ended, of_salvage}
 use Rattle.readback.specs.Pieces.{cut_in, bytes_in, is_whole, body_of, faulty_line, reads}
@@ -108,14 +107,14 @@ module _ (w : ℕ) (i : Item) (is : List Item) (last : ℕ) (proper : Proper w i
 
 -- a line that is accepted: its item, and what comes behind it
 abbrev pub Went : Readback → List ℕ → Step → Type 0
-Went r body s = s.good ≡ true → (i : Item) × (s ≡ record { good = true; next = passed_by r i; given = One i }) × (head_of r.width (form_of i) ≡ body) × Proper r.width i × (above r.last i ≡ true)
+Went r body s = s.good ≡ true → (i : Item) × (s ≡ record { good = true; next = passed_by r i; given = Some i }) × (head_of r.width (form_of i) ≡ body) × Proper r.width i × (above r.last i ≡ true)
 
-said_went : (r : Readback) (body : List ℕ) (g : Given) → Reads r.width body g → Went r body (said r g)
-said_went r body Nothing h e = absurd (true≢false (sym e))
-said_went r body (One i) h e = go (above r.last i) refl e
+said_went : (r : Readback) (body : List ℕ) (g : Option Item) → Reads r.width body g → Went r body (said r g)
+said_went r body None h e = absurd (true≢false (sym e))
+said_went r body (Some i) h e = go (above r.last i) refl e
   where
-    go : (t : Bool) → above r.last i ≡ t → (cond t (record { good = true; next = passed_by r i; given = One i }) (faulty r)).good ≡ true
-        → (j : Item) × (cond t (record { good = true; next = passed_by r i; given = One i }) (faulty r) ≡ record { good = true; next = passed_by r j; given = One j }) × (head_of r.width (form_of j) ≡ body) × Proper r.width j × (above r.last j ≡ true)
+    go : (t : Bool) → above r.last i ≡ t → (cond t (record { good = true; next = passed_by r i; given = Some i }) (faulty r)).good ≡ true
+        → (j : Item) × (cond t (record { good = true; next = passed_by r i; given = Some i }) (faulty r) ≡ record { good = true; next = passed_by r j; given = Some j }) × (head_of r.width (form_of j) ≡ body) × Proper r.width j × (above r.last j ≡ true)
     go true a e = (i, refl, h.0, h.1, a)
     go false a e = absurd (true≢false (sym e))
 
@@ -166,11 +165,11 @@ pub record Printed (bytes : List ℕ) (k : Reading) : Type 0 where
   pub listed : Listed width 0 k.items
   pub again : printed k.salvage width k.items ≡ bytes
 
-opens_went : (s : Bool) (w : ℕ) → (opens fresh s w).good ≡ true → (width_known w ≡ true) × (opens fresh s w ≡ record { good = true; next = opened_at s w; given = Nothing })
+opens_went : (s : Bool) (w : ℕ) → (opens fresh s w).good ≡ true → (width_known w ≡ true) × (opens fresh s w ≡ record { good = true; next = opened_at s w; given = None })
 opens_went s w h = go (width_known w) refl h
   where
-    go : (t : Bool) → width_known w ≡ t → (cond t (record { good = true; next = opened_at s w; given = Nothing }) (faulty fresh)).good ≡ true
-        → (width_known w ≡ true) × (cond t (record { good = true; next = opened_at s w; given = Nothing }) (faulty fresh) ≡ record { good = true; next = opened_at s w; given = Nothing })
+    go : (t : Bool) → width_known w ≡ t → (cond t (record { good = true; next = opened_at s w; given = None }) (faulty fresh)).good ≡ true
+        → (width_known w ≡ true) × (cond t (record { good = true; next = opened_at s w; given = None }) (faulty fresh) ≡ record { good = true; next = opened_at s w; given = None })
     go true e h = (e, refl)
     go false e h = absurd (true≢false (sym h))
 

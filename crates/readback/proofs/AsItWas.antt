@@ -1,4 +1,5 @@
 -- WHATEVER THE LISTER WRITES OF AN INPUT COMES BACK AS IT WAS; and what is accepted, printed again, is the same bytes.
+use Rattle.std.proofs.Common.{None, Some}
 use Prim.Native.Nat.{ℕ, suc, ◌+◌, ◌<◌, ◌≤◌, ◌^◌}
 use mathlib.Core.Path.{◌≡◌, refl, sym, ◌∙◌, ap}
 use mathlib.Core.Bool.{Bool, true, false, cond}
@@ -17,7 +18,6 @@ use Rattle.listing.specs.Listing.{items_at, listing_at, listing_of}
 use Rattle.listing.specs.declared.Field.{Field}
 use Rattle.listing.specs.declared.Item.{Item}
 use Rattle.listing.specs.declared.Item.TheVariants as item
-use Rattle.listing.specs.declared.Given.TheVariants.{Nothing, One}
 use Rattle.listing.proofs.Ordered.{Ordered, ordered}
 use Rattle.listing.proofs.Widths.{same_at_four_and_six}
 use Rattle.readback.specs.Fields.{high}
@@ -82,11 +82,11 @@ letter_plain item.Over = refl
 
 -- a line of an item, in its place
 module _ (p : ℕ) (r : Readback) (at : r.width ≡ suc p) (on : has_ended r ≡ false) (begun : r.lines ≡ 0 → ⊥) (i : Item) (proper : Proper (suc p) i) (up : above r.last i ≡ true) where
-  pub item_step : step_of r (body_of (line_of (suc p) (form_of i))) ≡ record { good = true; next = passed_by r i; given = One i }
+  pub item_step : step_of r (body_of (line_of (suc p) (form_of i))) ≡ record { good = true; next = passed_by r i; given = Some i }
   item_step =
       ap (step_of r) (line_body (suc p) (form_of i) (letter_plain i)) ∙ step_item r (head_of (suc p) (form_of i)) on begun
       ∙ ap (said r) (ap (λ (w : ℕ). item_in w (head_of (suc p) (form_of i))) at ∙ read_item p i proper)
-      ∙ ap (λ (t : Bool). cond t (record { good = true; next = passed_by r i; given = One i }) (faulty r)) up
+      ∙ ap (λ (t : Bool). cond t (record { good = true; next = passed_by r i; given = Some i }) (faulty r)) up
 
   item_goes : (ls : List (List ℕ)) → let later = reading_from (passed_by r i) ls in reading_from r (line_of (suc p) (form_of i) ∷ ls) ≡ reading later.salvage (i ∷ later.items) later.fault
   unfolding reading_from
@@ -114,12 +114,12 @@ pub first_plain : (s : Bool) → eqb (first_letter s) newline ≡ false
 first_plain true = refl
 first_plain false = refl
 
-pub first_step : (s : Bool) (w : ℕ) → width_known w ≡ true → step_of fresh (body_of (line_of w (opening_of s w))) ≡ record { good = true; next = opened_at s w; given = Nothing }
+pub first_step : (s : Bool) (w : ℕ) → width_known w ≡ true → step_of fresh (body_of (line_of w (opening_of s w))) ≡ record { good = true; next = opened_at s w; given = None }
 first_step s w h =
     let few : w ≤ high = omega (arith, known_few w h) in
     ap (step_of fresh) (line_body w (opening_of s w) (first_plain s)) ∙ step_first fresh (head_of w (opening_of s w)) refl refl
     ∙ ap (λ (t : Bool). opens fresh t (width_in (head_of w (opening_of s w)))) (read_kind s w) ∙ ap (opens fresh s) (read_width s w few)
-    ∙ ap (λ (t : Bool). cond t (record { good = true; next = opened_at s w; given = Nothing }) (faulty fresh)) h
+    ∙ ap (λ (t : Bool). cond t (record { good = true; next = opened_at s w; given = None }) (faulty fresh)) h
 
 first_goes : (s : Bool) (w : ℕ) → width_known w ≡ true → (ls : List (List ℕ)) → reading_from fresh (line_of w (opening_of s w) ∷ ls) ≡ reading_from (opened_at s w) ls
 unfolding reading_from

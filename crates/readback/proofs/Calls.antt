@@ -1,5 +1,6 @@
 -- A reader's calls, whatever answers the promises permit: what they wrote is what the bytes that they took say, in whatever pieces these came; a fault is told
 -- at its line; and pieces join.
+use Rattle.std.proofs.Common.{Option, None, Some}
 use Prim.Native.Nat.{ℕ, suc, ◌+◌, ◌*◌, ◌<◌, ◌≤◌}
 use mathlib.Core.Path.{◌≡◌, refl, sym, ◌∙◌, ap}
 use mathlib.Core.Bool.{Bool, true, false, cond, ◌&&◌}
@@ -22,8 +23,6 @@ use Rattle.text.specs.Lengths.{length_to}
 use Rattle.listing.specs.Lines.{newline}
 use Rattle.listing.specs.Items.{items_in}
 use Rattle.listing.specs.declared.Item.{Item}
-use Rattle.listing.specs.declared.Given.{Given}
-use Rattle.listing.specs.declared.Given.TheVariants.{Nothing, One}
 use Rattle.readback.specs.Items.{all_numbers}
 use Rattle.readback.specs.Steps.{fresh, step_of, good, has_ended, of_salvage}
 use Rattle.readback.specs.Pieces.{cut_in, bytes_in, is_whole, body_of, faulty_line, reads, lines_of, items_among, back, whole, read_lines}
@@ -44,7 +43,7 @@ numbers_append : (a b : List Item) → all_numbers (a ++ b) ≡ all_numbers a ++
 numbers_append [] b = refl
 numbers_append (i ∷ a) b = rw (numbers_append a b)
 
-numbers_written : (gs : List Given) → written reads gs ≡ all_numbers (items_among gs)
+numbers_written : (gs : List (Option Item)) → written reads gs ≡ all_numbers (items_among gs)
 numbers_written [] = refl
 numbers_written (g ∷ gs) = rw (numbers_written gs) (sym (numbers_append (items_in g) (items_among gs)))
 
@@ -59,17 +58,17 @@ reads_lawful =
     }
 
 -- what lines say, in front of what the lines behind them do
-abbrev Says : Readback → List (List ℕ) → List Given → Readback → List (List ℕ) → Type 0
+abbrev Says : Readback → List (List ℕ) → List (Option Item) → Readback → List (List ℕ) → Type 0
 Says r ls answers next more = reading_from r ls ≡ before (items_among answers) (reading_from next more)
 
-says_line : (r : Readback) (l : List ℕ) (ls : List (List ℕ)) (answers : List Given) (next : Readback) (more : List (List ℕ)) → reads.refusal r l ≡ 0
+says_line : (r : Readback) (l : List ℕ) (ls : List (List ℕ)) (answers : List (Option Item)) (next : Readback) (more : List (List ℕ)) → reads.refusal r l ≡ 0
     → Says (reads.next r l) ls answers next more → Says r (l ∷ ls) (reads.answer r l ∷ answers) next more
 unfolding reading_from
 says_line r l ls answers next more z ih = rw (eq-eqb (reads.refusal r l) success z, ih, append_assoc)
 
 -- a call of a good reader
 module _ (r : Readback) (piece : List ℕ) (out after : List ℤ) (a : Back) (g : good r ≡ true) (p : ReadPromise r piece out a after) where
-  abbrev f : Ran Readback Given
+  abbrev f : Ran Readback (Option Item)
   f = run reads r (lines_of piece) (length out)
 
   pub call_numbers : take (5 * a.items) after ≡ all_numbers (items_among f.answers)
@@ -199,9 +198,9 @@ room_of =
     (λ r l lines room e z h. omega (arith, full r l room e z, five_in (step_of r (body_of l)).given, one_item (step_of r (body_of l)).given))
     (λ r l lines room f e ih z h. omega (arith, ih z (omega arith), fits r l room e, length-append (all_numbers (items_in (step_of r (body_of l)).given)) (written reads f.answers)))
   where
-    one_item : (g : Given) → length (items_in g) ≤ 1
-    one_item Nothing = omega arith
-    one_item (One i) = omega arith
+    one_item : (g : Option Item) → length (items_in g) ≤ 1
+    one_item None = omega arith
+    one_item (Some i) = omega arith
 
     full : (r : Readback) (l : List ℕ) (room : ℕ) → takes reads r l room ≡ false → reads.refusal r l ≡ 0 → room < places reads r l
     full r l room e z = leb-false (places reads r l) room (rw (eq-eqb (reads.refusal r l) 0 z) at e)

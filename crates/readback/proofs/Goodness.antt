@@ -1,4 +1,5 @@
 -- Good readers: what one has, and that every line leaves it so.
+use Rattle.std.proofs.Common.{Option, None, Some}
 use Prim.Native.Nat.{ℕ, ◌+◌, ◌≤◌}
 use mathlib.Core.Path.{◌≡◌, refl, sym, ◌∙◌, ap, subst}
 use mathlib.Core.Bool.{Bool, true, false, cond, ◌&&◌}
@@ -13,8 +14,6 @@ use Rattle.numbers.proofs.Tested.{left, right}
 use Rattle.listing.specs.Scanning.{most_at, width, most_lines}
 use Rattle.listing.specs.declared.Item.{Item}
 use Rattle.listing.specs.declared.Item.TheVariants as item
-use Rattle.listing.specs.declared.Given.{Given}
-use Rattle.listing.specs.declared.Given.TheVariants.{Nothing, One}
 use Rattle.readback.specs.Items.{Proper, item_in, width_in, salvage_in}
 use Rattle.readback.specs.Steps.{old_width, width_known, mark, has_ended, opened_at, passed_by, above, faulty, opens, said, step_of, besides, fresh, good}
 use Rattle.readback.specs.declared.Readback.{Readback}
@@ -173,9 +172,9 @@ passed_good r i g n e p a =
 abbrev Leaves : Step → Type 0
 Leaves s = (good s.next ≡ true) × SmallGiven s.given
 
-said_good : (r : Readback) (line : List ℕ) (g : Given) → good r ≡ true → (r.lines ≡ 0 → ⊥) → has_ended r ≡ false → SmallGiven g → Reads r.width line g → Leaves (said r g)
-said_good r line Nothing h n e s p = (h, tt)
-said_good r line (One i) h n e s p = cases Leaves (above r.last i) (λ a. (passed_good r i h n e p.1 a, s)) (λ _. (h, tt))
+said_good : (r : Readback) (line : List ℕ) (g : Option Item) → good r ≡ true → (r.lines ≡ 0 → ⊥) → has_ended r ≡ false → SmallGiven g → Reads r.width line g → Leaves (said r g)
+said_good r line None h n e s p = (h, tt)
+said_good r line (Some i) h n e s p = cases Leaves (above r.last i) (λ a. (passed_good r i h n e p.1 a, s)) (λ _. (h, tt))
 
 pub step_leaves : (r : Readback) (line : List ℕ) → good r ≡ true → Leaves (step_of r line)
 step_leaves r line h = go (has_ended r) refl (eqb r.lines 0) refl

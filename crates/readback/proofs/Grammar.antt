@@ -1,4 +1,5 @@
 -- The grammar of a line, read both ways: what Printing writes is read as it was, and what is read is what Printing writes.
+use Rattle.std.proofs.Common.{Option}
 use Prim.Native.Nat.{ℕ, suc, ◌+◌, ◌<◌, ◌≤◌, ◌^◌}
 use mathlib.Core.Path.{◌≡◌, refl, sym, ◌∙◌, ap, subst}
 use mathlib.Core.Bool.{Bool, true, false, ◌&&◌, ◌||◌, true≢false}
@@ -19,6 +20,7 @@ use Rattle.text.specs.declared.Number.{Number}
 use Rattle.text.specs.declared.Number.TheVariants.{None, Is}
 use Rattle.text.proofs.Digits.{digits_long, places_hold, places_few, all_digits_lem, written_read, read_written}
 use Rattle.text.specs.Lengths.{length_to}
+use Rattle.std.specs.declared.option.Option.TheVariants as option
 use Rattle.listing.specs.Lines.{tab}
 use Rattle.listing.specs.Scanning.{most_lines}
 use Rattle.listing.specs.Printing.{pressed as pressed_letter, middle, three, field_of, fields_of, letter_d, letter_r, letter_h, letter_e, letter_l, letter_s, first_letter, form_of, head_of, opening_of}
@@ -29,8 +31,6 @@ use Rattle.listing.specs.declared.Item.{Item}
 use Rattle.listing.specs.declared.Item.TheVariants as item
 use Rattle.listing.specs.declared.Field.{Field}
 use Rattle.listing.specs.declared.Field.TheVariants as field
-use Rattle.listing.specs.declared.Given.{Given}
-use Rattle.listing.specs.declared.Given.TheVariants.{Nothing, One}
 use Rattle.readback.specs.Fields.{low, high, within, three_of, pressed_in, over_in, value_in, field_in, fields_in}
 use Rattle.readback.specs.Items.{pressed_number, buttons_at, Sixteen, Numbered, Proper, value_at, number_at, dropped_in, report_in, kept_in, bad_in, item_in, width_in, salvage_in}
 use Rattle.readback.specs.declared.Kind.{Kind}
@@ -310,58 +310,58 @@ not_over w n =
     no_letter (unsigned_of w n) (all_digits_lem (places_of w n) n) (ap (λ (l : List ℕ). get_or l 1 0) (sym f.bytes_are) ∙ over_only w f.ofs))
 
 -- WRITTEN THEN READ: the item of its line
-pub read_item : (p : ℕ) (i : Item) → Proper (suc p) i → item_in (suc p) (head_of (suc p) (form_of i)) ≡ One i
+pub read_item : (p : ℕ) (i : Item) → Proper (suc p) i → item_in (suc p) (head_of (suc p) (form_of i)) ≡ option.Some i
 unfolding item_in dropped_in report_in kept_in bad_in
 read_item p (item.D n k) h = rw (read_fields p (then (line h.0) (then (count h.2) none_left)), lt-ltb 0 k h.1)
 read_item p (item.R n b x y) h =
     rw (read_fields p (then (line h.0) (then (pressed {b = b}) (then (number {x = x} h.1) (then (number {x = y} h.2) none_left)))))
-    (ap (λ (b : Buttons). One (item.R n b x y)) (buttons_back b.left b.middle b.right))
+    (ap (λ (b : Buttons). option.Some (item.R n b x y)) (buttons_back b.left b.middle b.right))
 read_item p (item.H k) h = rw (read_fields p (then (count h) none_left))
 read_item p (item.E n) h = rw (not_over (suc p) n, read_fields p (then (line h) none_left))
 read_item p item.Over h = rw (read_fields p (then over_word none_left))
 
 -- READ THEN WRITTEN: the line of its item
-abbrev pub Reads : ℕ → List ℕ → Given → Type 0
-Reads w l Nothing = Unit {0}
-Reads w l (One i) = (head_of w (form_of i) ≡ l) × Proper w i
+abbrev pub Reads : ℕ → List ℕ → Option Item → Type 0
+Reads w l option.None = Unit {0}
+Reads w l (option.Some i) = (head_of w (form_of i) ≡ l) × Proper w i
 
 module _ (w : ℕ) (l : List ℕ) where
   d_reads : (vs : List ℤ) → Fielded w (kind.Line ∷ kind.Count ∷ []) l vs → lt_z (pos 0) (get_or vs 1 (pos 0)) ≡ true
-      → Reads w (letter_d ∷ l) (One (item.D (nat_abs (get_or vs 0 (pos 0))) (nat_abs (get_or vs 1 (pos 0)))))
+      → Reads w (letter_d ∷ l) (option.Some (item.D (nat_abs (get_or vs 0 (pos 0))) (nat_abs (get_or vs 1 (pos 0)))))
   d_reads vs f t = go f.ofs f.bytes_are f.values_are
     where
       go : {fs : List Field} → Ofs w (kind.Line ∷ kind.Count ∷ []) fs → fields_of w fs ≡ l → map value_of fs ≡ vs
-          → Reads w (letter_d ∷ l) (One (item.D (nat_abs (get_or vs 0 (pos 0))) (nat_abs (get_or vs 1 (pos 0)))))
+          → Reads w (letter_d ∷ l) (option.Some (item.D (nat_abs (get_or vs 0 (pos 0))) (nat_abs (get_or vs 1 (pos 0)))))
       go (then (line {n} h) (then (count {k} m) none_left)) e v =
           let some : lt_z (pos 0) (pos k) ≡ true = rw (← v) at t in
           rw (← v) (ap (λ (k : List ℕ). letter_d ∷ k) e, (h, ltb-true 0 k some, m))
 
   r_reads : (vs : List ℤ) → Fielded w (kind.Line ∷ kind.Pressed ∷ kind.Number ∷ kind.Number ∷ []) l vs
-      → Reads w (letter_r ∷ l) (One (item.R (nat_abs (get_or vs 0 (pos 0))) (buttons_at (nat_abs (get_or vs 1 (pos 0)))) (get_or vs 2 (pos 0)) (get_or vs 3 (pos 0))))
+      → Reads w (letter_r ∷ l) (option.Some (item.R (nat_abs (get_or vs 0 (pos 0))) (buttons_at (nat_abs (get_or vs 1 (pos 0)))) (get_or vs 2 (pos 0)) (get_or vs 3 (pos 0))))
   r_reads vs f = go f.ofs f.bytes_are f.values_are
     where
       go : {fs : List Field} → Ofs w (kind.Line ∷ kind.Pressed ∷ kind.Number ∷ kind.Number ∷ []) fs → fields_of w fs ≡ l → map value_of fs ≡ vs
-          → Reads w (letter_r ∷ l) (One (item.R (nat_abs (get_or vs 0 (pos 0))) (buttons_at (nat_abs (get_or vs 1 (pos 0)))) (get_or vs 2 (pos 0)) (get_or vs 3 (pos 0))))
+          → Reads w (letter_r ∷ l) (option.Some (item.R (nat_abs (get_or vs 0 (pos 0))) (buttons_at (nat_abs (get_or vs 1 (pos 0)))) (get_or vs 2 (pos 0)) (get_or vs 3 (pos 0))))
       go (then (line {n} h) (then (pressed {b}) (then (number {x} m) (then (number {x = y} o) none_left)))) e v =
-          subst (λ (vs : List ℤ). Reads w (letter_r ∷ l) (One (item.R (nat_abs (get_or vs 0 (pos 0))) (buttons_at (nat_abs (get_or vs 1 (pos 0)))) (get_or vs 2 (pos 0)) (get_or vs 3 (pos 0))))) v
-          (subst (λ (b : Buttons). Reads w (letter_r ∷ l) (One (item.R n b x y))) (sym (buttons_back b.left b.middle b.right)) (ap (λ (k : List ℕ). letter_r ∷ k) e, (h, m, o)))
+          subst (λ (vs : List ℤ). Reads w (letter_r ∷ l) (option.Some (item.R (nat_abs (get_or vs 0 (pos 0))) (buttons_at (nat_abs (get_or vs 1 (pos 0)))) (get_or vs 2 (pos 0)) (get_or vs 3 (pos 0))))) v
+          (subst (λ (b : Buttons). Reads w (letter_r ∷ l) (option.Some (item.R n b x y))) (sym (buttons_back b.left b.middle b.right)) (ap (λ (k : List ℕ). letter_r ∷ k) e, (h, m, o)))
 
-  h_reads : (vs : List ℤ) → Fielded w (kind.Count ∷ []) l vs → Reads w (letter_h ∷ l) (One (item.H (nat_abs (get_or vs 0 (pos 0)))))
+  h_reads : (vs : List ℤ) → Fielded w (kind.Count ∷ []) l vs → Reads w (letter_h ∷ l) (option.Some (item.H (nat_abs (get_or vs 0 (pos 0)))))
   h_reads vs f = go f.ofs f.bytes_are f.values_are
     where
-      go : {fs : List Field} → Ofs w (kind.Count ∷ []) fs → fields_of w fs ≡ l → map value_of fs ≡ vs → Reads w (letter_h ∷ l) (One (item.H (nat_abs (get_or vs 0 (pos 0)))))
+      go : {fs : List Field} → Ofs w (kind.Count ∷ []) fs → fields_of w fs ≡ l → map value_of fs ≡ vs → Reads w (letter_h ∷ l) (option.Some (item.H (nat_abs (get_or vs 0 (pos 0)))))
       go (then (count {k} m) none_left) e v = rw (← v) (ap (λ (k : List ℕ). letter_h ∷ k) e, m)
 
-  e_reads : (vs : List ℤ) → Fielded w (kind.Line ∷ []) l vs → Reads w (letter_e ∷ l) (One (item.E (nat_abs (get_or vs 0 (pos 0)))))
+  e_reads : (vs : List ℤ) → Fielded w (kind.Line ∷ []) l vs → Reads w (letter_e ∷ l) (option.Some (item.E (nat_abs (get_or vs 0 (pos 0)))))
   e_reads vs f = go f.ofs f.bytes_are f.values_are
     where
-      go : {fs : List Field} → Ofs w (kind.Line ∷ []) fs → fields_of w fs ≡ l → map value_of fs ≡ vs → Reads w (letter_e ∷ l) (One (item.E (nat_abs (get_or vs 0 (pos 0)))))
+      go : {fs : List Field} → Ofs w (kind.Line ∷ []) fs → fields_of w fs ≡ l → map value_of fs ≡ vs → Reads w (letter_e ∷ l) (option.Some (item.E (nat_abs (get_or vs 0 (pos 0)))))
       go (then (line {n} h) none_left) e v = rw (← v) (ap (λ (k : List ℕ). letter_e ∷ k) e, h)
 
-  o_reads : (vs : List ℤ) → Fielded w (kind.Over ∷ []) l vs → Reads w (letter_e ∷ l) (One item.Over)
+  o_reads : (vs : List ℤ) → Fielded w (kind.Over ∷ []) l vs → Reads w (letter_e ∷ l) (option.Some item.Over)
   o_reads vs f = go f.ofs f.bytes_are
     where
-      go : {fs : List Field} → Ofs w (kind.Over ∷ []) fs → fields_of w fs ≡ l → Reads w (letter_e ∷ l) (One item.Over)
+      go : {fs : List Field} → Ofs w (kind.Over ∷ []) fs → fields_of w fs ≡ l → Reads w (letter_e ∷ l) (option.Some item.Over)
       go (then over_word none_left) e = (ap (λ (k : List ℕ). letter_e ∷ k) e, tt)
 
 pub item_read : (w : ℕ) (line : List ℕ) → Reads w line (item_in w line)
@@ -382,8 +382,8 @@ item_read w (c ∷ l) =
     (λ _. cases P (fields_in w (kind.Line ∷ []) l).good (λ t. at c letter_e e (item.E (number_at 0 (fields_in w (kind.Line ∷ []) l))) (e_reads w l (fields_in w (kind.Line ∷ []) l).values (fields_read w (kind.Line ∷ []) l t))) (λ _. tt)))
     (λ _. tt))))
   where
-    at : (c letter : ℕ) → eqb c letter ≡ true → (i : Item) → Reads w (letter ∷ l) (One i) → Reads w (c ∷ l) (One i)
-    at c letter e i h = subst (λ (c : ℕ). Reads w (c ∷ l) (One i)) (sym (eqb-true c letter e)) h
+    at : (c letter : ℕ) → eqb c letter ≡ true → (i : Item) → Reads w (letter ∷ l) (option.Some i) → Reads w (c ∷ l) (option.Some i)
+    at c letter e i h = subst (λ (c : ℕ). Reads w (c ∷ l) (option.Some i)) (sym (eqb-true c letter e)) h
 
 -- the first line, both ways
 pub read_width : (s : Bool) (w : ℕ) → w ≤ high → width_in (head_of w (opening_of s w)) ≡ w

@@ -1,4 +1,6 @@
 -- The loop over the lines of a piece, of any machine that follows the reading: where it stands, the first line of what is left, and how it goes on and ends.
+use Rattle.listing.specs.declared.Item.{Item}
+use Rattle.std.proofs.Common.{Option, None, Some}
 use Prim.Native.Nat.{ℕ, suc, ◌+◌, ◌-◌, ◌*◌, ◌<◌, ◌≤◌}
 use mathlib.Core.Path.{◌≡◌, refl, sym, ◌∙◌, ap, subst}
 use mathlib.Core.Bool.{true, false, cond}
@@ -15,8 +17,6 @@ use Rattle.fold.proofs.Parts.{none, one, joins, part_room, part_long, part_left,
 use Rattle.text.specs.Lengths.{length_to}
 use Rattle.listing.specs.Lines.{newline}
 use Rattle.listing.specs.Items.{items_in}
-use Rattle.listing.specs.declared.Given.{Given}
-use Rattle.listing.specs.declared.Given.TheVariants.{Nothing, One}
 use Rattle.readback.specs.Items.{all_numbers}
 use Rattle.readback.specs.Steps.{step_of, good}
 use Rattle.readback.specs.Pieces.{cut_in, bytes_in, body_of, faulty_line, reads, longest, lines_of, items_among, back, fault_at, whole, read_lines, pieces_of}
@@ -28,15 +28,15 @@ use Rattle.readback.proofs.Cuts.{first_long, first_whole, first_body, lines_line
 use Rattle.readback.proofs.Goodness.{step_leaves}
 
 -- five numbers an item
-pub five_in : (g : Given) → length (all_numbers (items_in g)) ≡ 5 * length (items_in g)
-five_in Nothing = refl
-five_in (One i) = refl
+pub five_in : (g : Option Item) → length (all_numbers (items_in g)) ≡ 5 * length (items_in g)
+five_in None = refl
+five_in (Some i) = refl
 
-pub items_append : (a b : List Given) → items_among (a ++ b) ≡ items_among a ++ items_among b
+pub items_append : (a b : List (Option Item)) → items_among (a ++ b) ≡ items_among a ++ items_among b
 items_append [] b = refl
 items_append (g ∷ a) b = rw (items_append a b) (sym (append_assoc (items_in g) (items_among a) (items_among b)))
 
-pub five_each : (gs : List Given) → length (written reads gs) ≡ 5 * length (items_among gs)
+pub five_each : (gs : List (Option Item)) → length (written reads gs) ≡ 5 * length (items_among gs)
 five_each [] = refl
 five_each (g ∷ gs) = omega (arith, five_in g, five_each gs, length-append (all_numbers (items_in g)) (written reads gs), length-append (items_in g) (items_among gs))
 

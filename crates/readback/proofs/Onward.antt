@@ -1,4 +1,6 @@
 -- What a machine over lines leaves of a piece, whatever follows: the front of a line, or a line that it refuses.
+use Rattle.listing.specs.declared.Item.{Item}
+use Rattle.std.proofs.Common.{Option, None, Some}
 use Prim.Native.Nat.{ℕ, suc, ◌+◌, ◌-◌, ◌*◌, ◌<◌, ◌≤◌}
 use mathlib.Core.Path.{◌≡◌, refl, sym, ◌∙◌, ap}
 use mathlib.Core.Bool.{Bool, true, false, ◌&&◌, true≢false}
@@ -17,8 +19,6 @@ use Rattle.wire.specs.Numbers.{success}
 use Rattle.text.specs.Lengths.{length_to}
 use Rattle.text.proofs.Lengths.{to_within, to_append, same_length_to}
 use Rattle.listing.specs.Lines.{newline, front}
-use Rattle.listing.specs.declared.Given.{Given}
-use Rattle.listing.specs.declared.Given.TheVariants.{Nothing, One}
 use Rattle.readback.specs.Items.{item_in, width_in, salvage_in}
 use Rattle.readback.specs.Steps.{step_of, good, opens, said, width_known, above, has_ended}
 use Rattle.readback.specs.Pieces.{cut_in, bytes_in, is_whole, body_of, faulty_line, reads, longest, cut_off, handed, lines_of}
@@ -39,11 +39,11 @@ one_more_lem r line = go (has_ended r) refl (eqb r.lines 0) refl
     first z true k = rw k (λ y. omega (arith, z))
     first z false k = rw k (λ y. absurd (true≢false (sym y)))
 
-    item : (g : Given) → (said r g).good ≡ true → (said r g).next.lines ≡ r.lines + 1
-    item Nothing = λ y. absurd (true≢false (sym y))
-    item (One i) = up (above r.last i) refl
+    item : (g : Option Item) → (said r g).good ≡ true → (said r g).next.lines ≡ r.lines + 1
+    item None = λ y. absurd (true≢false (sym y))
+    item (Some i) = up (above r.last i) refl
       where
-        up : (t : Bool) → above r.last i ≡ t → (said r (One i)).good ≡ true → (said r (One i)).next.lines ≡ r.lines + 1
+        up : (t : Bool) → above r.last i ≡ t → (said r (Some i)).good ≡ true → (said r (Some i)).next.lines ≡ r.lines + 1
         up true k = rw k (λ y. refl)
         up false k = rw k (λ y. absurd (true≢false (sym y)))
 

@@ -1,4 +1,6 @@
 -- The lines of a piece, rewritten: the text of a line, its number, and what the first line of a piece does.
+use Rattle.listing.specs.declared.Item.{Item}
+use Rattle.std.proofs.Common.{Option, None, Some}
 use Prim.Native.Nat.{ℕ, ◌+◌, ◌*◌, ◌<◌, ◌≤◌, ◌^◌}
 use mathlib.Core.Path.{◌≡◌, refl, sym, ◌∙◌, ap, subst}
 use mathlib.Core.Bool.{Bool, true, false, cond, ◌&&◌, true≢false}
@@ -27,8 +29,6 @@ use Rattle.listing.specs.Printing.{field_of, fields_of, Form, form_of, opening_o
 use Rattle.listing.specs.declared.Field.{Field}
 use Rattle.listing.specs.declared.Field.TheVariants as field
 use Rattle.listing.specs.declared.Item.TheVariants as item
-use Rattle.listing.specs.declared.Given.{Given}
-use Rattle.listing.specs.declared.Given.TheVariants.{Nothing, One}
 use Rattle.listing.proofs.Feeds.{size, put_room, put_wrote, put_short}
 use Rattle.readback.specs.Fields.{low, high}
 use Rattle.readback.specs.Items.{Sixteen}
@@ -75,13 +75,13 @@ few_form : (w : ℕ) → w ≤ width → (f : Form) → Short f.fields → lengt
 unfolding line_of
 few_form w h f s n = omega (arith, few_fields w h f.fields s, length-append (head_of w f) (newline ∷ []))
 
-pub few_line : (t : Bool) (w : ℕ) → w ≤ width → (g : Given) → SmallGiven g → length (line_at t w g) ≤ 40
-few_line t w h Nothing s = few_form w h (opening_of t w) (omega (arith, h), tt) (omega arith)
-few_line t w h (One (item.R n b x y)) s = few_form w h (form_of (item.R n b x y)) (s.0, (sixteen_few x s.1, (sixteen_few y s.2, tt))) (omega arith)
-few_line t w h (One (item.D n k)) s = few_form w h (form_of (item.D n k)) (s.0, (omega (arith, s.1), tt)) (omega arith)
-few_line t w h (One (item.H k)) s = few_form w h (form_of (item.H k)) (omega (arith, s), tt) (omega arith)
-few_line t w h (One (item.E n)) s = few_form w h (form_of (item.E n)) (s, tt) (omega arith)
-few_line t w h (One item.Over) s = few_form w h (form_of item.Over) tt (omega arith)
+pub few_line : (t : Bool) (w : ℕ) → w ≤ width → (g : Option Item) → SmallGiven g → length (line_at t w g) ≤ 40
+few_line t w h None s = few_form w h (opening_of t w) (omega (arith, h), tt) (omega arith)
+few_line t w h (Some (item.R n b x y)) s = few_form w h (form_of (item.R n b x y)) (s.0, (sixteen_few x s.1, (sixteen_few y s.2, tt))) (omega arith)
+few_line t w h (Some (item.D n k)) s = few_form w h (form_of (item.D n k)) (s.0, (omega (arith, s.1), tt)) (omega arith)
+few_line t w h (Some (item.H k)) s = few_form w h (form_of (item.H k)) (omega (arith, s), tt) (omega arith)
+few_line t w h (Some (item.E n)) s = few_form w h (form_of (item.E n)) (s, tt) (omega arith)
+few_line t w h (Some item.Over) s = few_form w h (form_of item.Over) tt (omega arith)
 
 pub rewriting_follows : Follows rewrites
 rewriting_follows = record { next_is = λ r l. refl; faulty_is = λ r l e. rw e }

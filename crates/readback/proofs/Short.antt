@@ -1,4 +1,5 @@
 -- No line that is accepted is longer than `longest`.
+use Rattle.std.proofs.Common.{None}
 use Prim.Native.Nat.{ℕ, suc, ◌+◌, ◌<◌, ◌≤◌, ◌^◌}
 use mathlib.Core.Path.{◌≡◌, refl, sym, ◌∙◌, ap, subst}
 use mathlib.Core.Bool.{Bool, true, false, cond, true≢false}
@@ -15,7 +16,6 @@ use Rattle.text.proofs.Digits.{digits_long, places_few, decimal_few}
 use Rattle.listing.specs.Printing.{form_of, head_of, opening_of}
 use Rattle.listing.specs.declared.Item.{Item}
 use Rattle.listing.specs.declared.Item.TheVariants as item
-use Rattle.listing.specs.declared.Given.TheVariants.{Nothing}
 use Rattle.readback.specs.Items.{Proper, width_in, salvage_in}
 use Rattle.readback.specs.Steps.{width_known, opened_at, faulty, opens, step_of, good, has_ended}
 use Rattle.readback.specs.Pieces.{longest}
@@ -51,7 +51,7 @@ opening_short s w k = simp length-append (omega (arith, number_few (pos w) (omeg
 opens_known : (r : Readback) (s : Bool) (w : ℕ) → (opens r s w).good ≡ true → width_known w ≡ true
 opens_known r s w h = go (width_known w) h
   where
-    go : (t : Bool) → (cond t (record { good = true; next = opened_at s w; given = Nothing }) (faulty r)).good ≡ true → t ≡ true
+    go : (t : Bool) → (cond t (record { good = true; next = opened_at s w; given = None }) (faulty r)).good ≡ true → t ≡ true
     go true h = refl
     go false h = absurd (true≢false (sym h))
 

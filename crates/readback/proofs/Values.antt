@@ -1,4 +1,6 @@
 -- Fields of a line: where they end, what bounds their values have, and fields one behind the other as the code reads them.
+use Rattle.listing.specs.declared.Item.{Item}
+use Rattle.std.proofs.Common.{Option}
 use Prim.Native.Nat.{ℕ, ◌+◌, ◌-◌, ◌<◌, ◌≤◌}
 use mathlib.Core.Path.{◌≡◌, refl, sym, ◌∙◌}
 use mathlib.Core.Bool.{Bool, true, false, cond, ◌&&◌, ◌||◌, true≢false}
@@ -19,13 +21,12 @@ use Rattle.text.specs.Decimals.{plain, number_in}
 use Rattle.text.specs.declared.Number.{Number}
 use Rattle.text.specs.declared.Number.TheVariants.{None, Is}
 use Rattle.text.specs.Lengths.{length_to}
+use Rattle.std.specs.declared.option.Option.TheVariants as option
 use Rattle.listing.specs.Lines.{tab}
 use Rattle.listing.specs.Scanning.{most_lines}
 use Rattle.listing.specs.Printing.{letter_d, letter_r, letter_h, letter_e}
 use Rattle.listing.specs.declared.Middle.{Middle}
 use Rattle.listing.specs.declared.Middle.TheVariants.{Up, Down, Unknown}
-use Rattle.listing.specs.declared.Given.{Given}
-use Rattle.listing.specs.declared.Given.TheVariants.{Nothing, One}
 use Rattle.listing.specs.declared.Item.TheVariants as item
 use Rattle.readback.specs.Fields.{low, high, within, counts, pressed_in, value_in, Part, field_in, took, Fields, fields_in}
 use Rattle.readback.specs.Items.{Sixteen, Small, value_at, middle_number, counted, buttons_at, five, dropped_in, report_in, kept_in, bad_in, item_in, width_in, salvage_in}
@@ -131,11 +132,11 @@ module _ (w : ℕ) (line : List ℕ) where
     abbrev whole_d : Bool
     whole_d = (n.good && (k.good && leb (length line) k.end)) && lt_z (pos 0) k.value
 
-    pub dropped_yes : whole_d ≡ true → One (item.D (nat_abs n.value) (nat_abs k.value)) ≡ dropped_in w (drop 1 line)
+    pub dropped_yes : whole_d ≡ true → option.Some (item.D (nat_abs n.value) (nat_abs k.value)) ≡ dropped_in w (drop 1 line)
     unfolding dropped_in fields_at
     dropped_yes t = rw (fields_at_lem w (kind.Line ∷ kind.Count ∷ []) line 1, ek, en, rw (ek, en) at t)
 
-    pub dropped_no : whole_d ≡ false → Nothing ≡ dropped_in w (drop 1 line)
+    pub dropped_no : whole_d ≡ false → option.None ≡ dropped_in w (drop 1 line)
     unfolding dropped_in fields_at
     dropped_no t = rw (fields_at_lem w (kind.Line ∷ kind.Count ∷ []) line 1, rw (ek, en) at t)
 
@@ -143,32 +144,32 @@ module _ (w : ℕ) (line : List ℕ) where
     abbrev whole_r : Bool
     whole_r = n.good && (b.good && (x.good && (y.good && leb (length line) y.end)))
 
-    pub report_yes : whole_r ≡ true → One (item.R (nat_abs n.value) (buttons_at (nat_abs b.value)) x.value y.value) ≡ report_in w (drop 1 line)
+    pub report_yes : whole_r ≡ true → option.Some (item.R (nat_abs n.value) (buttons_at (nat_abs b.value)) x.value y.value) ≡ report_in w (drop 1 line)
     unfolding report_in fields_at
     report_yes t = rw (fields_at_lem w (kind.Line ∷ kind.Pressed ∷ kind.Number ∷ kind.Number ∷ []) line 1, ey, ex, eb, en, rw (ey, ex, eb, en) at t)
 
-    pub report_no : whole_r ≡ false → Nothing ≡ report_in w (drop 1 line)
+    pub report_no : whole_r ≡ false → option.None ≡ report_in w (drop 1 line)
     unfolding report_in fields_at
     report_no t = rw (fields_at_lem w (kind.Line ∷ kind.Pressed ∷ kind.Number ∷ kind.Number ∷ []) line 1, rw (ey, ex, eb, en) at t)
 
-  pub kept_yes : (k : Took) → k ≡ first kind.Count → k.good && leb (length line) k.end ≡ true → One (item.H (nat_abs k.value)) ≡ kept_in w (drop 1 line)
+  pub kept_yes : (k : Took) → k ≡ first kind.Count → k.good && leb (length line) k.end ≡ true → option.Some (item.H (nat_abs k.value)) ≡ kept_in w (drop 1 line)
   unfolding kept_in fields_at
   kept_yes k ek t = rw (fields_at_lem w (kind.Count ∷ []) line 1, ek, rw ek at t)
 
-  pub kept_no : (k : Took) → k ≡ first kind.Count → k.good && leb (length line) k.end ≡ false → Nothing ≡ kept_in w (drop 1 line)
+  pub kept_no : (k : Took) → k ≡ first kind.Count → k.good && leb (length line) k.end ≡ false → option.None ≡ kept_in w (drop 1 line)
   unfolding kept_in fields_at
   kept_no k ek t = rw (fields_at_lem w (kind.Count ∷ []) line 1, rw ek at t)
 
-  pub over_yes : (o : Took) → o ≡ first kind.Over → o.good && leb (length line) o.end ≡ true → One item.Over ≡ bad_in w (drop 1 line)
+  pub over_yes : (o : Took) → o ≡ first kind.Over → o.good && leb (length line) o.end ≡ true → option.Some item.Over ≡ bad_in w (drop 1 line)
   unfolding bad_in fields_at
   over_yes o eo t = rw (fields_at_lem w (kind.Over ∷ []) line 1, rw eo at t)
 
   module _ (o n : Took) (eo : o ≡ first kind.Over) (en : n ≡ first kind.Line) (no : o.good && leb (length line) o.end ≡ false) where
-    pub bad_yes : n.good && leb (length line) n.end ≡ true → One (item.E (nat_abs n.value)) ≡ bad_in w (drop 1 line)
+    pub bad_yes : n.good && leb (length line) n.end ≡ true → option.Some (item.E (nat_abs n.value)) ≡ bad_in w (drop 1 line)
     unfolding bad_in fields_at
     bad_yes t = rw (fields_at_lem w (kind.Over ∷ []) line 1, fields_at_lem w (kind.Line ∷ []) line 1, rw eo at no, en, rw en at t)
 
-    pub bad_no : n.good && leb (length line) n.end ≡ false → Nothing ≡ bad_in w (drop 1 line)
+    pub bad_no : n.good && leb (length line) n.end ≡ false → option.None ≡ bad_in w (drop 1 line)
     unfolding bad_in fields_at
     bad_no t = rw (fields_at_lem w (kind.Over ∷ []) line 1, fields_at_lem w (kind.Line ∷ []) line 1, rw eo at no, rw en at t)
 
@@ -210,21 +211,21 @@ a_kind [] h = absurd (h refl)
 a_kind (c ∷ l) h = refl
 
 -- a line by its letter
-pub no_item : (w : ℕ) (line : List ℕ) → length line ≡ 0 → Nothing ≡ item_in w line
+pub no_item : (w : ℕ) (line : List ℕ) → length line ≡ 0 → option.None ≡ item_in w line
 unfolding item_in
 no_item w [] h = refl
 no_item w (c ∷ l) h = absurd (omega arith)
 
 module _ (w : ℕ) (line : List ℕ) (some : length line ≡ 0 → ⊥) where
-  by_letter : item_in w line ≡ cond (eqb (get_or line 0 0) 0x44) (dropped_in w (drop 1 line)) (cond (eqb (get_or line 0 0) 0x52) (report_in w (drop 1 line)) (cond (eqb (get_or line 0 0) 0x48) (kept_in w (drop 1 line)) (cond (eqb (get_or line 0 0) 0x45) (bad_in w (drop 1 line)) Nothing)))
+  by_letter : item_in w line ≡ cond (eqb (get_or line 0 0) 0x44) (dropped_in w (drop 1 line)) (cond (eqb (get_or line 0 0) 0x52) (report_in w (drop 1 line)) (cond (eqb (get_or line 0 0) 0x48) (kept_in w (drop 1 line)) (cond (eqb (get_or line 0 0) 0x45) (bad_in w (drop 1 line)) option.None)))
   unfolding item_in
   by_letter = go line some
     where
-      go : (l : List ℕ) → (length l ≡ 0 → ⊥) → item_in w l ≡ cond (eqb (get_or l 0 0) 0x44) (dropped_in w (drop 1 l)) (cond (eqb (get_or l 0 0) 0x52) (report_in w (drop 1 l)) (cond (eqb (get_or l 0 0) 0x48) (kept_in w (drop 1 l)) (cond (eqb (get_or l 0 0) 0x45) (bad_in w (drop 1 l)) Nothing)))
+      go : (l : List ℕ) → (length l ≡ 0 → ⊥) → item_in w l ≡ cond (eqb (get_or l 0 0) 0x44) (dropped_in w (drop 1 l)) (cond (eqb (get_or l 0 0) 0x52) (report_in w (drop 1 l)) (cond (eqb (get_or l 0 0) 0x48) (kept_in w (drop 1 l)) (cond (eqb (get_or l 0 0) 0x45) (bad_in w (drop 1 l)) option.None)))
       go [] h = absurd (h refl)
       go (c ∷ l) h = refl
 
-  module _ {g : Given} where
+  module _ {g : Option Item} where
     pub item_d : get_or line 0 0 ≡ 0x44 → g ≡ dropped_in w (drop 1 line) → g ≡ item_in w line
     item_d e h = rw (by_letter, e) h
 
@@ -237,7 +238,7 @@ module _ (w : ℕ) (line : List ℕ) (some : length line ≡ 0 → ⊥) where
     pub item_e : get_or line 0 0 ≡ 0x45 → g ≡ bad_in w (drop 1 line) → g ≡ item_in w line
     item_e e h = rw (by_letter, e) h
 
-  pub item_other : (get_or line 0 0 ≡ 0x44 → ⊥) → (get_or line 0 0 ≡ 0x52 → ⊥) → (get_or line 0 0 ≡ 0x48 → ⊥) → (get_or line 0 0 ≡ 0x45 → ⊥) → Nothing ≡ item_in w line
+  pub item_other : (get_or line 0 0 ≡ 0x44 → ⊥) → (get_or line 0 0 ≡ 0x52 → ⊥) → (get_or line 0 0 ≡ 0x48 → ⊥) → (get_or line 0 0 ≡ 0x45 → ⊥) → option.None ≡ item_in w line
   item_other d r h e = rw (by_letter, ne_eqb (get_or line 0 0) 0x44 d, ne_eqb (get_or line 0 0) 0x52 r, ne_eqb (get_or line 0 0) 0x48 h, ne_eqb (get_or line 0 0) 0x45 e)
 
 -- buttons as a number
@@ -272,9 +273,9 @@ fields_bound w (k ∷ ks) line h =
     let more = fields_in w ks (drop f.size line) in
     (field_bound w k line (left f.good more.good h), fields_bound w ks (drop f.size line) (right f.good more.good h))
 
-abbrev pub SmallGiven : Given → Type 0
-SmallGiven Nothing = Unit {0}
-SmallGiven (One i) = Small i
+abbrev pub SmallGiven : Option Item → Type 0
+SmallGiven option.None = Unit {0}
+SmallGiven (option.Some i) = Small i
 
 small_dropped : (w : ℕ) (line : List ℕ) → SmallGiven (dropped_in w line)
 unfolding dropped_in fields_in

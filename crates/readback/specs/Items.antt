@@ -1,5 +1,5 @@
 -- A line's letter and fields, to its item: Printing's forms read the other way; and an item as five numbers.
-use Rattle.std.specs.Prelude.{ℕ, ◌+◌, ◌/◌, ◌%◌, ◌^◌, ◌<◌, ◌≤◌, ◌≡◌, Bool, false, cond, ◌&&◌, ◌||◌, List, [], ◌∷◌, ◌++◌, leb, eqb, ℤ, pos, nat_abs, get_or}
+use Rattle.std.specs.Prelude.{ℕ, ◌+◌, ◌/◌, ◌%◌, ◌^◌, ◌<◌, ◌≤◌, ◌≡◌, Bool, false, cond, ◌&&◌, ◌||◌, List, [], ◌∷◌, ◌++◌, leb, eqb, ℤ, pos, nat_abs, get_or, Option, None, Some}
 use Rattle.std.specs.Int.Signed.{lt_z}
 use Rattle.text.specs.Decimals.{plain}
 use Rattle.listing.specs.Scanning.{most_lines}
@@ -9,8 +9,6 @@ use Rattle.listing.specs.declared.Middle.TheVariants.{Up, Down, Unknown}
 use Rattle.listing.specs.declared.Buttons.{Buttons}
 use Rattle.listing.specs.declared.Item.{Item}
 use Rattle.listing.specs.declared.Item.TheVariants as item
-use Rattle.listing.specs.declared.Given.{Given}
-use Rattle.listing.specs.declared.Given.TheVariants.{Nothing, One}
 use Rattle.readback.specs.Fields.{low, high, Fields, fields_in}
 use Rattle.readback.specs.declared.Kind.TheVariants as kind
 use Rattle.readback.specs.declared.Five.{Five}
@@ -84,36 +82,36 @@ abbrev pub number_at : ℕ → Fields → ℕ
 number_at i f = nat_abs (value_at i f)
 
 -- "`D`, line of the word so answered, bytes dropped (when not 0)": "D's count is 1 or more"
-unfoldable pub dropped_in : ℕ → List ℕ → Given
+unfoldable pub dropped_in : ℕ → List ℕ → Option Item
 dropped_in w line =
     let f = fields_in w (kind.Line ∷ kind.Count ∷ []) line in
-    cond (f.good && lt_z (pos 0) (value_at 1 f)) (One (item.D (number_at 0 f) (number_at 1 f))) Nothing
+    cond (f.good && lt_z (pos 0) (value_at 1 f)) (Some (item.D (number_at 0 f) (number_at 1 f))) None
 
 -- "`R`, line of the last byte, buttons [..], x and y": "values are not judged"
-unfoldable pub report_in : ℕ → List ℕ → Given
+unfoldable pub report_in : ℕ → List ℕ → Option Item
 report_in w line =
     let f = fields_in w (kind.Line ∷ kind.Pressed ∷ kind.Number ∷ kind.Number ∷ []) line in
-    cond f.good (One (item.R (number_at 0 f) (buttons_at (number_at 1 f)) (value_at 2 f) (value_at 3 f))) Nothing
+    cond f.good (Some (item.R (number_at 0 f) (buttons_at (number_at 1 f)) (value_at 2 f) (value_at 3 f))) None
 
 -- "`H` and bytes kept": "and H's 0 or more"
-unfoldable pub kept_in : ℕ → List ℕ → Given
-kept_in w line = let f = fields_in w (kind.Count ∷ []) line in cond f.good (One (item.H (number_at 0 f))) Nothing
+unfoldable pub kept_in : ℕ → List ℕ → Option Item
+kept_in w line = let f = fields_in w (kind.Count ∷ []) line in cond f.good (Some (item.H (number_at 0 f))) None
 
 -- "`E` and its number", "`E` and `over`"
-unfoldable pub bad_in : ℕ → List ℕ → Given
+unfoldable pub bad_in : ℕ → List ℕ → Option Item
 bad_in w line =
     let f = fields_in w (kind.Line ∷ []) line in
-    cond (fields_in w (kind.Over ∷ []) line).good (One item.Over) (cond f.good (One (item.E (number_at 0 f))) Nothing)
+    cond (fields_in w (kind.Over ∷ []) line).good (Some item.Over) (cond f.good (Some (item.E (number_at 0 f))) None)
 
 -- the item of a line at a width, if it is one: a letter and its fields
-unfoldable pub item_in : ℕ → List ℕ → Given
-item_in w [] = Nothing
+unfoldable pub item_in : ℕ → List ℕ → Option Item
+item_in w [] = None
 item_in w (letter ∷ fields) =
     cond (eqb letter letter_d) (dropped_in w fields)
     (cond (eqb letter letter_r) (report_in w fields)
     (cond (eqb letter letter_h) (kept_in w fields)
     (cond (eqb letter letter_e) (bad_in w fields)
-    Nothing)))
+    None)))
 
 -- "It always prints first `L` and the width of line numbers", or `S`: the width, or 0 where the line says none
 unfoldable pub width_in : List ℕ → ℕ

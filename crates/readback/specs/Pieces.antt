@@ -1,5 +1,5 @@
 -- The lines of a piece of a listing, one after the other: a machine over lines, and a call of it.
-use Rattle.std.specs.Prelude.{ℕ, ◌+◌, ◌*◌, Bool, not, cond, ◌&&◌, List, [], ◌∷◌, ◌++◌, ltb, leb, eqb, ℤ, length, take, drop}
+use Rattle.std.specs.Prelude.{ℕ, ◌+◌, ◌*◌, Bool, not, cond, ◌&&◌, List, [], ◌∷◌, ◌++◌, ltb, leb, eqb, ℤ, length, take, drop, Option}
 use Rattle.fold.specs.Fold.{MachineOver, Ran, written, run}
 use Rattle.wire.specs.Numbers.{success, bad_state}
 use Rattle.text.specs.Lengths.{length_to}
@@ -7,7 +7,6 @@ use Rattle.listing.specs.Lines.{newline, front}
 use Rattle.listing.specs.Scanning.{width}
 use Rattle.listing.specs.Items.{items_in}
 use Rattle.listing.specs.declared.Item.{Item}
-use Rattle.listing.specs.declared.Given.{Given}
 use Rattle.readback.specs.Items.{all_numbers}
 use Rattle.readback.specs.Steps.{step_of, good}
 use Rattle.readback.specs.declared.Readback.{Readback}
@@ -35,7 +34,7 @@ abbrev pub faulty_line : ℕ
 faulty_line = 7
 
 -- the reader as a machine over lines: each is taken with its item, or is faulty, as a last line without its newline is
-abbrev pub reads : MachineOver (List ℕ) Readback Given ℤ
+abbrev pub reads : MachineOver (List ℕ) Readback (Option Item) ℤ
 reads =
     record {
       refusal = λ r l. cond (is_whole l && (step_of r (body_of l)).good) success faulty_line;
@@ -60,7 +59,7 @@ unfoldable pub lines_of : List ℕ → List (List ℕ)
 lines_of piece = handed (cut_in piece)
 
 -- the items among what lines gave
-abbrev pub items_among : List Given → List Item
+abbrev pub items_among : List (Option Item) → List Item
 items_among [] = []
 items_among (g ∷ gs) = items_in g ++ items_among gs
 
@@ -117,7 +116,7 @@ module _ {A X : Type 0} (c : OverLines A X) where
   call_of r piece out = cond (good r) (pieces_of r piece out) (stopped bad_state r out)
 
 -- `read`: the items of lines, each of five numbers
-abbrev pub read_lines : OverLines Given ℤ
+abbrev pub read_lines : OverLines (Option Item) ℤ
 read_lines = record { machine = reads; count = λ gs. length (items_among gs); places = λ n. 5 * n }
 
 abbrev pub back : ℕ → Readback → ℕ → ℕ → ℕ → Back

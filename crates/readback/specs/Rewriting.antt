@@ -1,13 +1,11 @@
 -- A listing rewritten at the other width, line by line: "A listing rewritten at the other width shows the same items."
-use Rattle.std.specs.Prelude.{ℕ, Bool, true, cond, List, leb, eqb, length}
+use Rattle.std.specs.Prelude.{ℕ, Bool, true, cond, List, leb, eqb, length, Option, None, Some}
 use Rattle.fold.specs.Fold.{MachineOver, written}
 use Rattle.wire.specs.Numbers.{success}
 use Rattle.listing.specs.Scanning.{most_at, width}
 use Rattle.listing.specs.Printing.{line_at}
 use Rattle.listing.specs.declared.Item.{Item}
 use Rattle.listing.specs.declared.Item.TheVariants as item
-use Rattle.listing.specs.declared.Given.{Given}
-use Rattle.listing.specs.declared.Given.TheVariants.{Nothing, One}
 use Rattle.readback.specs.Steps.{old_width, of_salvage}
 use Rattle.readback.specs.Pieces.{faulty_line, reads, Whole, OverLines}
 use Rattle.readback.specs.declared.Readback.{Readback}
@@ -29,9 +27,9 @@ fits_at w (item.H k) = true
 fits_at w (item.E n) = leb n (most_at w)
 fits_at w item.Over = true
 
-abbrev pub given_fits : ℕ → Given → Bool
-given_fits w Nothing = true
-given_fits w (One i) = fits_at w i
+abbrev pub given_fits : ℕ → Option Item → Bool
+given_fits w None = true
+given_fits w (Some i) = fits_at w i
 
 -- the width at which a line is rewritten that is taken: the other one
 abbrev pub width_behind : Readback → List ℕ → ℕ

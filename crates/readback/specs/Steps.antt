@@ -1,10 +1,8 @@
 -- A line in its place: what it does to a reader of listings, and which readers are good.
-use Rattle.std.specs.Prelude.{ℕ, ◌+◌, Bool, true, false, cond, ◌&&◌, ◌||◌, List, ltb, leb, eqb}
+use Rattle.std.specs.Prelude.{ℕ, ◌+◌, Bool, true, false, cond, ◌&&◌, ◌||◌, List, ltb, leb, eqb, Option, None, Some}
 use Rattle.listing.specs.Scanning.{most_at, width}
 use Rattle.listing.specs.declared.Item.{Item}
 use Rattle.listing.specs.declared.Item.TheVariants as item
-use Rattle.listing.specs.declared.Given.{Given}
-use Rattle.listing.specs.declared.Given.TheVariants.{Nothing, One}
 use Rattle.readback.specs.Items.{item_in, width_in, salvage_in}
 use Rattle.readback.specs.declared.Readback.{Readback}
 use Rattle.readback.specs.declared.Step.{Step}
@@ -61,21 +59,21 @@ closes (item.E n) = true
 closes item.Over = true
 
 abbrev pub faulty : Readback → Step
-faulty r = record { good = false; next = r; given = Nothing }
+faulty r = record { good = false; next = r; given = None }
 
 abbrev pub passed_by : Readback → Item → Readback
 passed_by r i = record { width = r.width; ended = mark (closes i); salvage = r.salvage; last = last_behind r.last i; lines = r.lines + 1 }
 
 -- the first line; and a line behind it
 abbrev pub opens : Readback → Bool → ℕ → Step
-opens r salvage w = cond (width_known w) (record { good = true; next = opened_at salvage w; given = Nothing }) (faulty r)
+opens r salvage w = cond (width_known w) (record { good = true; next = opened_at salvage w; given = None }) (faulty r)
 
 abbrev pub passes : Readback → Item → Step
-passes r i = cond (above r.last i) (record { good = true; next = passed_by r i; given = One i }) (faulty r)
+passes r i = cond (above r.last i) (record { good = true; next = passed_by r i; given = Some i }) (faulty r)
 
-abbrev pub said : Readback → Given → Step
-said r Nothing = faulty r
-said r (One i) = passes r i
+abbrev pub said : Readback → Option Item → Step
+said r None = faulty r
+said r (Some i) = passes r i
 
 -- a line without its newline
 unfoldable pub step_of : Readback → List ℕ → Step

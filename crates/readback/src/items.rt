@@ -4,7 +4,7 @@ ghost use Rattle.readback.specs.Items.{middle_at, buttons_at, middle_number, pre
 
 use crate::fields::field;
 use crate::{Five, Kind};
-use listing::{Buttons, Given, Item, Middle};
+use listing::{Buttons, Item, Middle};
 
 // The middle button of a number of buttons.
 fn middle_at(n: u8) -> Middle
@@ -87,19 +87,19 @@ pub(crate) fn numbers(item: Item) -> Five
 }
 
 // The fields of `D`.
-fn dropped(width: usize, line: &[u8]) -> Given
+fn dropped(width: usize, line: &[u8]) -> Option<Item>
     ensures { result ≡ dropped_in width (drop 1 line.now) }
 {
     let n = field(Kind::Line, width, line, 1);
     let k = field(Kind::Count, width, line, n.end);
     if (n.good & (k.good & (line.len() <= k.end))) & (0 < k.value) {
-        return Given::One(Item::D(n.value as u32, k.value as u16));
+        return Some(Item::D(n.value as u32, k.value as u16));
     }
-    Given::Nothing
+    None
 }
 
 // The fields of `R`.
-fn report(width: usize, line: &[u8]) -> Given
+fn report(width: usize, line: &[u8]) -> Option<Item>
     ensures { result ≡ report_in width (drop 1 line.now) }
 {
     let n = field(Kind::Line, width, line, 1);
@@ -107,50 +107,50 @@ fn report(width: usize, line: &[u8]) -> Given
     let x = field(Kind::Number, width, line, b.end);
     let y = field(Kind::Number, width, line, x.end);
     if n.good & (b.good & (x.good & (y.good & (line.len() <= y.end)))) {
-        return Given::One(Item::R(n.value as u32, buttons_at(b.value as u8), x.value, y.value));
+        return Some(Item::R(n.value as u32, buttons_at(b.value as u8), x.value, y.value));
     }
-    Given::Nothing
+    None
 }
 
 // The field of `H`.
-fn kept(width: usize, line: &[u8]) -> Given
+fn kept(width: usize, line: &[u8]) -> Option<Item>
     ensures { result ≡ kept_in width (drop 1 line.now) }
 {
     let k = field(Kind::Count, width, line, 1);
     if k.good & (line.len() <= k.end) {
-        return Given::One(Item::H(k.value as u16));
+        return Some(Item::H(k.value as u16));
     }
-    Given::Nothing
+    None
 }
 
 // The field of `E`.
-fn bad(width: usize, line: &[u8]) -> Given
+fn bad(width: usize, line: &[u8]) -> Option<Item>
     ensures { result ≡ bad_in width (drop 1 line.now) }
 {
     let over = field(Kind::Over, width, line, 1);
     if over.good & (line.len() <= over.end) {
-        return Given::One(Item::Over);
+        return Some(Item::Over);
     }
     let n = field(Kind::Line, width, line, 1);
     if n.good & (line.len() <= n.end) {
-        return Given::One(Item::E(n.value as u32));
+        return Some(Item::E(n.value as u32));
     }
-    Given::Nothing
+    None
 }
 
 // The item of a line.
-pub(crate) fn item(width: usize, line: &[u8]) -> Given
+pub(crate) fn item(width: usize, line: &[u8]) -> Option<Item>
     ensures { result ≡ item_in width line.now }
 {
     if line.len() == 0 {
-        return Given::Nothing;
+        return None;
     }
     match line[0] {
         b'D' => dropped(width, line),
         b'R' => report(width, line),
         b'H' => kept(width, line),
         b'E' => bad(width, line),
-        _ => Given::Nothing,
+        _ => None,
     }
 }
 

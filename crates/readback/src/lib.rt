@@ -2,7 +2,7 @@
 // fields to an item (items), a line in its place among the others (steps), and the lines of a piece one after the other (pieces); and they are rewritten at the other width (rewriting).
 #![tactic(auto)]
 
-use listing::Given;
+use listing::Item;
 
 mod fields;
 mod items;
@@ -62,7 +62,7 @@ pub struct Readback {
 pub(crate) struct Step {
     pub good: bool,
     pub next: Readback,
-    pub given: Given,
+    pub given: Option<Item>,
 }
 
 // What rewriting gives back: 0, 6 or 7 as above, or 15 for a line number that does not fit the other width; the next reader; the bytes taken and written; and

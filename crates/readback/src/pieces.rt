@@ -8,7 +8,7 @@ ghost use Rattle.readback.specs.Promises.{FreshPromise, ReadPromise, FinishPromi
 
 use crate::items::numbers;
 use crate::{Back, Readback};
-use listing::{Given, Item};
+use listing::Item;
 
 // The bytes of the longest line, without its newline.
 pub(crate) const LONGEST: usize = 26;
@@ -99,8 +99,8 @@ impl Readback {
         let next = s.next;
         let given = s.given;
         match given {
-            Given::Nothing => back(0, next, n + 1, 0, 0),
-            Given::One(item) => {
+            None => back(0, next, n + 1, 0, 0),
+            Some(item) => {
                 if out.len() < 5 {
                     return back(0, self, 0, 0, 0);
                 }

@@ -9,7 +9,7 @@ ghost use Rattle.readback.specs.Promises.{RewritePromise};
 
 use crate::pieces::LONGEST;
 use crate::{Readback, Rewritten};
-use listing::{Given, Item};
+use listing::Item;
 
 // The other of the two widths.
 fn other_width(width: u8) -> u8
@@ -41,13 +41,13 @@ fn fits(width: u8, item: Item) -> bool
     }
 }
 
-fn given_fits(width: u8, given: Given) -> bool
+fn given_fits(width: u8, given: Option<Item>) -> bool
     requires { width_known width ≡ true }
     ensures { result ≡ given_fits width given }
 {
     match given {
-        Given::Nothing => true,
-        Given::One(item) => fits(width, item),
+        None => true,
+        Some(item) => fits(width, item),
     }
 }
 
@@ -97,7 +97,7 @@ impl Readback {
         if !given_fits(width, given) {
             return rewritten(15, self, 0, 0, self.lines + 1);
         }
-        let text = given.line(next.salvage == 1, width);
+        let text = listing::line_at(given, next.salvage == 1, width);
         if !text.put(out, 0) {
             return rewritten(0, self, 0, 0, 0);
         }

@@ -4,7 +4,7 @@ ghost use Rattle.readback.specs.Steps.{width_known, last_behind, above, closes, 
 
 use crate::rewriting::most;
 use crate::{Readback, Step, items};
-use listing::{Given, Item};
+use listing::Item;
 
 // Whether listings of this width are read.
 fn width_known(width: u16) -> bool
@@ -85,7 +85,7 @@ impl Readback {
         Step {
             good: false,
             next: self,
-            given: Given::Nothing,
+            given: None,
         }
     }
 
@@ -105,7 +105,7 @@ impl Readback {
                 last: 0,
                 lines: 1,
             },
-            given: Given::Nothing,
+            given: None,
         }
     }
 
@@ -126,7 +126,7 @@ impl Readback {
                 last: last_behind(self.last, item),
                 lines: self.lines + 1,
             },
-            given: Given::One(item),
+            given: Some(item),
         }
     }
 
@@ -143,8 +143,8 @@ impl Readback {
         }
         let given = items::item(self.width as usize, line);
         match given {
-            Given::Nothing => self.faulty(),
-            Given::One(item) => self.passes(item),
+            None => self.faulty(),
+            Some(item) => self.passes(item),
         }
     }
 }

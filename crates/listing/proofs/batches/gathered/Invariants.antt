@@ -1,12 +1,8 @@
 -- `gathered`: at the loop's head the words are those of the lines passed, and so with a line more.
-use Prim.Native.Nat.{◌-◌, ◌≤◌}
-use mathlib.Core.Path.{◌≡◌}
+use Prim.Native.Nat.{◌≤◌}
 use lib.ListN.{length}
 use Rattle.listing.specs.Batches.{Gathered}
 use Rattle.listing.proofs.batches.gathered.Given as goal
 
 abbrev pub invariant-loop-count : goal.invariant-loop-count
-invariant-loop-count l = Gathered l.input l.from l.words l.count l.at × (l.count ≤ l.most) × (l.at ≤ length l.input) × (length l.words ≡ length l.initial.words)
-
-abbrev pub decreases-loop-count : goal.decreases-loop-count
-decreases-loop-count l = l.most - l.count
+invariant-loop-count l = Gathered l.input l.from l.words l.count l.end × (l.end ≤ length l.input)

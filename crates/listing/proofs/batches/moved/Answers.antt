@@ -20,7 +20,7 @@ returns c = let a = c.args in
     let n4 : SFits w16 (number 4) = search rules in
     let n3 : SFits w16 (number 3) = search rules in
     let n5 : SFits w16 (number 5) = search rules in (
-      (λ n. rw (c.buttons.ensures, c.plain-pressed.ensures, c.sum-x.ensures, c.sum-y.ensures, n1, to_z-of_z n2, to_z-of_z n3, to_z-of_z n4, to_z-of_z n5, to_z-of_z (sum_fits n2 n4), to_z-of_z (sum_fits n3 n5))),
-      rw (c.sum-x.ensures, to_z-of_z n2, to_z-of_z n4, to_z-of_z (sum_fits n2 n4)) (sum_few n2 n4),
-      rw (c.sum-y.ensures, to_z-of_z n3, to_z-of_z n5, to_z-of_z (sum_fits n3 n5)) (sum_few n3 n5),
+      (λ n. rw (c.buttons.ensures, c.plain.ensures, c.sum.ensures, c.sum-2.ensures, n1, to_z-of_z n2, to_z-of_z n3, to_z-of_z n4, to_z-of_z n5, to_z-of_z (sum_fits n2 n4), to_z-of_z (sum_fits n3 n5))),
+      rw (c.sum.ensures, to_z-of_z n2, to_z-of_z n4, to_z-of_z (sum_fits n2 n4)) (sum_few n2 n4),
+      rw (c.sum-2.ensures, to_z-of_z n3, to_z-of_z n5, to_z-of_z (sum_fits n3 n5)) (sum_few n3 n5),
     )

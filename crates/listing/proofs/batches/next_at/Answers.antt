@@ -8,14 +8,14 @@ use mir.Val.{to_z, of_z}
 use Rattle.listing.specs.Batches.{next_at}
 use Rattle.listing.proofs.batches.next_at.Goals as goal
 
-pub returns-then-number-lt0 : goal.returns-then-number-lt0
+pub returns-then-told-from-lt0 : goal.returns-then-told-from-lt0
 unfolding next_at
-returns-then-number-lt0 c =
+returns-then-told-from-lt0 c =
     let a = c.args in let same : to_z w16 (of_z w16 (get_or a.told.now a.from (pos 0))) ≡ get_or a.told.now a.from (pos 0) = search rules in
-    rw (← same, c.if-number-lt0.true)
+    rw (← same, c.if-told-from-lt0.true)
 
-pub returns : goal.returns
+pub returns-else-told-from-lt0 : goal.returns-else-told-from-lt0
 unfolding next_at
-returns c =
+returns-else-told-from-lt0 c =
     let a = c.args in let same : to_z w16 (of_z w16 (get_or a.told.now a.from (pos 0))) ≡ get_or a.told.now a.from (pos 0) = search rules in
-    rw (← same, c.if-number-lt0.false)
+    rw (← same, c.if-told-from-lt0.false)

@@ -11,15 +11,9 @@ use Rattle.listing.specs.Batches.{ToldOf, items_over}
 use Rattle.listing.proofs.Telling.{Left}
 use Rattle.listing.proofs.batches.shown.Given as goal
 
-abbrev pub invariant-loop-i : goal.invariant-loop-i
-invariant-loop-i l =
-    ((r : Reader) → ToldOf r l.words l.told → r.format ≡ l.letter → Left l.letter l.told l.n l.from (length l.words - l.i) (slice l.out l.used) (filled_by (slice l.initial.out l.at) (all_bytes width (items_over r l.line l.words))))
+abbrev pub invariant-loop-n : goal.invariant-loop-n
+invariant-loop-n l =
+    ((r : Reader) → ToldOf r l.words l.told → r.format ≡ l.letter → Left l.letter l.told l.n l.from (l.line + length l.words - l.n) (slice l.out l.used) (filled_by (slice l.initial.out l.at) (all_bytes width (items_over r l.line l.words))))
     × Stamps l.n l.stamp
-    × (l.i ≤ length l.words)
-    × (l.from ≤ 6 * l.i)
-    × (l.used ≤ l.at + 40 * l.i)
-    × (l.n ≡ l.line + l.i)
-    × (length l.out ≡ length l.initial.out)
-
-abbrev pub decreases-loop-i : goal.decreases-loop-i
-decreases-loop-i l = length l.words - l.i
+    × (l.from ≤ 6 * (l.n - l.line))
+    × (l.used ≤ l.at + 40 * (l.n - l.line))

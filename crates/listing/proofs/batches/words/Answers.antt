@@ -1,8 +1,7 @@
 use Prim.Native.Nat.{◌+◌, ◌-◌, ◌*◌, ◌<◌, ◌≤◌}
-use mathlib.Core.Path.{◌≡◌, refl, ◌∙◌}
+use mathlib.Core.Path.{refl, ◌∙◌}
 use native.Mathlib.Omega.{arith}
 use lib.ListN.{length}
-use borrow.Author.Tests.{not-true, not-false}
 use Rattle.listing.specs.Scanning.{most_lines}
 use Rattle.listing.specs.Feeding.{passed_to, Stands}
 use Rattle.listing.proofs.Feeds.{starts, far}
@@ -17,35 +16,28 @@ loop-n-init c = let a = c.args in
 pub gathered-b-requires : goal.gathered-b-requires
 gathered-b-requires c = let i = c.loop-n.invariant in (i.1.0, omega (arith, c.at_once.ensures.0, i.3))
 
-pub printed-t-requires : goal.printed-t-requires
-printed-t-requires c =
+pub printed-requires : goal.printed-requires
+printed-requires c =
     let few : let l = c.loop-n in let count = c.gathered-b.result.count in
     (0 < count) × (count ≤ 32) × (l.n + count ≤ most_lines) × (40 * count ≤ length l.out - l.used) = let most = c.gathered-b.ensures.1 in
     let once = c.at_once.ensures in
-    (omega (arith, c.if-count-eq0.false), omega (arith, most, once.0), omega (arith, most, once.1, c.loop-n-test.true, c.most_lines-most.ensures), omega (arith, most, once.2)) in
+    (omega (arith, c.if-b-eq0.false), omega (arith, most, once.0), omega (arith, most, once.1, c.loop-n-test.true, c.most_lines-most.ensures), omega (arith, most, once.2)) in
     let f = few in
     let g = c.gathered-b in
     let i = c.loop-n.invariant in
-    let z : g.result.count - 0 ≡ g.result.count = omega arith in
-    rw (z, as_many g.ensures.0) (f.0, omega (arith, f.1, i.4), f.2, omega (arith, f.3, i.1.1))
-
-pub returns-then-not-t : goal.returns-then-not-t
-returns-then-not-t c =
-    let stays : c.printed-t.new.out ≡ c.loop-n.out = c.printed-t.ensures.nothing (not-true _ c.if-not-t.true) in
-    rw (c.passed-then-not-t.ensures, stays) c.loop-n.invariant.0
+    rw (as_many g.ensures.0) (f.0, omega (arith, f.1, i.4), f.2, omega (arith, f.3, i.1.1))
 
 pub overflow_sub-out-in-loop-n : goal.overflow_sub-out-in-loop-n
 overflow_sub-out-in-loop-n c =
     let few : let l = c.loop-n in let count = c.gathered-b.result.count in
     (0 < count) × (count ≤ 32) × (l.n + count ≤ most_lines) × (40 * count ≤ length l.out - l.used) = let most = c.gathered-b.ensures.1 in
     let once = c.at_once.ensures in
-    (omega (arith, c.if-count-eq0.false), omega (arith, most, once.0), omega (arith, most, once.1, c.loop-n-test.true, c.most_lines-most.ensures), omega (arith, most, once.2)) in
-    let more : let l = c.loop-n in let a = c.args in let g = c.gathered-b.result in let p = c.printed-t in
-    Stands (passed_to a.line a.reader) a.input.now a.out.now (passed_to (l.n + g.count) p.result.next) g.end p.result.used p.new.out = let l = c.loop-n in
+    (omega (arith, c.if-b-eq0.false), omega (arith, most, once.0), omega (arith, most, once.1, c.loop-n-test.true, c.most_lines-most.ensures), omega (arith, most, once.2)) in
+    let more : let l = c.loop-n in let a = c.args in let g = c.gathered-b.result in
+    Stands (passed_to a.line a.reader) a.input.now a.out.now (passed_to (l.n + g.count) c.in-Some.t.next) g.end c.in-Some.t.used c.printed.new.out = let l = c.loop-n in
     let f = few in
     let g = c.gathered-b in
-    let z : g.result.count - 0 ≡ g.result.count = omega arith in
-    batch_more g.ensures.0 l.invariant.0 l.invariant.2 f.2 f.3 (rw (z, not-false c.printed-t.result.all c.if-not-t.false) at c.printed-t.ensures) in
+    batch_more g.ensures.0 l.invariant.0 l.invariant.2 f.2 f.3 c.in-Some.ensures in
     (far more).1
 
 pub loop-n-preserved : goal.loop-n-preserved
@@ -53,15 +45,14 @@ loop-n-preserved c =
     let few : let l = c.loop-n in let count = c.gathered-b.result.count in
     (0 < count) × (count ≤ 32) × (l.n + count ≤ most_lines) × (40 * count ≤ length l.out - l.used) = let most = c.gathered-b.ensures.1 in
     let once = c.at_once.ensures in
-    (omega (arith, c.if-count-eq0.false), omega (arith, most, once.0), omega (arith, most, once.1, c.loop-n-test.true, c.most_lines-most.ensures), omega (arith, most, once.2)) in
-    let more : let l = c.loop-n in let a = c.args in let g = c.gathered-b.result in let p = c.printed-t in
-    Stands (passed_to a.line a.reader) a.input.now a.out.now (passed_to (l.n + g.count) p.result.next) g.end p.result.used p.new.out = let l = c.loop-n in
+    (omega (arith, c.if-b-eq0.false), omega (arith, most, once.0), omega (arith, most, once.1, c.loop-n-test.true, c.most_lines-most.ensures), omega (arith, most, once.2)) in
+    let more : let l = c.loop-n in let a = c.args in let g = c.gathered-b.result in
+    Stands (passed_to a.line a.reader) a.input.now a.out.now (passed_to (l.n + g.count) c.in-Some.t.next) g.end c.in-Some.t.used c.printed.new.out = let l = c.loop-n in
     let f = few in
     let g = c.gathered-b in
-    let z : g.result.count - 0 ≡ g.result.count = omega arith in
-    batch_more g.ensures.0 l.invariant.0 l.invariant.2 f.2 f.3 (rw (z, not-false c.printed-t.result.all c.if-not-t.false) at c.printed-t.ensures) in
+    batch_more g.ensures.0 l.invariant.0 l.invariant.2 f.2 f.3 c.in-Some.ensures in
     let few_more : c.loop-n.n + c.gathered-b.result.count + c.unread-q.result.count ≤ most_lines = omega (arith, few.2, c.unread-q.ensures.1, c.most_lines-most.ensures) in
     let i = c.loop-n.invariant in
     let some : 0 < c.loop-n.n + c.gathered-b.result.count = omega (arith, few.0) in
     let s = unread_more c.unread-q.result.count more c.unread-q.ensures.0 refl some few_more in
-    (s, far s, omega (arith, some), c.gathered-b.auto.words ∙ i.3, c.printed-t.auto.told ∙ i.4)
+    (s, far s, omega (arith, some), c.gathered-b.auto.words ∙ i.3, c.printed.auto.told ∙ i.4)

@@ -11,6 +11,6 @@ pub returns-then-buttons-eq1 : goal.returns-then-buttons-eq1
 unfolding bit
 returns-then-buttons-eq1 c = rw (ne_eqb _ _ c.if-letter-eq86.false, eq-eqb _ _ c.if-buttons-eq1.true)
 
-pub returns : goal.returns
+pub returns-else-buttons-eq1 : goal.returns-else-buttons-eq1
 unfolding bit
-returns c = rw (ne_eqb _ _ c.if-letter-eq86.false, ne_eqb _ _ c.if-buttons-eq1.false)
+returns-else-buttons-eq1 c = rw (ne_eqb _ _ c.if-letter-eq86.false, ne_eqb _ _ c.if-buttons-eq1.false)

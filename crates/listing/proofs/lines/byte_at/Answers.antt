@@ -1,23 +1,23 @@
 -- `byte_at`: one digit, two or three.
-use mathlib.Core.Path.{sym, ◌∙◌}
-use borrow.Author.Tests.{not-false}
-use Rattle.listing.proofs.Bytes.{digit_low, tells_one, tells_two, tells_three}
+use native.Mathlib.Omega.{arith}
+use Rattle.listing.proofs.Bytes.{a_digit, tells_one, tells_two, tells_three}
 use Rattle.listing.proofs.lines.byte_at.Goals as goal
 
-pub overflow_sub-one : goal.overflow_sub-one
-overflow_sub-one c = digit_low _ (sym c.is_digit.ensures ∙ not-false _ c.if-not-is_digit.false-raw)
-
 pub returns-then-d-eq10 : goal.returns-then-d-eq10
-returns-then-d-eq10 c = rw c.told-then-d-eq10.ensures (tells_one c.args.c (sym c.is_digit.ensures ∙ not-false _ c.if-not-is_digit.false-raw) c.args.d c.args.e c.args.f c.if-d-eq10.true)
-
-pub overflow_sub-two : goal.overflow_sub-two
-overflow_sub-two c = digit_low _ (sym c.is_digit-2.ensures ∙ not-false _ c.if-not-is_digit-2.false-raw)
+returns-then-d-eq10 c =
+    let one = a_digit (c.if-not-is_ascii_digit.ensures).cases in
+    rw c.from-one.ensures (tells_one c.args.c one c.args.d c.args.e c.args.f c.if-d-eq10.true, λ z. omega arith)
 
 pub returns-then-e-eq10 : goal.returns-then-e-eq10
-returns-then-e-eq10 c = rw c.told-then-e-eq10.ensures (tells_two c.args.c (sym c.is_digit.ensures ∙ not-false _ c.if-not-is_digit.false-raw) c.if-c-eq48.false c.args.d (sym c.is_digit-2.ensures ∙ not-false _ c.if-not-is_digit-2.false-raw) c.args.e c.args.f c.if-e-eq10.true)
-
-pub overflow_sub-three : goal.overflow_sub-three
-overflow_sub-three c = digit_low _ (sym c.is_digit-3.ensures ∙ not-false _ c.if-not-is_digit-3.false-raw)
+returns-then-e-eq10 c =
+    let one = a_digit (c.if-not-is_ascii_digit.ensures).cases in
+    let two = a_digit (c.if-not-is_ascii_digit-2.ensures).cases in
+    rw (c.from-one.ensures, c.from.ensures) (tells_two c.args.c one c.if-c-eq48.false c.args.d two c.args.e c.args.f c.if-e-eq10.true, λ z. omega arith)
 
 pub returns : goal.returns
-returns c = rw c.told-2.ensures (tells_three _ (sym c.is_digit.ensures ∙ not-false _ c.if-not-is_digit.false-raw) c.if-c-eq48.false _ (sym c.is_digit-2.ensures ∙ not-false _ c.if-not-is_digit-2.false-raw) _ _ (sym c.is_digit-3.ensures ∙ not-false _ c.if-not-is_digit-3.false-raw) c.if-f-ne10.false c.if-three-gt255.false)
+returns c =
+    let one = a_digit (c.if-not-is_ascii_digit.ensures).cases in
+    let two = a_digit (c.if-not-is_ascii_digit-2.ensures).cases in
+    let three = a_digit (c.if-not-is_ascii_digit-3.ensures).cases in
+    let few = c.if-three-gt255.false in
+    rw (c.from-one.ensures, c.from.ensures, c.from-2.ensures) (tells_three c.args.c one c.if-c-eq48.false c.args.d two c.args.e c.args.f three c.if-f-ne10.false (rw (c.from-one.ensures, c.from.ensures, c.from-2.ensures) at few), λ z. omega arith)

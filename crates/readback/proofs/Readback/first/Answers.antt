@@ -44,32 +44,32 @@ pub returns-then-out-lt5 : goal.returns-then-out-lt5
 returns-then-out-lt5 c =
     let there : let i = c.args.input.now in length_to newline i < length i = let i = c.args.input.now in omega (arith, c.length_to-n.ensures, c.if-n-input.false, to_within newline i) in
     let step_is : let a = c.args in c.step-s.result ≡ step_of a.self (take (length_to newline a.input.now) a.input.now) = rw (← c.length_to-n.ensures) c.step-s.ensures in
-    let g = c.in-One.is in
+    let g = c.in-Some.is in
     rw c.back-then-out-lt5.ensures (read_stop c.args.self c.args.input.now c.args.out.now c.requires.0 c.step-s.result there step_is (not-false _ c.if-not-s.false) (rw g (omega arith)))
 
 pub put-requires : goal.put-requires
 put-requires c =
     let step_is : let a = c.args in c.step-s.result ≡ step_of a.self (take (length_to newline a.input.now) a.input.now) = rw (← c.length_to-n.ensures) c.step-s.ensures in
     let small = (step_leaves c.args.self (take (length_to newline c.args.input.now) c.args.input.now) c.requires.0).1 in
-    (rw c.in-One.is at (rw (← step_is) at small), omega arith)
+    (rw c.in-Some.is at (rw (← step_is) at small), omega arith)
 
-pub overflow_add-n-in-One : goal.overflow_add-n-in-One
-overflow_add-n-in-One c =
+pub overflow_add-n-in-Some : goal.overflow_add-n-in-Some
+overflow_add-n-in-Some c =
     let there : let i = c.args.input.now in length_to newline i < length i = let i = c.args.input.now in omega (arith, c.length_to-n.ensures, c.if-n-input.false, to_within newline i) in
     record { fits = omega (arith, there) }
 
-pub returns-in-Nothing : goal.returns-in-Nothing
-returns-in-Nothing c =
+pub returns-in-None : goal.returns-in-None
+returns-in-None c =
     let there : let i = c.args.input.now in length_to newline i < length i = let i = c.args.input.now in omega (arith, c.length_to-n.ensures, c.if-n-input.false, to_within newline i) in
     let step_is : let a = c.args in c.step-s.result ≡ step_of a.self (take (length_to newline a.input.now) a.input.now) = rw (← c.length_to-n.ensures) c.step-s.ensures in
     let k = c.length_to-n.ensures in
-    let g = c.in-Nothing.is in
-    rw (c.back-in-Nothing.ensures, k) (rw g at (read_taken c.args.self c.args.input.now c.args.out.now c.requires.0 c.step-s.result there step_is (not-false _ c.if-not-s.false) (rw g (omega arith))))
+    let g = c.in-None.is in
+    rw (c.back-in-None.ensures, k) (rw g at (read_taken c.args.self c.args.input.now c.args.out.now c.requires.0 c.step-s.result there step_is (not-false _ c.if-not-s.false) (rw g (omega arith))))
 
 pub returns-else-out-lt5 : goal.returns-else-out-lt5
 returns-else-out-lt5 c =
     let there : let i = c.args.input.now in length_to newline i < length i = let i = c.args.input.now in omega (arith, c.length_to-n.ensures, c.if-n-input.false, to_within newline i) in
     let step_is : let a = c.args in c.step-s.result ≡ step_of a.self (take (length_to newline a.input.now) a.input.now) = rw (← c.length_to-n.ensures) c.step-s.ensures in
     let k = c.length_to-n.ensures in
-    let g = c.in-One.is in
-    rw (c.back-in-One.ensures, k, c.put.ensures) (rw g at (read_taken c.args.self c.args.input.now c.args.out.now c.requires.0 c.step-s.result there step_is (not-false _ c.if-not-s.false) (rw g (omega arith))))
+    let g = c.in-Some.is in
+    rw (c.back-in-Some.ensures, k, c.put.ensures) (rw g at (read_taken c.args.self c.args.input.now c.args.out.now c.requires.0 c.step-s.result there step_is (not-false _ c.if-not-s.false) (rw g (omega arith))))

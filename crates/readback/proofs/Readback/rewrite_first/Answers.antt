@@ -56,7 +56,7 @@ returns-then-not-put c =
     let there : let i = c.args.input.now in length_to newline i < length i = let i = c.args.input.now in omega (arith, c.length_to-n.ensures, c.if-n-input.false, to_within newline i) in
     let step_is : let a = c.args in c.step-s.result ≡ step_of a.self (take (length_to newline a.input.now) a.input.now) = rw (← c.length_to-n.ensures) c.step-s.ensures in
     let fits_is : let s = c.step-s.result in c.given_fits.result ≡ given_fits (other_width s.next.width) s.given = c.given_fits.ensures ∙ ap (λ w. given_fits w c.step-s.result.given) c.other_width-width.ensures in
-    let text_is : let s = c.step-s.result in c.line-text.result ≡ text_of (line_at (of_salvage s.next) (other_width s.next.width) s.given) = c.line-text.ensures ∙ ap (λ w. text_of (line_at (of_salvage c.step-s.result.next) w c.step-s.result.given)) c.other_width-width.ensures in
+    let text_is : let s = c.step-s.result in c.line_at-text.result ≡ text_of (line_at (of_salvage s.next) (other_width s.next.width) s.given) = c.line_at-text.ensures ∙ ap (λ w. text_of (line_at (of_salvage c.step-s.result.next) w c.step-s.result.given)) c.other_width-width.ensures in
     rw (c.rewritten-then-not-put.ensures, c.put.ensures.1)
     (short_stop c.args.self c.args.input.now c.args.out.now c.requires.0 c.step-s.result there step_is (not-false _ c.if-not-s.false) (sym fits_is ∙ not-false _ c.if-not-given_fits.false-raw) _ text_is (sym c.put.ensures.0 ∙ not-true _ c.if-not-put.true-raw))
 
@@ -70,7 +70,7 @@ returns c =
     let there : let i = c.args.input.now in length_to newline i < length i = let i = c.args.input.now in omega (arith, c.length_to-n.ensures, c.if-n-input.false, to_within newline i) in
     let step_is : let a = c.args in c.step-s.result ≡ step_of a.self (take (length_to newline a.input.now) a.input.now) = rw (← c.length_to-n.ensures) c.step-s.ensures in
     let fits_is : let s = c.step-s.result in c.given_fits.result ≡ given_fits (other_width s.next.width) s.given = c.given_fits.ensures ∙ ap (λ w. given_fits w c.step-s.result.given) c.other_width-width.ensures in
-    let text_is : let s = c.step-s.result in c.line-text.result ≡ text_of (line_at (of_salvage s.next) (other_width s.next.width) s.given) = c.line-text.ensures ∙ ap (λ w. text_of (line_at (of_salvage c.step-s.result.next) w c.step-s.result.given)) c.other_width-width.ensures in
+    let text_is : let s = c.step-s.result in c.line_at-text.result ≡ text_of (line_at (of_salvage s.next) (other_width s.next.width) s.given) = c.line_at-text.ensures ∙ ap (λ w. text_of (line_at (of_salvage c.step-s.result.next) w c.step-s.result.given)) c.other_width-width.ensures in
     let read = c.length_to-n.ensures in
     rw (c.rewritten-2.ensures, read, c.put.ensures.1)
     (text_taken c.args.self c.args.input.now c.args.out.now c.requires.0 c.step-s.result there step_is (not-false _ c.if-not-s.false) (sym fits_is ∙ not-false _ c.if-not-given_fits.false-raw) _ text_is (sym c.put.ensures.0 ∙ not-false _ c.if-not-put.false-raw))

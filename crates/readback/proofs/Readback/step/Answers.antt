@@ -12,8 +12,8 @@ pub returns-then-self-eq0 : goal.returns-then-self-eq0
 returns-then-self-eq0 c = let s = c.args in
     c.opens.ensures ∙ rw (c.width.ensures, c.salvage.ensures) (sym (step_first s.self s.line.now (ne_eqb _ 1 c.if-self-eq1.false) c.if-self-eq0.true))
 
-pub returns-in-Nothing : goal.returns-in-Nothing
-returns-in-Nothing c = c.faulty-in-Nothing.ensures ∙ ap (said c.args.self) (sym c.in-Nothing.is ∙ c.item-given.ensures) ∙ sym (step_item c.args.self c.args.line.now (ne_eqb _ 1 c.if-self-eq1.false) c.if-self-eq0.false)
+pub returns-in-None : goal.returns-in-None
+returns-in-None c = c.faulty-in-None.ensures ∙ ap (said c.args.self) (sym c.in-None.is ∙ c.item-given.ensures) ∙ sym (step_item c.args.self c.args.line.now (ne_eqb _ 1 c.if-self-eq1.false) c.if-self-eq0.false)
 
-pub returns-in-One : goal.returns-in-One
-returns-in-One c = c.passes.ensures ∙ ap (said c.args.self) (sym c.in-One.is ∙ c.item-given.ensures) ∙ sym (step_item c.args.self c.args.line.now (ne_eqb _ 1 c.if-self-eq1.false) c.if-self-eq0.false)
+pub returns-in-Some : goal.returns-in-Some
+returns-in-Some c = c.passes.ensures ∙ ap (said c.args.self) (sym c.in-Some.is ∙ c.item-given.ensures) ∙ sym (step_item c.args.self c.args.line.now (ne_eqb _ 1 c.if-self-eq1.false) c.if-self-eq0.false)

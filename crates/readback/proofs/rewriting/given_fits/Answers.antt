@@ -2,5 +2,5 @@
 use mathlib.Core.Path.{◌∙◌}
 use Rattle.readback.proofs.rewriting.given_fits.Goals as goal
 
-pub returns-in-One : goal.returns-in-One
-returns-in-One c = c.fits.ensures ∙ rw c.in-One.is
+pub returns-in-Some : goal.returns-in-Some
+returns-in-Some c = c.fits.ensures ∙ rw c.in-Some.is
