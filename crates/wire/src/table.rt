@@ -40,6 +40,7 @@ fn rows_s(buttons: u8, x: i16, y: i16) -> [u8; 5]
 }
 
 // V: the top two bits of either byte stand in the first, and M is dropped.
+#[tactic(auto, using(crate::proofs::Sums::rows_v_lem))]
 #[inline(always)]
 fn rows_v(buttons: u8, x: u8, y: u8) -> [u8; 5]
     requires { buttons ≤ 7 }
@@ -64,6 +65,7 @@ fn rows_a(r: Report, x: u16, y: u16) -> [u8; 5]
 }
 
 // W: a digit for the buttons, and two for each byte, the low one first.
+#[tactic(auto, using(crate::proofs::Sums::low_four, crate::proofs::Sums::high_four), unfolding(crate::specs::Table::rows_w))]
 #[inline(always)]
 fn rows_w(buttons: u8, x: u8, y: u8) -> [u8; 5]
     requires { buttons ≤ 7 }
