@@ -16,7 +16,7 @@ use borrow.Author.Tests.{leb-true}
 use Rattle.numbers.proofs.Choices.{cases}
 use Rattle.numbers.proofs.Tested.{left}
 use Rattle.reader.specs.Promises as reader
-use Rattle.reader.specs.declared.Read.{Read}
+use Rattle.reader.specs.State.{Read}
 use Rattle.reader.proofs.Goodness as report
 use Rattle.reader.proofs.Refusals as refusals
 use Rattle.replies.specs.Replying.{is_none, fitting}

@@ -13,7 +13,7 @@ use Rattle.frames.specs.Words.{is_byte, silence}
 use Rattle.wire.specs.Numbers.{success, bad_word}
 use Rattle.reader.specs.Good as readers
 use Rattle.reader.specs.Rules as report
-use Rattle.reader.specs.declared.Read.{Read}
+use Rattle.reader.specs.State.{Read}
 use Rattle.reader.specs.declared.Answer.TheVariants as answer
 use Rattle.reader.specs.Counts.{byte_in, reports_in, dropped_in}
 use Rattle.reader.proofs.Word.{word_format}

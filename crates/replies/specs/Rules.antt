@@ -4,7 +4,7 @@ use Rattle.frames.specs.Words.{is_byte}
 use Rattle.wire.specs.Numbers.{success}
 use Rattle.reader.specs.Promises as reader
 use Rattle.reader.specs.declared.Reader.{Reader}
-use Rattle.reader.specs.declared.Read.{Read}
+use Rattle.reader.specs.State.{Read}
 use Rattle.reader.specs.declared.Answer.{Answer}
 use Rattle.reader.specs.declared.Answer.TheVariants as answer
 use Rattle.ballbox.specs.Commands.{space, letterf, lettert, byte05}

@@ -16,7 +16,7 @@ use Rattle.reader.specs.Counts.{handed_out}
 use Rattle.reader.specs.Promises as reader
 use Rattle.reader.specs.Runs.{steps_of, answers, reader_after}
 use Rattle.reader.specs.declared.Reader.{Reader}
-use Rattle.reader.specs.declared.Read.{Read}
+use Rattle.reader.specs.State.{Read}
 use Rattle.reader.specs.declared.Answer.{Answer}
 use Rattle.reader.specs.declared.Answer.TheVariants as answer
 use Rattle.reader.proofs.Goodness as goodness
