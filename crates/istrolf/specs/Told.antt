@@ -5,7 +5,7 @@ use Rattle.wire.specs.Numbers.{bad_state}
 use Rattle.reader.specs.declared.Answer.{Answer}
 use Rattle.reader.specs.declared.Answer.TheVariants as answer
 use Rattle.replies.specs.Replying.{none, awaiting}
-use Rattle.replies.specs.Rules.{told_reader}
+use Rattle.replies.specs.Rules.{Heard, told_reader}
 use Rattle.replies.specs.Line.{Long, heard_line}
 use Rattle.replies.specs.declared.Kind.{Kind}
 use Rattle.replies.specs.declared.Kind.TheVariants as kind
@@ -13,9 +13,7 @@ use Rattle.replies.specs.declared.Came.{Came}
 use Rattle.replies.specs.declared.Reply.{Reply}
 use Rattle.replies.specs.declared.Reply.TheVariants as reply
 use Rattle.replies.specs.declared.ToldReader.{ToldReader}
-use Rattle.replies.specs.declared.NewToldReader.{NewToldReader}
-use Rattle.replies.specs.declared.Telling.{Telling}
-use Rattle.replies.specs.declared.Heard.{Heard}
+use Rattle.replies.specs.Promises.{Telling, NewToldReader}
 use Rattle.replies.specs.declared.HeardLine.{HeardLine}
 use Rattle.istrolf.specs.Readers as readers
 use Rattle.istrolf.specs.declared.HeldTold.{HeldTold}

@@ -11,7 +11,7 @@ use Rattle.reader.specs.Counts.{handed_out}
 use Rattle.reader.specs.declared.Answer.TheVariants as answer
 use Rattle.replies.specs.Replying.{came, none, nothing, letter_of_code}
 use Rattle.replies.specs.Rules.{told_reader}
-use Rattle.replies.specs.Promises.{FreshPromise}
+use Rattle.replies.specs.Promises.{NewToldReader, FreshPromise}
 use Rattle.tellings.specs.Items.{Item, telling, as_items, Done, after_done, ItemsPromise, own_answers_of, replies_of, Call, items_of}
 use Rattle.tellings.specs.Items.{Called, CallsPromise, slice_after, TookAll}
 use Rattle.ballbox.specs.Commands.{space, letterf, lettert, byte05}
@@ -21,7 +21,6 @@ use Rattle.replies.specs.declared.Came.{Came}
 use Rattle.replies.specs.declared.Reply.{Reply}
 use Rattle.replies.specs.declared.Reply.TheVariants as replies
 use Rattle.replies.specs.declared.ToldReader.{ToldReader}
-use Rattle.replies.specs.declared.NewToldReader.{NewToldReader}
 
 -- The items of a line: "the reader is told of each" reply behind the 256 that its command caused, so in front of its
 -- bytes. Whose reply it is: by how many bytes it has, and of one byte by whether it is ACK.
