@@ -15,7 +15,7 @@ use Rattle.wire.specs.Line.{letter_of, named_by, size_by, size_of}
 use Rattle.wire.specs.Table.{five, bytes_of, bytes_s, bytes_v, bytes_a, bytes_b, bytes_u, bytes_t, bytes_w, rows_v, rows_a, rows_w, bytes_by}
 use Rattle.wire.specs.Holds.{within, x_range, y_range, second_range, accepted, accepted_by}
 use Rattle.wire.specs.Encoder.{encode_in, encode_of, Encoding}
-use Rattle.wire.specs.declared.Named.TheVariants.{Known}
+use Rattle.std.proofs.Common.{Some}
 use Rattle.wire.proofs.Front.{size_small}
 use Rattle.wire.specs.Reading.{report}
 use Rattle.wire.specs.declared.Range.{Range}
@@ -101,7 +101,7 @@ five_bytes FiveByte r = refl
 five_bytes ThreeByte r = refl
 five_bytes Hexadecimal r = refl
 
-known_bytes : (f : Format) (r : Report) → accepted f r ≡ true → (encode_in (Known f) r blank).buffer ≡ five (bytes_of f r)
+known_bytes : (f : Format) (r : Report) → accepted f r ≡ true → (encode_in (Some f) r blank).buffer ≡ five (bytes_of f r)
 known_bytes f r a = ap (λ (e : Encoding). e.buffer) (accepts f r blank a (size_small f)) ∙ five_bytes f r
 
 bytes_in : (letter : ℕ) (r : Report) → Lettered letter → accepted_by letter r ≡ true → (encode_of letter r blank).buffer ≡ five (bytes_by letter r)

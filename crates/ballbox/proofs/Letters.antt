@@ -10,7 +10,7 @@ use Rattle.numbers.proofs.Tested.{ranged}
 use Rattle.wire.specs.Line.{letter_of, named_by, known}
 use Rattle.wire.specs.declared.Format.{Format}
 use Rattle.wire.specs.declared.Format.TheVariants.{Mm, Microsoft, Absolute, Relative, FiveByte, ThreeByte, Hexadecimal}
-use Rattle.wire.specs.declared.Named.TheVariants.{Unknown}
+use Rattle.std.proofs.Common.{None}
 use Rattle.ballbox.specs.Box.{mode_d}
 use Rattle.ballbox.specs.Commands.{letter_p, space, letterf, lettert, byte05, letterd, is_stream, command_of}
 use Rattle.ballbox.specs.declared.Command.{Command}
@@ -19,7 +19,7 @@ use Rattle.ballbox.specs.declared.Command.TheVariants.{SetFormat, SetStream, Set
 -- a letter is that of a format, or names none
 pub data Lettered (letter : ℕ) : Type 0 where
   named : (f : Format) → letter ≡ letter_of f → Lettered letter
-  unnamed : named_by letter ≡ Unknown → known letter ≡ false → Lettered letter
+  unnamed : named_by letter ≡ None → known letter ≡ false → Lettered letter
 
 told : (l : ℕ) (s v a b u t w : Bool) → eqb l (letter_of Mm) ≡ s → eqb l (letter_of Microsoft) ≡ v → eqb l (letter_of Absolute) ≡ a → eqb l (letter_of Relative) ≡ b → eqb l (letter_of FiveByte) ≡ u → eqb l (letter_of ThreeByte) ≡ t → eqb l (letter_of Hexadecimal) ≡ w → Lettered l
 unfolding named_by known

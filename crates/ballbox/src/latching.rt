@@ -41,7 +41,7 @@ fn encoded(letter: u8, report: Report) -> [u8; 5]
     ensures { result ≡ five (bytes_by letter report) }
 {
     let mut bytes = [0u8; 5];
-    wire::encode(letter, report, &mut bytes);
+    let _ = wire::encode(letter, report, &mut bytes);
     bytes
 }
 

@@ -1,6 +1,6 @@
 -- What a port tells, as C has it: a count and a word, 0 where there is none.
 use Rattle.port.specs.declared.Port.{Port}
-use Rattle.std.specs.Prelude.{Option, None, Some}
+use Rattle.std.specs.Prelude.{ℕ, Option, None, Some}
 use Rattle.port.specs.declared.Heard.{Heard}
 use Rattle.istrolf.specs.declared.PortWord.{PortWord}
 

@@ -13,8 +13,7 @@ use Rattle.frames.specs.Words.{is_byte, silence, line_words}
 use Rattle.wire.specs.Line.{named_by, of_named, size_of, size_by}
 use Rattle.wire.specs.Places.{fits_first, fits_later, fits_at, all_later, valid}
 use Rattle.wire.specs.declared.Format.{Format}
-use Rattle.wire.specs.declared.Named.{Named}
-use Rattle.wire.specs.declared.Named.TheVariants.{Known, Unknown}
+use Rattle.std.proofs.Common.{Option, Some, None}
 use Rattle.wire.proofs.Letters.{fits_named}
 use Rattle.choosing.specs.Choice.{all_bytes}
 use Rattle.choosing.specs.Earliest.{starts}
@@ -50,7 +49,7 @@ joined false fits bytes others = refl
 joined true false bytes others = and-false bytes
 joined true true bytes others = refl
 
-module _ (letter : ℕ) (f : Format) (named : named_by letter ≡ Known f) where
+module _ (letter : ℕ) (f : Format) (named : named_by letter ≡ Some f) where
   later_fit : (place : ℕ) (words : List ℕ) → all_bytes words && all_later f words ≡ fit_from letter (suc place) words
   unfolding all_bytes all_later fit_from fits_word fits_at
   later_fit place [] = refl
@@ -70,9 +69,9 @@ pub run_fits : (letter : ℕ) (words : List ℕ) → length words ≡ size_by le
 unfolding valid_by size_by
 run_fits letter words e h = go (named_by letter) refl
   where
-    go : (n : Named) → named_by letter ≡ n → all_bytes words && of_named false (λ f. valid f words) (named_by letter) ≡ fit_from letter 0 words
-    go (Known f) named = rw named (all_fit letter f named words (rw named at e) h)
-    go Unknown named = absurd (omega (arith, rw named at e))
+    go : (n : Option Format) → named_by letter ≡ n → all_bytes words && of_named false (λ f. valid f words) (named_by letter) ≡ fit_from letter 0 words
+    go (Some f) named = rw named (all_fit letter f named words (rw named at e) h)
+    go None named = absurd (omega (arith, rw named at e))
 
 no_bytes : (f : Format) → valid f [] ≡ false
 unfolding valid
@@ -93,6 +92,6 @@ pub starts_none : (letter : ℕ) (words : List ℕ) → size_by letter ≡ 0 →
 unfolding starts valid_by
 starts_none letter words e = rw e (ap (λ (t : Bool). leb 0 (length words) && all_bytes [] && t) (nothing (named_by letter)) ∙ and-false (leb 0 (length words) && all_bytes []))
   where
-    nothing : (n : Named) → of_named false (λ f. valid f []) n ≡ false
-    nothing (Known f) = no_bytes f
-    nothing Unknown = refl
+    nothing : (n : Option Format) → of_named false (λ f. valid f []) n ≡ false
+    nothing (Some f) = no_bytes f
+    nothing None = refl

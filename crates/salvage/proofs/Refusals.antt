@@ -13,8 +13,8 @@ use Rattle.frames.specs.Words.{line_words}
 use Rattle.numbers.proofs.Tested.{holds}
 use Rattle.wire.specs.Line.{named_by, of_named, known, size_by, marked_of, marked_by}
 use Rattle.wire.specs.declared.Format.TheVariants.{Mm, Microsoft, Absolute, Relative}
-use Rattle.wire.specs.declared.Named.{Named}
-use Rattle.wire.specs.declared.Named.TheVariants.{Known, Unknown}
+use Rattle.std.proofs.Common.{Option, Some, None}
+use Rattle.wire.specs.declared.Format.{Format}
 use Rattle.wire.specs.declared.refusal.Refusal.{Refusal}
 use Rattle.wire.specs.declared.refusal.Refusal.TheVariants.{NoSuchLetter, ButtonsAboveSeven, BadWord, BufferTooShort, BadState, FaultyLine, FirstXNotHeld}
 use Rattle.wire.specs.declared.refusal.Refusal.TheVariants.{FirstYNotHeld, SecondXNotHeld, SecondYNotHeld, NoReply, MarkedFormat, TooManyWords, NumberTooWide}
@@ -94,8 +94,8 @@ unfolding known marked_by named_by
 one_of_three letter k m u t w =
     go (eqb letter 0x53) (eqb letter 0x56) (eqb letter 0x41) (eqb letter 0x42) (rw (ne_eqb _ _ u, ne_eqb _ _ t, ne_eqb _ _ w) at k) (rw (ne_eqb _ _ u, ne_eqb _ _ t, ne_eqb _ _ w) at m)
   where
-    named : Bool → Bool → Bool → Bool → Named
-    named s v a b = cond s (Known Mm) (cond v (Known Microsoft) (cond a (Known Absolute) (cond b (Known Relative) Unknown)))
+    named : Bool → Bool → Bool → Bool → Option Format
+    named s v a b = cond s (Some Mm) (cond v (Some Microsoft) (cond a (Some Absolute) (cond b (Some Relative) None)))
 
     go : (s v a b : Bool) → of_named false (λ f. true) (named s v a b) ≡ true → of_named false marked_of (named s v a b) ≡ false → ⊥
     go true v a b k m = holds (sym m)

@@ -16,8 +16,7 @@ use Rattle.wire.specs.Line.{named_by, of_named, size_of, size_by}
 use Rattle.wire.specs.Reading.{report, report_of, report_by}
 use Rattle.wire.specs.declared.Format.{Format}
 use Rattle.wire.specs.declared.Format.TheVariants.{Mm, Microsoft, Absolute, Relative, FiveByte, ThreeByte, Hexadecimal}
-use Rattle.wire.specs.declared.Named.{Named}
-use Rattle.wire.specs.declared.Named.TheVariants.{Known, Unknown}
+use Rattle.std.proofs.Common.{Option, Some, None}
 use Rattle.reader.proofs.WholeReports.{three_or_five}
 use Rattle.choosing.specs.Choice.{all_bytes}
 use Rattle.choosing.specs.Earliest.{starts}
@@ -79,11 +78,11 @@ same_report : (letter : ℕ) (l : List ℕ) → (size_by letter ≡ 3) ⊎ (size
 unfolding report_by size_by
 same_report letter l t h b = go (named_by letter) t h b
   where
-    go : (n : Named) → let size = of_named 0 size_of n in
+    go : (n : Option Format) → let size = of_named 0 size_of n in
         (size ≡ 3) ⊎ (size ≡ 5) → size ≤ length l → all_bytes (take size l) ≡ true
         → of_named (report 0 (pos 0) (pos 0)) (λ f. report_of f (five_in size l)) n ≡ of_named (report 0 (pos 0) (pos 0)) (λ f. report_of f (take size l)) n
-    go (Known f) t h b = sized_bytes f (size_of f) l refl t h b
-    go Unknown t h b = refl
+    go (Some f) t h b = sized_bytes f (size_of f) l refl t h b
+    go None t h b = refl
 
 module _ (letter : ℕ) (words : List ℕ) (at : ℕ) (h : at < length words) (e : starts_by letter (drop at words) ≡ true) where
   pub sized : 0 < size_by letter

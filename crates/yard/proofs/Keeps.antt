@@ -11,8 +11,7 @@ use Rattle.frames.specs.Words.{is_byte, break, silence}
 use Rattle.wire.specs.Line.{named_by, of_named, known, size_by}
 use Rattle.wire.specs.Places.{fits_by}
 use Rattle.wire.specs.Numbers.{bad_word}
-use Rattle.wire.specs.declared.Named.{Named}
-use Rattle.wire.specs.declared.Named.TheVariants.{Known, Unknown}
+use Rattle.std.proofs.Common.{Option, Some, None}
 use Rattle.wire.specs.declared.Format.{Format}
 use Rattle.wire.specs.declared.Format.TheVariants.{Mm, Microsoft, Absolute, Relative, FiveByte, ThreeByte, Hexadecimal}
 use Rattle.wire.proofs.Letters.{size_positive}
@@ -74,8 +73,8 @@ behind : (letter place first last b : ℕ) → stands_by letter place first last
 unfolding stands_by barred_by barred least_w
 behind letter place first last b = go (named_by letter)
   where
-    go : (n : Named) → fits_by letter place b && not (of_named false (λ f. barred f place first last b) n) ≡ true → fits_by letter place b && not (of_named false (λ f. barred f place first 0 b) n) ≡ true
-    go (Known f) h = format f h
+    go : (n : Option Format) → fits_by letter place b && not (of_named false (λ f. barred f place first last b) n) ≡ true → fits_by letter place b && not (of_named false (λ f. barred f place first 0 b) n) ≡ true
+    go (Some f) h = format f h
       where
         format : (f : Format) → fits_by letter place b && not (barred f place first last b) ≡ true → fits_by letter place b && not (barred f place first 0 b) ≡ true
         format Mm h = h
@@ -85,7 +84,7 @@ behind letter place first last b = go (named_by letter)
         format FiveByte h = h
         format ThreeByte h = h
         format Hexadecimal h = rw (left (fits_by letter place b) _ h, and-false (eqb place 2 || eqb place 4))
-    go Unknown h = h
+    go None h = h
 
 pub none_good : (letter : ℕ) → known letter ≡ true → good (none_gone letter) ≡ true
 unfolding good

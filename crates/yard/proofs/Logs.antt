@@ -4,6 +4,7 @@ use mathlib.Core.Path.{◌≡◌, refl, sym, ap, ◌∙◌}
 use mathlib.Core.Bool.{Bool, true, false, cond}
 use mathlib.Core.List.{List, [], ◌∷◌}
 use native.Mathlib.Omega.{arith}
+use native.Mathlib.Nat.{add-zero}
 use lib.ListN.{length, take}
 use lib.Dec.{eqb, leb}
 use borrow.Author.Tests.{eqb-true}
@@ -12,7 +13,12 @@ use Rattle.numbers.proofs.Tested.{holds}
 use Rattle.frames.specs.Words.{silence, line_words}
 use Rattle.wire.specs.Numbers.{success, bad_word}
 use Rattle.yard.specs.State.{over}
-use Rattle.yard.specs.Rules.{sent, word_of}
+use Rattle.std.proofs.Common.{Err}
+use Rattle.wire.specs.Refusals.{number_of}
+use Rattle.wire.specs.declared.refusal.Refusal.{Refusal}
+use Rattle.wire.proofs.Numbered.{never_success}
+use Rattle.yard.specs.declared.Judged.{Judged}
+use Rattle.yard.specs.Rules.{can, cannot, sent, told, word_of}
 use Rattle.yard.specs.Log.{sendable, judgement, passes, refused, checked_of}
 use Rattle.yard.specs.declared.Yard.{Yard}
 use Rattle.yard.specs.declared.Checked.{Checked}
@@ -33,6 +39,17 @@ is_word y w = by_word (λ j. j.refusal ≡ success → leb w silence ≡ true) y
 
 pub no_word : (y : Yard) (w : ℕ) → ((word_of y w).refusal ≡ success → ⊥) → leb w silence ≡ false
 no_word y w = by_word (λ j. (j.refusal ≡ success → ⊥) → leb w silence ≡ false) y w (λ b _. b) (λ _ e. absurd (e refl)) (λ _ e. absurd (e refl)) (λ _ _ _ e. absurd (e refl))
+
+-- a word that is refused is so with 4
+above_257 : (y : Yard) (w : ℕ) → leb w silence ≡ false → (word_of y w).refusal ≡ bad_word
+unfolding word_of
+above_257 y w l = rw l
+
+pub only_bad_word : (y : Yard) (w : ℕ) (r : Refusal) → told y (Err r) ≡ word_of y w → (leb w silence ≡ false) × (number_of r ≡ bad_word)
+only_bad_word y w r e =
+    let n : number_of r ≡ (word_of y w).refusal = ap (λ (j : Judged). j.refusal) e in
+    let bad = no_word y w (λ z. never_success r (n ∙ z)) in
+    (bad, n ∙ above_257 y w bad)
 
 pub over_none : (letter : ℕ) (words : List ℕ) → sendable (over letter) words ≡ 0
 unfolding sendable word_of
@@ -77,6 +94,17 @@ unfolding line_words
 rest_step y before count w words l =
     let a : before + sendable y (w ∷ words) ≡ before + (word_of y w).can + sendable (word_of y w).next words = omega (arith, one_word y w words l) in
     rw (l, a)
+
+-- a word that can be sent, and one that cannot
+pub rest_can : (y next : Yard) (before count w : ℕ) (words : List ℕ) → can next ≡ word_of y w → rest y before count (w ∷ words) ≡ rest next (before + 1) count words
+rest_can y next before count w words e =
+    let l = is_word y w (sym (ap (λ (j : Judged). j.refusal) e)) in
+    rest_step y before count w words l ∙ rw (← e)
+
+pub rest_cannot : (y : Yard) (before count w : ℕ) (words : List ℕ) → cannot y.format ≡ word_of y w → rest y before count (w ∷ words) ≡ rest (over y.format) before count words
+rest_cannot y before count w words e =
+    let l = is_word y w (sym (ap (λ (j : Judged). j.refusal) e)) in
+    rest_step y before count w words l ∙ rw (← e, add-zero before)
 
 pub rest_end : (y : Yard) (before count : ℕ) → rest y before count [] ≡ judgement before count
 unfolding line_words sendable

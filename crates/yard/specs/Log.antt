@@ -1,8 +1,10 @@
 -- A whole log: how many of its words can be sent, before the first that cannot.
-use Rattle.std.specs.Prelude.{ℕ, suc, Bool, cond, List, [], ◌∷◌, length, eqb}
+use Rattle.std.specs.Prelude.{ℕ, suc, Bool, cond, List, [], ◌∷◌, length, eqb, Result, Ok, Err}
 use Rattle.numbers.specs.Bits.{value}
 use Rattle.frames.specs.Words.{line_words}
 use Rattle.wire.specs.Numbers.{success, bad_word}
+use Rattle.wire.specs.Refusals.{number_of}
+use Rattle.wire.specs.declared.refusal.Refusal.{Refusal}
 use Rattle.yard.specs.Rules.{sent, word_of}
 use Rattle.yard.specs.declared.Yard.{Yard}
 use Rattle.yard.specs.declared.Checked.{Checked}
@@ -27,3 +29,8 @@ refused n = record { refusal = n; proper = 0; sendable = 0 }
 -- "A word above 257 anywhere is refusal 4."
 unfoldable pub checked_of : Yard → List ℕ → Checked
 checked_of y words = cond (line_words words) (judgement (sendable y words) (length words)) (refused bad_word)
+
+-- what is told of a log of so many words: how many of them can be sent, or why it is refused
+abbrev pub log_told : ℕ → Result ℕ Refusal → Checked
+log_told count (Ok place) = judgement place count
+log_told count (Err r) = refused (number_of r)

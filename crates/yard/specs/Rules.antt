@@ -1,8 +1,10 @@
 -- What one word does to a good check.
-use Rattle.std.specs.Prelude.{ℕ, ◌+◌, Bool, false, cond, eqb, leb}
+use Rattle.std.specs.Prelude.{ℕ, ◌+◌, Bool, false, cond, eqb, leb, Option, Some, None, Result, Ok, Err}
 use Rattle.frames.specs.Words.{is_byte, break, silence}
 use Rattle.wire.specs.Line.{size_by}
 use Rattle.wire.specs.Numbers.{success, bad_word}
+use Rattle.wire.specs.Refusals.{number_of}
+use Rattle.wire.specs.declared.refusal.Refusal.{Refusal}
 use Rattle.yard.specs.Stands.{stands_by}
 use Rattle.yard.specs.State.{yard, ended, none_gone, over}
 use Rattle.yard.specs.declared.Yard.{Yard}
@@ -22,6 +24,12 @@ sent j = eqb j.can 1
 -- "A refusal returns the old state"
 abbrev pub refusing : ℕ → Yard → Judged
 refusing n y = record { refusal = n; can = 0; next = y }
+
+-- what is told of a word: the check behind it, where a box can send it; or that none can; or why it is refused
+abbrev pub told : Yard → Result (Option Yard) Refusal → Judged
+told y (Ok (Some next)) = can next
+told y (Ok None) = cannot y.format
+told y (Err r) = refusing (number_of r) y
 
 -- a byte more of the report has gone
 unfoldable pub first_with : Yard → ℕ → ℕ

@@ -2,10 +2,12 @@
 // numbers, and what a user calls.
 #![tactic(auto)]
 
-ghost use Rattle.yard.specs.Promises.{FreshPromise, StepPromise, CheckPromise};
+ghost use Rattle.std.specs.Prelude.{◌≡◌, length};
+ghost use Rattle.yard.specs.Log.{log_told};
+ghost use Rattle.yard.specs.Promises.{FreshPromise, StepPromise, check_of, CheckPromise};
 
-use crate::rules::{none_gone, refusing};
-use wire::{BAD_LETTER, BAD_STATE, FORMAT_U, SUCCESS};
+use crate::rules::none_gone;
+use wire::{FORMAT_U, Refusal, SUCCESS};
 
 mod good;
 mod log;
@@ -24,7 +26,8 @@ pub struct Yard {
     pub ended: u8,
 }
 
-// A new check, or why there is none of this letter.
+// A new check, or why there is none of this letter. C has this struct and the two below, so that they tell a refusal by its
+// number, and a yes by 1.
 #[repr(C)]
 #[derive(Clone, Copy, Drop)]
 pub struct NewYard {
@@ -52,29 +55,45 @@ pub struct Checked {
 
 impl Yard {
     // A check that has seen no word. A letter that is not in the table is refused with 1 and a check of U.
+    #[tactic(auto, unfolding(crate::specs::Promises::fresh_of))]
     pub fn fresh(letter: u8) -> NewYard
         ensures { FreshPromise letter result }
     {
-        if !wire::known(letter) {
-            return NewYard {
-                refusal: BAD_LETTER,
+        if wire::known(letter) {
+            NewYard {
+                refusal: SUCCESS,
+                yard: none_gone(letter),
+            }
+        } else {
+            NewYard {
+                refusal: Refusal::NoSuchLetter.number(),
                 yard: none_gone(FORMAT_U),
-            };
-        }
-        NewYard {
-            refusal: SUCCESS,
-            yard: none_gone(letter),
+            }
         }
     }
 
     // One word. Behind a word that cannot be sent none can.
+    #[tactic(auto, unfolding(crate::specs::Promises::step_of))]
     pub fn step(self, word: u16) -> Judged
         ensures { StepPromise self word result }
     {
-        if !self.good() {
-            return refusing(BAD_STATE, self);
+        if self.good() {
+            self.judged(self.word(word))
+        } else {
+            self.judged(Err(Refusal::BadState))
         }
-        self.word(word)
+    }
+}
+
+// How many of a log's words can be sent, or why it is refused.
+#[tactic(auto, unfolding(crate::specs::Promises::check_of))]
+fn sendable(letter: u8, words: &[u16]) -> Result<usize, Refusal>
+    ensures { log_told (length words.now) result ≡ check_of letter words.now }
+{
+    if wire::known(letter) {
+        log::sendable(none_gone(letter), words)
+    } else {
+        Err(Refusal::NoSuchLetter)
     }
 }
 
@@ -82,8 +101,16 @@ impl Yard {
 pub fn check(letter: u8, words: &[u16]) -> Checked
     ensures { CheckPromise letter words.now result }
 {
-    if !wire::known(letter) {
-        return log::refused(BAD_LETTER);
+    match sendable(letter, words) {
+        Ok(sendable) => Checked {
+            refusal: SUCCESS,
+            proper: u8::from(sendable == words.len()),
+            sendable,
+        },
+        Err(refusal) => Checked {
+            refusal: refusal.number(),
+            proper: 0,
+            sendable: 0,
+        },
     }
-    log::checked(none_gone(letter), words)
 }

@@ -1,43 +1,28 @@
 // A whole log: one pass over its words.
-ghost use Rattle.std.specs.Prelude.{◌≡◌, true};
+ghost use Rattle.std.specs.Prelude.{◌≡◌, true, length};
 ghost use Rattle.yard.specs.Good.{good};
-ghost use Rattle.yard.specs.Log.{refused, checked_of};
+ghost use Rattle.yard.specs.Log.{log_told, checked_of};
 
-use crate::{Checked, Yard};
-use wire::{BAD_WORD, SUCCESS};
+use crate::Yard;
+use crate::rules::over;
+use wire::Refusal;
 
-// A refusal tells nothing of the words.
-pub(crate) fn refused(number: u8) -> Checked
-    ensures { result ≡ refused number }
-{
-    Checked {
-        refusal: number,
-        proper: 0,
-        sendable: 0,
-    }
-}
-
-// The words, one after the other: behind one that cannot be sent they are looked at for a word above 257 alone.
-pub(crate) fn checked(yard: Yard, words: &[u16]) -> Checked
+// How many of the words can be sent, one after the other: behind one that cannot be sent they are looked at for a word above
+// 257 alone.
+pub(crate) fn sendable(yard: Yard, words: &[u16]) -> Result<usize, Refusal>
     requires { good yard ≡ true }
-    ensures { result ≡ checked_of yard words.now }
+    ensures { log_told (length words.now) result ≡ checked_of yard words.now }
 {
-    let mut y = yard;
-    let mut at: usize = 0;
-    let mut sendable: usize = 0;
-    while at < words.len() {
-        let s = y.word(words[at]);
-        if s.refusal != SUCCESS {
-            return refused(BAD_WORD);
+    let mut next = yard;
+    let mut sendable = 0;
+    for word in words {
+        match next.word(*word)? {
+            Some(behind) => {
+                next = behind;
+                sendable += 1;
+            }
+            None => next = over(next.format),
         }
-        let next = s.next;
-        y = next;
-        sendable = sendable + s.can as usize;
-        at = at + 1;
     }
-    Checked {
-        refusal: SUCCESS,
-        proper: (sendable == at) as u8,
-        sendable: sendable,
-    }
+    Ok(sendable)
 }

@@ -2,11 +2,11 @@
 ghost use Rattle.std.specs.Prelude.{◌≡◌, ◌<◌};
 ghost use Rattle.wire.specs.Line.{size_by};
 ghost use Rattle.yard.specs.State.{none_gone, over};
-ghost use Rattle.yard.specs.Rules.{can, cannot, refusing, first_with, one_more, byte_can, silence_of, word_of};
+ghost use Rattle.yard.specs.Rules.{told, first_with, one_more, byte_can, silence_of, word_of};
 
 use crate::stands::stands;
 use crate::{Judged, Yard};
-use wire::{BAD_WORD, BREAK, SILENCE, SUCCESS};
+use wire::{BREAK, Refusal, SILENCE, SUCCESS};
 
 // A check between reports.
 pub(crate) fn none_gone(letter: u8) -> Yard
@@ -22,59 +22,45 @@ pub(crate) fn none_gone(letter: u8) -> Yard
 }
 
 // A check that has ended.
-fn over(letter: u8) -> Yard
+pub(crate) fn over(letter: u8) -> Yard
     ensures { result ≡ over letter }
 {
     Yard {
-        format: letter,
-        first: 0,
-        last: 0,
-        count: 0,
         ended: 1,
-    }
-}
-
-// A word that a box can send, and one that none can.
-fn can(next: Yard) -> Judged
-    ensures { result ≡ can next }
-{
-    Judged {
-        refusal: SUCCESS,
-        can: 1,
-        next: next,
-    }
-}
-
-fn cannot(letter: u8) -> Judged
-    ensures { result ≡ cannot letter }
-{
-    Judged {
-        refusal: SUCCESS,
-        can: 0,
-        next: over(letter),
-    }
-}
-
-// A refusal gives the old check back.
-pub(crate) fn refusing(number: u8, yard: Yard) -> Judged
-    ensures { result ≡ refusing number yard }
-{
-    Judged {
-        refusal: number,
-        can: 0,
-        next: yard,
+        ..none_gone(letter)
     }
 }
 
 impl Yard {
+    // What is told of a word: the check behind it, where a box can send it; or that none can; or why it is refused.
+    pub(crate) fn judged(self, said: Result<Option<Yard>, Refusal>) -> Judged
+        ensures { result ≡ told self said }
+    {
+        match said {
+            Ok(Some(next)) => Judged {
+                refusal: SUCCESS,
+                can: 1,
+                next,
+            },
+            Ok(None) => Judged {
+                refusal: SUCCESS,
+                can: 0,
+                next: over(self.format),
+            },
+            Err(refusal) => Judged {
+                refusal: refusal.number(),
+                can: 0,
+                next: self,
+            },
+        }
+    }
+
     // The first byte of the report, with one more.
+    #[tactic(auto, unfolding(crate::specs::Rules::first_with))]
     fn first_with(self, byte: u8) -> u8
         ensures { result ≡ first_with self byte }
     {
-        if self.count == 0 {
-            return byte;
-        }
-        self.first
+        if self.count == 0 { byte } else { self.first }
     }
 
     // A byte more of the report has gone.
@@ -92,58 +78,52 @@ impl Yard {
     }
 
     // A byte: behind the last of a report nothing has gone.
-    fn byte(self, byte: u8) -> Judged
+    #[tactic(auto, unfolding(crate::specs::Rules::byte_can))]
+    fn byte(self, byte: u8) -> Option<Yard>
         requires { self.count < size_by self.format }
-        ensures { result ≡ byte_can self byte }
+        ensures { told self (Ok result) ≡ byte_can self byte }
     {
         if !stands(self.format, self.count, self.first, self.last, byte) {
-            return cannot(self.format);
+            return None;
         }
-        let gone = self.count as usize;
-        if gone + 1 == wire::size(self.format) {
-            return can(none_gone(self.format));
+        if self.count as usize + 1 == wire::size(self.format) {
+            Some(none_gone(self.format))
+        } else {
+            Some(self.one_more(byte))
         }
-        can(self.one_more(byte))
     }
 
     // A silence stands between reports only.
-    fn silence(self) -> Judged
-        ensures { result ≡ silence_of self }
+    #[tactic(auto, unfolding(crate::specs::Rules::silence_of))]
+    fn silence(self) -> Option<Yard>
+        ensures { told self (Ok result) ≡ silence_of self }
     {
         if self.count == 0 {
-            return can(none_gone(self.format));
-        }
-        cannot(self.format)
-    }
-
-    // A break may stand anywhere: of the report that is broken off any number of bytes has gone, or none.
-    fn broken(self) -> Judged
-        ensures { result ≡ can (none_gone self.format) }
-    {
-        Judged {
-            refusal: SUCCESS,
-            can: 1,
-            next: none_gone(self.format),
+            Some(none_gone(self.format))
+        } else {
+            None
         }
     }
 
-    // A word: a byte, a break, a silence; any other is refused with 4.
-    pub(crate) fn word(self, word: u16) -> Judged
+    // A word: a byte, a break, a silence; any other is refused. A break may stand anywhere: of the report that is broken off
+    // any number of bytes has gone, or none.
+    #[tactic(auto, unfolding(crate::specs::Rules::word_of))]
+    pub(crate) fn word(self, word: u16) -> Result<Option<Yard>, Refusal>
         requires { self.count < size_by self.format }
-        ensures { result ≡ word_of self word }
+        ensures { told self result ≡ word_of self word }
     {
         if word > SILENCE {
-            return refusing(BAD_WORD, self);
+            return Err(Refusal::BadWord);
         }
         if self.ended == 1 {
-            return cannot(self.format);
+            return Ok(None);
         }
         if word <= 255 {
-            return self.byte(word as u8);
+            return Ok(self.byte(word as u8));
         }
         if word == BREAK {
-            return self.broken();
+            return Ok(Some(none_gone(self.format)));
         }
-        self.silence()
+        Ok(self.silence())
     }
 }

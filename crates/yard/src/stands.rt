@@ -3,6 +3,7 @@ ghost use Rattle.std.specs.Prelude.{◌≡◌};
 ghost use Rattle.yard.specs.Stands.{minus_zero, least_v, least, least_w, barred_by, stands_by};
 
 // A magnitude 0 of S under a minus.
+#[tactic(auto, unfolding(numbers::specs::Bits::bit, crate::specs::Stands::minus_zero))]
 fn minus_zero(place: u8, first: u8, byte: u8) -> bool
     ensures { result ≡ minus_zero place first byte }
 {
@@ -21,6 +22,7 @@ fn least_v(place: u8, first: u8, byte: u8) -> bool
 }
 
 // -128 in U and T.
+#[tactic(auto, unfolding(crate::specs::Stands::least))]
 fn least(place: u8, byte: u8) -> bool
     ensures { result ≡ least place byte }
 {
@@ -28,6 +30,7 @@ fn least(place: u8, byte: u8) -> bool
 }
 
 // -128 in W: the high digit 8 behind the low digit 0.
+#[tactic(auto, unfolding(crate::specs::Stands::least_w))]
 fn least_w(place: u8, last: u8, byte: u8) -> bool
     ensures { result ≡ least_w place last byte }
 {
@@ -49,6 +52,7 @@ fn barred(letter: u8, place: u8, first: u8, last: u8, byte: u8) -> bool
 }
 
 // Whether a box can send the byte at a place of a report, behind a first and a last one.
+#[tactic(auto, unfolding(crate::specs::Stands::stands_by))]
 pub(crate) fn stands(letter: u8, place: u8, first: u8, last: u8, byte: u8) -> bool
     ensures { result ≡ stands_by letter place first last byte }
 {

@@ -5,7 +5,8 @@ use lib.Dec.{eqb}
 use Rattle.numbers.proofs.Choices.{cases}
 use borrow.Author.Tests.{ne_eqb}
 use Rattle.wire.specs.Line.{named_by, of_named}
-use Rattle.wire.specs.declared.Named.{Named}
+use Rattle.std.proofs.Common.{Option}
+use Rattle.wire.specs.declared.Format.{Format}
 use Rattle.yard.specs.Stands.{barred, barred_by}
 use Rattle.yard.proofs.stands.barred.Goals as goal
 
@@ -34,5 +35,5 @@ unfolding barred_by barred named_by
 returns-in_default c = let n = c.in_default.in_default-own.rest in
     let a = c.args in
     rw (ne_eqb _ _ n.0.0.0.0.1, ne_eqb _ _ n.0.0.0.1, ne_eqb _ _ n.0.0.1, ne_eqb _ _ n.0.1, ne_eqb _ _ n.1)
-    (cases (λ (m : Named). false ≡ of_named false (λ f. barred f a.place a.first a.last a.byte) m) (eqb a.letter 0x41) (λ _. refl)
-    (λ _. cases (λ (m : Named). false ≡ of_named false (λ f. barred f a.place a.first a.last a.byte) m) (eqb a.letter 0x42) (λ _. refl) (λ _. refl)))
+    (cases (λ (m : Option Format). false ≡ of_named false (λ f. barred f a.place a.first a.last a.byte) m) (eqb a.letter 0x41) (λ _. refl)
+    (λ _. cases (λ (m : Option Format). false ≡ of_named false (λ f. barred f a.place a.first a.last a.byte) m) (eqb a.letter 0x42) (λ _. refl) (λ _. refl)))
