@@ -1,2 +1,2 @@
--- What a block leaves.
+-- What a read leaves, and the end.
 pub mod Turns

@@ -1,3 +1,2 @@
--- What the program writes, and where it stands between blocks.
+-- What the program writes.
 pub mod Program
-pub mod Blocks

@@ -1,107 +1,83 @@
 // mlist: the listing of standard input, to standard output.
 #![tactic(auto)]
 
-ghost use Rattle.std.specs.Prelude.{◌≡◌, true, false, [], ◌++◌, ◌*◌, ◌-◌, ◌≤◌, ◌<◌, length};
+ghost use Rattle.std.specs.Prelude.{ℕ, ◌≡◌, ◌*◌, ◌-◌, ◌≤◌, ◌<◌, true, [], length, is_ok};
 ghost use Rattle.shell.specs.Outside.{Trace};
-ghost use Rattle.shell.specs.Standing.{Stands, Ends, silent};
+ghost use Rattle.shell.specs.Standing.{Ends};
 ghost use Rattle.listing.specs.Scanning.{passed, most_bytes};
 ghost use Rattle.listing.specs.Feeding.{good};
 ghost use Rattle.listing.specs.Promises.{enough};
 ghost use Rattle.listing.proofs.Whole.{all_of};
 ghost use Rattle.mlist.specs.Program.{mlist};
-ghost use Rattle.mlist.specs.Blocks.{Left};
+ghost use Rattle.std.proofs.Common.{rules};
 
 use listing::Lister;
-use shell::Streams;
+use shell::{Failure, Filter, Step, System};
 
-// Where the listing stands: the lister, whether more is to be read, and whether each read and write went well.
+// How far the input is listed.
 #[derive(Clone, Copy, Drop)]
-struct Went {
-    next: Lister,
-    on: bool,
-    well: bool,
+struct Listing {
+    lister: Lister,
 }
 
-// Bytes of the input, and their text to standard output. With forty places for each of them all are taken.
-fn list(streams: Streams, turn: &mut u64, lister: Lister, bytes: &[u8], out: &mut [u8]) -> Went
-    requires lister_value { (good lister ≡ true) × (enough * length bytes.now ≤ length out.old) × (0 < length bytes.now) }
-    requires stands { Stands mlist turn.old (λ q. all_of lister (bytes.now ++ q)) silent }
-    ensures left { Left turn.new result }
-    ensures scanner_bound { result.on ≡ true → most_bytes - passed result.next.scanner < most_bytes - passed lister.scanner }
-{
-    let listed = lister.feed(bytes, out);
-    let next = listed.next;
-    let n = listed.written;
-    let is_shown = shell::show(streams, turn, b"mlist: standard output", &out[..n]);
-    Went {
-        next: next,
-        on: is_shown & !listed.ended,
-        well: is_shown,
-    }
-}
+impl Filter for Listing {
+    ghost program = { mlist };
 
-// A block of the input: what a read brought is listed, and where it brought nothing the input is over or cannot be read.
-fn block(streams: Streams, turn: &mut u64, lister: Lister, input: &mut [u8], out: &mut [u8]) -> Went
-    requires lister_value { (good lister ≡ true) × (enough * length input.old ≤ length out.old) × (0 < length input.old) }
-    requires stands { Stands mlist turn.old (all_of lister) silent }
-    ensures left { Left turn.new result }
-    ensures scanner_bound { result.on ≡ true → most_bytes - passed result.next.scanner < most_bytes - passed lister.scanner }
-{
-    let got = shell::more(streams, turn, b"mlist: standard input", input);
-    let n = got.count;
-    if n == 0 {
-        return Went {
-            next: lister,
-            on: false,
-            well: got.well,
+    ghost rest = { λ s. all_of s.lister };
+
+    ghost reads = { λ s. good s.lister ≡ true };
+
+    ghost ends = { λ s. good s.lister ≡ true };
+
+    ghost left = { λ s. most_bytes - passed s.lister.scanner };
+
+    // with forty places for each of them all bytes are taken
+    ghost room = { λ n. enough * n };
+
+    ghost may_end = { λ s good. good };
+
+    ghost room_grows = { Prim.search rules };
+
+    // Nothing is read once the listing has ended.
+    fn feed(
+        self,
+        system: &mut System,
+        bytes: &[u8],
+        out: &mut [u8],
+    ) -> Result<Step<Listing>, Failure> {
+        let listed = self.lister.feed(bytes, out);
+        system.show(b"mlist: standard output", &out[..listed.written])?;
+        let next = Listing {
+            lister: listed.next,
         };
+        Ok(if listed.ended {
+            Step::Over(next)
+        } else {
+            Step::More(next)
+        })
     }
-    list(streams, turn, lister, &input[..n], out)
-}
 
-// The blocks, one after the other, until the input is over or the listing has ended: nothing is read after its end.
-fn blocks(streams: Streams, turn: &mut u64, input: &mut [u8], out: &mut [u8]) -> Went
-    requires { (enough * length input.old ≤ length out.old) × (0 < length input.old) × Trace turn.old [] [] [] }
-    ensures { Left turn.new result × (result.on ≡ false) }
-{
-    let mut went = Went {
-        next: Lister::fresh(),
-        on: true,
-        well: true,
-    };
-    while went.on {
-        went = block(streams, turn, went.next, input, out);
+    // The last lines, which only a listing has whose reads and writes all went well.
+    fn finish(self, system: &mut System, out: &mut [u8]) -> Result<(), Failure> {
+        let listed = self.lister.finish(out);
+        system.show(b"mlist: standard output", &out[..listed.written])
     }
-    went
-}
-
-// The last lines, which only a listing has whose reads and writes all went well.
-fn end(streams: Streams, turn: &mut u64, went: Went, out: &mut [u8]) -> bool
-    requires { Left turn.old went × (went.on ≡ false) × (went.well ≡ true) × (enough ≤ length out.old) }
-    ensures { Ends mlist turn.new result }
-{
-    let lister = went.next;
-    let listed = lister.finish(out);
-    let last = listed.written;
-    shell::show(streams, turn, b"mlist: standard output", &out[..last])
 }
 
 // WHAT IS HANDED OUT IS THE LISTING OF THE INPUT.
-fn whole(streams: Streams, turn: &mut u64, input: &mut [u8], out: &mut [u8]) -> bool
-    requires { (enough * length input.old ≤ length out.old) × (0 < length input.old) × Trace turn.old [] [] [] }
-    ensures { Ends mlist turn.new result }
+fn whole(system: &mut System, input: &mut [u8], out: &mut [u8]) -> Result<(), Failure>
+    requires { (enough * length input.old ≤ length out.old) × (0 < length input.old) × Trace system.old.turn [] [] [] }
+    ensures { Ends mlist system.new.turn (is_ok result) }
 {
-    let went = blocks(streams, turn, input, out);
-    if went.well {
-        return end(streams, turn, went, out);
-    }
-    false
+    let listing = Listing {
+        lister: Lister::fresh(),
+    };
+    shell::run(listing, system, b"mlist: standard input", input, out)
 }
 
 fn main(rt: HostRuntime) {
-    let streams = Streams::of(rt.stdin(), rt.stdout(), rt.stderr());
-    let mut turn = shell::start();
+    let mut system = System::of(rt.stdin(), rt.stdout(), rt.stderr());
     let mut input = [0u8; 4096];
     let mut out = [0u8; 163840];
-    whole(streams, &mut turn, &mut input, &mut out);
+    let _ = whole(&mut system, &mut input, &mut out);
 }

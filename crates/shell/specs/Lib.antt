@@ -2,3 +2,4 @@
 pub mod Outside
 pub mod Buffer
 pub mod Standing
+pub mod Filters

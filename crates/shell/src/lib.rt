@@ -2,6 +2,7 @@
 // Each of these moves on the moment, a number. What has passed at a moment is named in specs/Outside.
 #![tactic(auto)]
 
+mod filter;
 mod words;
 
 ghost use Rattle.std.specs.Prelude.{◌≡◌, ℕ, ◌≤◌, [], length, take, is_ok, IfOk, OnOk, OnErr};
@@ -9,6 +10,7 @@ ghost use Rattle.std.specs.Io.KnownBytes.{Appends};
 ghost use Rattle.shell.specs.Outside.{Trace, Brought, Listened, Handed, Said, IsSameSystem};
 ghost use Rattle.shell.specs.Buffer.{Behind, Moved};
 
+pub use filter::{Filter, Step, run};
 use std::env::FillError;
 use std::io::{Error, ErrorKind, Read, Stderr, Stdin, Stdout, Write};
 use std::rt::{Clock, Env};
