@@ -30,6 +30,7 @@ fn wrapped_byte(v: i16) -> u8
 }
 
 // S: a sign bit and a magnitude for each axis.
+#[tactic(auto, unfolding(crate::specs::Table::bytes_s), using(crate::proofs::Sums::sum_s))]
 #[inline(always)]
 fn rows_s(buttons: u8, x: i16, y: i16) -> [u8; 5]
     requires { (buttons ≤ 7) × (nat_abs x ≤ 127) × (nat_abs y ≤ 127) }
