@@ -26,7 +26,7 @@ pub(crate) fn report(buttons: u8, x: i16, y: i16) -> Report
 fn unwrapped_byte(b: u8) -> i16
     ensures { result ≡ untwos 128 b }
 {
-    unwrapped(b as u16, 128)
+    unwrapped(u16::from(b), 128)
 }
 
 // S: a sign bit and a magnitude for each axis.
@@ -35,8 +35,8 @@ fn unwrapped_byte(b: u8) -> i16
 fn read_mm(b1: u8, b2: u8, b3: u8) -> Report
     ensures { result ≡ read_s b1 b2 b3 }
 {
-    let x = joined(b1 / 16 % 2 == 1, (b2 % 128) as u16);
-    let y = joined(b1 / 8 % 2 == 1, (b3 % 128) as u16);
+    let x = joined(b1 / 16 % 2 == 1, u16::from(b2 % 128));
+    let y = joined(b1 / 8 % 2 == 1, u16::from(b3 % 128));
     report(b1 % 8, x, y)
 }
 
@@ -56,9 +56,7 @@ fn read_microsoft(b1: u8, b2: u8, b3: u8) -> Report
 fn twelve(low: u8, high: u8) -> u16
     ensures { result ≡ twelve low high }
 {
-    let h = (high % 64) as u16;
-    let l = (low % 64) as u16;
-    (h << 6) + l
+    (u16::from(high % 64) << 6) + u16::from(low % 64)
 }
 
 // A: two positions.
