@@ -15,8 +15,8 @@ mod line;
 mod remembered;
 mod splitting;
 
-// The position of the last report of A, where there was one. It is a flag with numbers beside it, and no Option, since a bridge may be handed in whose base
-// is not set and whose numbers are not 0: `good` says no to it, and `convert` refuses it with 6, and an Option would have no such value.
+// The position of the last report of A, where there was one. A flag with numbers beside it, and no Option: C hands in any such three, `bridge_back` of
+// istrolf gives each back as it came, and `good` and `convert` refuse numbers other than 0 beside no base, which an Option could not hold.
 #[derive(Clone, Copy, Drop)]
 pub struct Base {
     pub set: bool,

@@ -1,4 +1,5 @@
 -- The two halves apart: which reply is awaited goes by the items alone, and the report reader is given the words that are no reply's.
+use Rattle.std.proofs.Common.{Option, None}
 use Prim.Native.Nat.{ℕ, suc, ◌+◌, ◌≤◌, ◌<◌}
 use mathlib.Core.Path.{◌≡◌, refl, sym, ◌∙◌, ap}
 use mathlib.Core.Bool.{Bool, true, false, not, cond}
@@ -32,7 +33,6 @@ use Rattle.tellings.specs.Clear.{awaited_then, awaited_behind}
 use Rattle.replies.specs.declared.Asked.{Asked}
 use Rattle.replies.specs.declared.Awaited.{Awaited}
 use Rattle.replies.specs.declared.Reply.{Reply}
-use Rattle.replies.specs.declared.Reply.TheVariants as reply
 use Rattle.replies.specs.declared.ToldReader.{ToldReader}
 use Rattle.replies.proofs.Lines.{word_kept, keep_last, keep_more, word_passes, none_continues}
 use Rattle.replies.proofs.Word.{good_reader, word_fine, told_fine}
@@ -65,8 +65,8 @@ given a (word w ∷ is) = given_of a w ++ given (awaited_then a (word w)) is
 given a (telling asked ∷ is) = given (awaited_then a (telling asked)) is
 
 -- the replies told
-abbrev pub reply_of : Awaited → ℕ → Reply
-reply_of a w = cond (continues a w) (cond (finishes a) (told a w) reply.Nothing) (broken a)
+abbrev pub reply_of : Awaited → ℕ → Option Reply
+reply_of a w = cond (continues a w) (cond (finishes a) (told a w) None) (broken a)
 
 unfoldable pub replies_over : Awaited → List Item → List Reply
 replies_over a [] = []
