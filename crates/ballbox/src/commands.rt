@@ -31,13 +31,10 @@ const MODE_N: u8 = b'N';
 pub(crate) fn is_timed(mode: u8) -> bool
     ensures { result ≡ is_timed mode }
 {
-    (mode == MODE_J)
-        | (mode == MODE_K)
-        | (mode == MODE_L)
-        | (mode == MODE_R)
-        | (mode == MODE_M)
-        | (mode == MODE_Q)
-        | (mode == MODE_N)
+    matches!(
+        mode,
+        MODE_J | MODE_K | MODE_L | MODE_R | MODE_M | MODE_Q | MODE_N
+    )
 }
 
 pub(crate) fn is_stream(mode: u8) -> bool
@@ -88,9 +85,8 @@ impl BallBox {
     fn with_format(mut self, letter: u8) -> BallBox
         ensures { result ≡ with_format letter (with_track (cleared self.track) (with_memory none (with_due false self))) }
     {
-        let track = self.track;
         self.settings.format = letter;
-        self.track = track.cleared();
+        self.track = self.track.cleared();
         self.memory = none();
         self.due = 0;
         self
@@ -109,7 +105,7 @@ impl BallBox {
     {
         self.settings.mode = MODE_D;
         self.memory = none();
-        self.due = due as u8;
+        self.due = u8::from(due);
         self
     }
 
@@ -117,12 +113,11 @@ impl BallBox {
     pub(crate) fn replying(mut self, length: u8, b1: u8, b2: u8) -> BallBox
         ensures { result ≡ with_going (record { length = length; sent = 0; bytes = b1 ∷ b2 ∷ 0 ∷ 0 ∷ 0 ∷ [] }) self }
     {
-        let reply = Going {
-            length: length,
+        self.going = Going {
+            length,
             sent: 0,
             bytes: [b1, b2, 0, 0, 0],
         };
-        self.going = reply;
         self
     }
 

@@ -61,11 +61,10 @@ impl Track {
     pub(crate) fn cleared(self) -> Track
         ensures { result ≡ cleared self }
     {
-        let position = self.position;
         Track {
             counter: Pair { x: 0, y: 0 },
-            position: position,
-            last: position,
+            position: self.position,
+            last: self.position,
         }
     }
 
@@ -86,8 +85,7 @@ impl BallBox {
         ensures { result ≡ latched self }
     {
         let letter = self.settings.format;
-        let track = self.track;
-        let taken = track.taken(letter);
+        let taken = self.track.taken(letter);
         let pair = taken.value;
         let report = Report {
             buttons: self.to_show(),
@@ -96,17 +94,14 @@ impl BallBox {
             x2: 0,
             y2: 0,
         };
-        let going = Going {
+        self.going = Going {
             length: wire::size(letter) as u8,
             sent: 0,
             bytes: encoded(letter, report),
         };
-        let memory = self.memory;
-        let sums = self.sums;
-        self.going = going;
-        self.memory = memory.showing_first();
-        self.sums = sums.over_limit(taken.excess);
-        self.track = track.cleared();
+        self.memory = self.memory.showing_first();
+        self.sums = self.sums.over_limit(taken.excess);
+        self.track = self.track.cleared();
         self.due = 0;
         self
     }
@@ -116,8 +111,7 @@ impl BallBox {
         requires { self.settings.format ≡ 0x55 }
         ensures { result ≡ second_latched self }
     {
-        let track = self.track;
-        let taken = track.taken(self.settings.format);
+        let taken = self.track.taken(self.settings.format);
         let pair = taken.value;
         let report = Report {
             buttons: 0,
@@ -127,13 +121,10 @@ impl BallBox {
             y2: pair.y,
         };
         let second = encoded(FORMAT_U, report);
-        let sums = self.sums;
-        let mut going = self.going;
-        going.bytes[3] = second[3];
-        going.bytes[4] = second[4];
-        self.going = going;
-        self.sums = sums.over_limit(taken.excess);
-        self.track = track.cleared();
+        self.going.bytes[3] = second[3];
+        self.going.bytes[4] = second[4];
+        self.sums = self.sums.over_limit(taken.excess);
+        self.track = self.track.cleared();
         self
     }
 }

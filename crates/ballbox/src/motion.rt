@@ -57,8 +57,7 @@ fn held_sum(a: i16, b: i16) -> Bounded
 fn placed_at(a: i16, b: i16) -> i16
     ensures { result ≡ placed_at a b }
 {
-    let place = held(total(a, b), 0, 4095);
-    place.value
+    held(total(a, b), 0, 4095).value
 }
 
 impl Pair {
@@ -92,12 +91,10 @@ impl Track {
     pub(crate) fn has_moved(self, letter: u8) -> bool
         ensures { result ≡ has_moved letter self }
     {
-        let counter = self.counter;
-        let position = self.position;
         if letter == FORMAT_A {
-            position.apart(self.last)
+            self.position.apart(self.last)
         } else {
-            counter.apart(Pair { x: 0, y: 0 })
+            self.counter.apart(Pair { x: 0, y: 0 })
         }
     }
 }
