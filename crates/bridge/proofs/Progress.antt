@@ -19,8 +19,7 @@ use Rattle.wire.specs.Line.{letter_of, named_by, known}
 use Rattle.wire.specs.Holds.{◌to◌, within, x_range, y_range}
 use Rattle.wire.specs.Numbers.{success}
 use Rattle.wire.specs.declared.Report.{Report}
-use Rattle.wire.specs.declared.Named.{Named}
-use Rattle.wire.specs.declared.Named.TheVariants.{Known, Unknown}
+use Rattle.std.proofs.Common.{Option, Some, None}
 use Rattle.wire.specs.declared.Format.{Format}
 use Rattle.wire.specs.declared.Format.TheVariants.{Mm, Microsoft, Absolute, Relative, FiveByte, ThreeByte, Hexadecimal}
 use Rattle.wire.specs.declared.Range.{Range}
@@ -119,7 +118,7 @@ module _ (b : Bridge) (w : ℕ) (g : good b ≡ true) where
   letter = b.reader.format
 
   -- a report of a good bridge
-  held_by : (p : Report) (f : Format) → named_by letter ≡ Known f → (word_of b.reader w).answer ≡ answer.Report p → Held f p
+  held_by : (p : Report) (f : Format) → named_by letter ≡ Some f → (word_of b.reader w).answer ≡ answer.Report p → Held f p
   held_by p f named a = (parts f p (reported_accepted (reported b.reader w p f (good_reader b g) named a))).moved
 
   moves_short : (p : Report) → (word_of b.reader w).answer ≡ answer.Report p → Short (movement letter b.past p)
@@ -129,9 +128,9 @@ module _ (b : Bridge) (w : ℕ) (g : good b ≡ true) where
       (λ e. since_short letter b.past.base p (held_by p Absolute (ap named_by (eqb-true letter (letter_of Absolute) e) ∙ letter_named Absolute) a) (good_base_lem b g))
       (λ _. go (named_by letter) refl)
     where
-      go : (n : Named) → named_by letter ≡ n → Short (summed p)
-      go Unknown q = absurd (holds (rw q at (reader.parts b.reader (good_reader b g)).of_known))
-      go (Known f) q = summed_short f p (held_by p f q a)
+      go : (n : Option Format) → named_by letter ≡ n → Short (summed p)
+      go None q = absurd (holds (rw q at (reader.parts b.reader (good_reader b g)).of_known))
+      go (Some f) q = summed_short f p (held_by p f q a)
 
   -- an A report from edge to edge needs 33 V reports, 99 bytes, and none needs more
   pub at_most_33 : (p : Report) → (word_of b.reader w).answer ≡ answer.Report p → length (becomes letter b.past p) ≤ 33

@@ -9,10 +9,9 @@ use Rattle.frames.specs.Passages.{Passage, finished, nothing, passage_words}
 use Rattle.wire.specs.Line.{letter_of}
 use Rattle.wire.specs.Holds.{accepted, carried}
 use Rattle.wire.specs.Messages.{Message, latched_in, message_bytes, SoundIn, finished_reports}
-use Rattle.wire.specs.Encoder.{outcome, written as writes}
+use Rattle.wire.specs.Encoder.{outcome, written as writes, Encoded}
 use Rattle.wire.specs.Promises.{EncodePromise}
 use Rattle.wire.specs.declared.Report.{Report}
-use Rattle.wire.specs.declared.Encoded.{Encoded}
 use Rattle.wire.specs.declared.Format.TheVariants.{Microsoft}
 use Rattle.wire.proofs.Codec.Accepted.{same_report}
 use Rattle.reader.specs.State.{ready}

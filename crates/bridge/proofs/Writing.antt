@@ -15,10 +15,9 @@ use Rattle.numbers.proofs.Held.{held_inside}
 use Rattle.wire.specs.Line.{letter_of}
 use Rattle.wire.specs.Table.{bytes_of}
 use Rattle.wire.specs.Holds.{◌to◌, within, x_range, y_range, accepted}
-use Rattle.wire.specs.Encoder.{outcome, written as writes}
+use Rattle.wire.specs.Encoder.{outcome, written as writes, Encoded}
 use Rattle.wire.specs.Promises.{EncodePromise}
 use Rattle.wire.specs.declared.Report.{Report}
-use Rattle.wire.specs.declared.Encoded.{Encoded}
 use Rattle.wire.specs.declared.Format.TheVariants.{Microsoft}
 use Rattle.wire.proofs.Accepts.{accepts}
 use Rattle.wire.proofs.Letters.{letter_named}

@@ -87,7 +87,7 @@ impl Move {
         ensures { out.new ≡ bytes_of Microsoft (report_v buttons self) ++ drop 3 out.old }
     {
         let report = self.report(buttons);
-        wire::encode(FORMAT_V, report, out);
+        let _ = wire::encode(FORMAT_V, report, out);
     }
 }
 

@@ -1,22 +1,20 @@
 -- Demand 1: "Every public entry takes every event, line word, state and buffer and ends with an answer. A refusal has a number from the list, hands
 -- back the old state and writes nothing; a reader given many words does all before the bad one and stops there."
-use Rattle.std.specs.Prelude.{ℕ, ◌+◌, ◌<◌, ◌≤◌, ◌≡◌, refl, Bool, true, false, List, [], ◌∷◌, ◌++◌, ◌⊎◌, length, get_or, take, ℤ}
+use Rattle.std.specs.Prelude.{ℕ, ◌+◌, ◌<◌, ◌≤◌, ◌≡◌, refl, Bool, true, false, List, [], ◌∷◌, ◌++◌, ◌⊎◌, length, get_or, take, ℤ, None, Err, Option}
 use mathlib.Core.List.Memᴰ.{head as here}
 use Rattle.frames.specs.Words.{silence, line_words}
 use Rattle.wire.specs.Line.{known, letter_of, marked_by, named_by, size_of}
 use Rattle.wire.specs.Holds as holding
 use Rattle.wire.specs.Holds.{unheld, holds}
 use Rattle.wire.specs.Numbers.{success, bad_state, bad_letter, bad_buttons, bad_word, RefusesRightly, accepted, refusal}
-use Rattle.wire.specs.Encoder.{Encoding, refusal_of, length_of}
+use Rattle.wire.specs.Encoder.{Encoding, refusal_of, length_of, Encoded}
 use Rattle.wire.specs.Encoder as encoding
 use Rattle.wire.specs.Promises as encoder
 use Rattle.wire.specs.Promises.{KnownPromise, SizePromise, MarkedPromise, FitsPromise, ReportPromise, EncodePromise, RefusalPromise, LengthPromise}
 use Rattle.wire.specs.declared.Format.{Format}
 use Rattle.wire.specs.declared.Format.TheVariants.{FiveByte}
-use Rattle.wire.specs.declared.Named.TheVariants.{Unknown}
 use Rattle.wire.specs.declared.Report.{Report}
-use Rattle.wire.specs.declared.Encoded.{Encoded}
-use Rattle.wire.specs.declared.Encoded.TheVariants.{NoSuchLetter, ButtonsAboveSeven, BufferTooShort}
+use Rattle.wire.specs.declared.refusal.Refusal.TheVariants.{NoSuchLetter, ButtonsAboveSeven, BufferTooShort}
 use Rattle.wire.proofs.Answers as wire
 use Rattle.wire.proofs.Refusals as wire_refusals
 use Rattle.reader.specs.State.{fresh, NewReader, Read}
@@ -57,7 +55,6 @@ use Rattle.listing.specs.declared.Lister.{Lister}
 use Rattle.listing.specs.declared.Listed.{Listed}
 use Rattle.listing.specs.declared.Scanner.{Scanner}
 use Rattle.listing.specs.declared.Item.{Item}
-use Rattle.listing.specs.declared.Given.{Given}
 use Rattle.listing.proofs.Answers as listing
 use Rattle.listing.proofs.Refusals as listing_refusals
 use Rattle.listing.proofs.Calls as calls
@@ -120,7 +117,7 @@ One {A} Permitted = (a b : A) → Permitted a → Permitted b → a ≡ b
 abbrev pub OneWith : {A S : Type 0} → (A → S → Type 0) → Type 0
 OneWith {A} {S} Permitted = (a b : A) (after behind : S) → Permitted a after → Permitted b behind → (a ≡ b) × (after ≡ behind)
 
--- `wire::known`, `size`, `marked`, `fits`, `report_of`, `encode`, `Encoded::refusal`, `Encoded::length`
+-- `wire::known`, `size`, `marked`, `fits`, `report_of`, `encode`, `number_in`, `length_in`
 pub known_one : (letter : ℕ) → One (KnownPromise letter)
 known_one letter a b = wire.one_known letter
 
@@ -213,7 +210,7 @@ feed_one m input before a b after behind = listing.one_feed m input before
 pub finish_one : (m : Lister) (before : List ℕ) → OneWith (FinishPromise m before)
 finish_one m before a b after behind = listing.one_finish m before
 
--- `Text::none`, `with`, `decimal`, `put`, `byte_to`, `bytes_to`, `decimal_to`, and `Number::read`
+-- `Text::none`, `with`, `decimal`, `put`, `byte_to`, `bytes_to`, `decimal_to`, and `number`
 pub no_text_one : One NonePromise
 no_text_one a b = text.one_none
 
@@ -310,15 +307,15 @@ put_leaves = text.put_leaves
 
 -- Which of them it is: "Tested in that order, where they apply". The encoder tests 1, 3, then 8, 9, 10 or 11, and then 5.
 pub encode_bad_letter : (letter : ℕ) (r : Report) (before after : List ℕ) (a : Encoded)
-    → named_by letter ≡ Unknown
+    → named_by letter ≡ None
     → EncodePromise letter r before a after
-    → (a ≡ NoSuchLetter) × (after ≡ before)
+    → (a ≡ Err NoSuchLetter) × (after ≡ before)
 encode_bad_letter = wire.letter_refused
 
 pub encode_bad_buttons : (f : Format) (r : Report) (before after : List ℕ) (a : Encoded)
     → 7 < r.buttons
     → EncodePromise (letter_of f) r before a after
-    → (a ≡ ButtonsAboveSeven) × (after ≡ before)
+    → (a ≡ Err ButtonsAboveSeven) × (after ≡ before)
 encode_bad_buttons = wire.buttons_refused
 
 pub encode_bad_movement : (f : Format) (r : Report) (before after : List ℕ) (a : Encoded)
@@ -332,7 +329,7 @@ pub encode_short_buffer : (f : Format) (r : Report) (before after : List ℕ) (a
     → holding.accepted f r ≡ true
     → length before < size_of f
     → EncodePromise (letter_of f) r before a after
-    → (a ≡ BufferTooShort) × (after ≡ before)
+    → (a ≡ Err BufferTooShort) × (after ≡ before)
 encode_short_buffer = wire.room_refused
 
 -- the reader tests 1 where it is new, and else 6 and then 4
@@ -476,7 +473,7 @@ pub finish_stays_good : (m : Lister) (before after : List ℕ) (a : Listed)
     → listers.good a.next ≡ true
 finish_stays_good = listing_refusals.finish_stays_good
 
--- `Scanner::byte`, `closed`, `end`, `Item::reported`, `Item::line`, `Given::line` and `salvage_opening`, which refuse
+-- `Scanner::byte`, `closed`, `end`, `Item::reported`, `Item::line`, `line_at` and `salvage_opening`, which refuse
 -- nothing: one answer
 pub byte_scan_one : (s : Scanner) (byte : ℕ) → One (lister.ByteScanPromise s byte)
 byte_scan_one s byte a b = listing.one_byte_scan s byte
@@ -493,7 +490,7 @@ reported_one letter n r a b = listing.one_reported letter n r
 pub item_line_one : (item : Item) → One (lister.ItemLinePromise item)
 item_line_one item a b = listing.one_item_line item
 
-pub given_line_one : (given : Given) (salvage : Bool) (width : ℕ) → One (lister.LinePromise given salvage width)
+pub given_line_one : (given : Option Item) (salvage : Bool) (width : ℕ) → One (lister.LinePromise given salvage width)
 given_line_one given salvage width a b = listing.one_line given salvage width
 
 pub salvage_opening_one : One lister.SalvagePromise

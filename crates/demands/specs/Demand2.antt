@@ -1,21 +1,19 @@
 -- Demand 2: "Box and reader agree with the manuals: each event moves the box as the rules say, each report has the manual's bytes, and reading them
 -- with a ready reader gives back the report, less the button Microsoft's format doesn't carry; what was read, encoded again, gives the same bytes,
 -- except a minus zero." In V "the bytes with bit 7 cleared".
-use Rattle.std.specs.Prelude.{ℕ, ◌+◌, ◌-◌, ◌*◌, ◌≤◌, ◌≡◌, true, false, List, [], ◌∷◌, ◌++◌, length, take, drop, replicate, ℤ}
+use Rattle.std.specs.Prelude.{ℕ, ◌+◌, ◌-◌, ◌*◌, ◌≤◌, ◌≡◌, true, false, List, [], ◌∷◌, ◌++◌, length, take, drop, replicate, ℤ, Ok}
 use Rattle.std.proofs.Common.{ap}
 use Rattle.wire.specs.Reading.{settled_by}
 use Rattle.wire.specs.Line.{letter_of, size_of, size_by}
 use Rattle.wire.specs.Table.{bytes_of}
 use Rattle.wire.specs.Holds.{accepted, carried_by}
 use Rattle.wire.specs.Numbers.{success}
-use Rattle.wire.specs.Encoder.{refusal_of, length_of}
+use Rattle.wire.specs.Encoder.{refusal_of, length_of, Encoded}
 use Rattle.wire.specs.Promises.{EncodePromise}
 use Rattle.frames.specs.Passages.{UnderWay, nothing, passage_words, part_words}
 use Rattle.wire.specs.Messages.{Message, message_bytes}
 use Rattle.wire.specs.declared.Report.{Report}
 use Rattle.wire.specs.declared.Format.{Format}
-use Rattle.wire.specs.declared.Encoded.{Encoded}
-use Rattle.wire.specs.declared.Encoded.TheVariants.{Written}
 use Rattle.wire.proofs.Answers.{accepted_written}
 use Rattle.reader.specs.State.{ready, kept_in, five_of, Read}
 use Rattle.reader.specs.Good as readers
@@ -68,7 +66,7 @@ pub encoded : (f : Format) (r : Report) (before after : List ℕ) (a : Encoded)
     → accepted f r ≡ true
     → size_of f ≤ length before
     → EncodePromise (letter_of f) r before a after
-    → (a ≡ Written (size_of f))
+    → (a ≡ Ok (size_of f))
     × (after ≡ bytes_of f r ++ drop (size_of f) before)
 encoded = accepted_written
 

@@ -4,10 +4,9 @@ use Rattle.std.proofs.Common.{ap, inl, inr, ⊎_elim}
 use mathlib.Core.List.{List, [], ◌∷◌, map, Memᴰ}
 use Rattle.wire.specs.Numbers.{success, bad_state, bad_letter, bad_buttons, bad_first_x, bad_first_y, bad_second_x, bad_second_y, short_buffer, bad_word}
 use Rattle.wire.specs.Numbers.{RefusesRightly, accepted, refusal}
-use Rattle.wire.specs.Encoder.{refusal_of}
+use Rattle.wire.specs.Encoder.{refusal_of, Encoded}
 use Rattle.wire.specs.Promises.{EncodePromise}
 use Rattle.wire.specs.declared.Report.{Report}
-use Rattle.wire.specs.declared.Encoded.{Encoded}
 use Rattle.reader.specs.Promises as reader
 use Rattle.reader.specs.declared.Reader.{Reader}
 use Rattle.reader.specs.State.{NewReader, Read}

@@ -1,6 +1,6 @@
 -- Answers read by name. "The host half still guesses at replies. Add a reader for them. It is told the command just
 -- sent [..] and reads exactly that reply, then hands over to the report reader."
-use Rattle.std.specs.Prelude.{ℕ, ◌+◌, ◌*◌, ◌<◌, ◌≤◌, ◌≡◌, refl, true, false, cond, List, [], ◌∷◌, ◌++◌, map, length, take, drop, ℤ}
+use Rattle.std.specs.Prelude.{ℕ, ◌+◌, ◌*◌, ◌<◌, ◌≤◌, ◌≡◌, refl, true, false, cond, List, [], ◌∷◌, ◌++◌, map, length, take, drop, ℤ, None, Some}
 use Rattle.std.proofs.Common.{◌∙◌, sym}
 use Rattle.frames.specs.Passages.{Passage, silent, finished, nothing, Unbroken, Sub}
 use Rattle.frames.specs.Words.{silence, line_words}
@@ -277,7 +277,7 @@ pub code_exactly : (s : ToldReader) (t : Telling) (w : ℕ) (h : Heard)
     → TellPromise s (Command letterf) t
     → w ≤ silence
     → StepPromise t.next w h
-    → h.reply ≡ cond (among seven_bytes w) (reply.Format (letter_of_code w)) (reply.Broken none)
+    → h.reply ≡ cond (among seven_bytes w) (Some (reply.Format (letter_of_code w))) (Some (reply.Broken none))
 code_exactly = accepted.code_exactly
 
 pub seven_formats : map letter_of_code seven_bytes ≡ seven_letters
@@ -290,8 +290,8 @@ pub letters_exactly : (s : ToldReader) (t : Telling) (f m : ℕ) (h k : Heard)
     → StepPromise t.next f h
     → m ≤ silence
     → StepPromise h.next m k
-    → (h.reply ≡ cond (among seven_letters f) reply.Nothing (reply.Broken none))
-    × (among seven_letters f ≡ true → k.reply ≡ cond (among mode_letters m) (reply.Letters f m) (reply.Broken (came 1 f 0)))
+    → (h.reply ≡ cond (among seven_letters f) None (Some (reply.Broken none)))
+    × (among seven_letters f ≡ true → k.reply ≡ cond (among mode_letters m) (Some (reply.Letters f m)) (Some (reply.Broken (came 1 f 0))))
 letters_exactly = accepted.letters_exactly
 
 -- Demand 3: "Demand 3 now also covers runs with `f` and `t` when the reader is told of each and the stretch stays clear

@@ -1,15 +1,13 @@
 -- What a figure says of a public function: whatever answer its promise permits, it is this one.
-use Rattle.std.specs.Prelude.{ℕ, ◌-◌, ◌≤◌, ◌≡◌, true, false, List, [], ◌∷◌, ◌++◌, length, drop, replicate}
+use Rattle.std.specs.Prelude.{ℕ, ◌-◌, ◌≤◌, ◌≡◌, true, false, List, [], ◌∷◌, ◌++◌, length, drop, replicate, Ok}
 use Rattle.std.proofs.Common.{sym, ◌∙◌, ap}
 use Rattle.wire.specs.Line.{letter_of}
 use Rattle.wire.specs.Table.{bytes_of}
 use Rattle.wire.specs.Holds.{unheld, holds, accepted}
-use Rattle.wire.specs.Encoder.{Encoding, refusal_of, unheld_number}
+use Rattle.wire.specs.Encoder.{Encoding, refusal_of, unheld_number, Encoded}
 use Rattle.wire.specs.Promises.{EncodePromise}
 use Rattle.wire.specs.declared.Report.{Report}
 use Rattle.wire.specs.declared.Format.{Format}
-use Rattle.wire.specs.declared.Encoded.{Encoded}
-use Rattle.wire.specs.declared.Encoded.TheVariants.{Written}
 use Rattle.wire.proofs.Answers.{accepted_written, movement_refused}
 use Rattle.wire.proofs.Codec.{bytes_length}
 use Rattle.reader.specs.State.{ready, Read}
@@ -23,7 +21,7 @@ pub record Encodes (f : Format) (r : Report) (bytes : List ℕ) : Type 0 where
   pub written : (before after : List ℕ) (a : Encoded)
       → length bytes ≤ length before
       → EncodePromise (letter_of f) r before a after
-      → (a ≡ Written (length bytes)) × (after ≡ bytes ++ drop (length bytes) before)
+      → (a ≡ Ok (length bytes)) × (after ≡ bytes ++ drop (length bytes) before)
 
 -- the encoder, into any buffer, refuses with this number and writes nothing
 pub record Refuses (f : Format) (r : Report) (number : ℕ) : Type 0 where

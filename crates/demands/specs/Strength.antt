@@ -6,10 +6,9 @@ use Rattle.frames.proofs.Sender.{given_over}
 use Rattle.wire.specs.Line.{letter_of, size_by}
 use Rattle.wire.specs.Reading.{report}
 use Rattle.wire.specs.Numbers.{success}
-use Rattle.wire.specs.Encoder.{refusal_of}
+use Rattle.wire.specs.Encoder.{refusal_of, Encoded}
 use Rattle.wire.specs.Promises.{EncodePromise}
 use Rattle.wire.specs.declared.Report.{Report}
-use Rattle.wire.specs.declared.Encoded.{Encoded}
 use Rattle.wire.specs.declared.Format.TheVariants.{Microsoft}
 use Rattle.reader.specs.Line.{Long, reading}
 use Rattle.reader.specs.Counts.{bytes_in}

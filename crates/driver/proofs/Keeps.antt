@@ -1,4 +1,5 @@
 -- Good drivers: a fresh one is good, and every call of a good one gives a good one.
+use Rattle.std.proofs.Common.{Option, Some, None, ℤ}
 use Prim.Native.Nat.{ℕ, ◌+◌, ◌≤◌, ◌<◌}
 use mathlib.Core.Path.{◌≡◌, refl}
 use mathlib.Core.Bool.{Bool, true, false, cond, ◌&&◌, ◌||◌, true≢false}
@@ -13,8 +14,6 @@ use Rattle.numbers.proofs.Choices.{cases, both}
 use Rattle.wire.specs.Line.{known}
 use Rattle.fold.proofs.Laws.{stays}
 use Rattle.text.specs.Decimals.{plain, number_in}
-use Rattle.text.specs.declared.Number.{Number}
-use Rattle.text.specs.declared.Number.TheVariants.{None, Is}
 use Rattle.text.specs.Lengths.{length_to}
 use Rattle.listing.specs.Lines.{newline, tab}
 use Rattle.listing.specs.Scanning.{most_lines}
@@ -37,15 +36,15 @@ use Rattle.driver.specs.declared.Driver.{Driver}
 abbrev Few : Order → Type 0
 Few o = owed_by o ≤ most_lines
 
-few_up_to : (bound : ℕ) (says : ℕ → Order) → ((n : ℕ) → n ≤ bound → Few (says n)) → (x : Number) → Few (up_to bound says x)
+few_up_to : (bound : ℕ) (says : ℕ → Order) → ((n : ℕ) → n ≤ bound → Few (says n)) → (x : Option ℤ) → Few (up_to bound says x)
 few_up_to bound says few None = omega arith
-few_up_to bound says few (Is (pos n)) = cases Few (leb n bound) (λ e. few n (leb-true n bound e)) (λ _. omega arith)
-few_up_to bound says few (Is (negsuc n)) = omega arith
+few_up_to bound says few (Some (pos n)) = cases Few (leb n bound) (λ e. few n (leb-true n bound e)) (λ _. omega arith)
+few_up_to bound says few (Some (negsuc n)) = omega arith
 
-few_motion : (x y : Number) → Few (motion_of x y)
+few_motion : (x y : Option ℤ) → Few (motion_of x y)
 few_motion None y = omega arith
-few_motion (Is x) None = omega arith
-few_motion (Is x) (Is y) = cases Few (outside x || outside y) (λ _. omega arith) (λ _. omega arith)
+few_motion (Some x) None = omega arith
+few_motion (Some x) (Some y) = cases Few (outside x || outside y) (λ _. omega arith) (λ _. omega arith)
 
 few_format : (bytes : List ℕ) → Few (format_in bytes)
 unfolding format_in

@@ -1,4 +1,5 @@
 -- The lister reads a recording back: each line is the word that it was written of, and one that begins with E is bad.
+use Rattle.std.proofs.Common.{Some, None}
 use Prim.Native.Nat.{ℕ, zero, suc, ◌+◌, ◌-◌, ◌≤◌, ◌<◌}
 use mathlib.Core.Path.{◌≡◌, refl, sym, ◌∙◌, ap}
 use mathlib.Core.Bool.{true, false, true≢false}
@@ -12,7 +13,6 @@ use Rattle.numbers.proofs.Choices.{cases}
 use Rattle.numbers.proofs.Tested.{left, right, refused}
 use Rattle.frames.specs.Words.{break, silence, line_words}
 use Rattle.text.specs.Decimals.{plain, is_digit, all_digits, digits_of, size_in, places_of, decimal_of, readable, plus_in, number_in}
-use Rattle.text.specs.declared.Number.TheVariants.{None, Is}
 use Rattle.text.proofs.Digits.{all_digits_lem, written_read}
 use Rattle.wire.specs.Line.{named_by, known}
 use Rattle.wire.specs.declared.Report.{Report}
@@ -89,8 +89,8 @@ byte_found : (w n : ℕ) → w ≤ 255 → 1 ≤ n → n < most_lines → line_i
 unfolding said_by line_in
 byte_found w n h some few = go (decimal_of plain (pos w)) (written_read plain (pos w) (omega arith))
   where
-    go : (ds : List ℕ) → number_in plain ds ≡ Is (pos w) → line_in width n (said_by (0x42 ∷ tab ∷ ds)) ≡ found.Word (n + 1) w
-    go [] e = let z : None ≡ Is (pos w) = sym no_digits ∙ e in cc
+    go : (ds : List ℕ) → number_in plain ds ≡ Some (pos w) → line_in width n (said_by (0x42 ∷ tab ∷ ds)) ≡ found.Word (n + 1) w
+    go [] e = let z : None ≡ Some (pos w) = sym no_digits ∙ e in cc
     go (c ∷ cs) e = rw (lt-leb most_lines n few, e, le-leb w 255 h, ne_eqb n 0 (λ z. omega arith))
 
 word_found : (w n : ℕ) → w ≤ silence → 1 ≤ n → n < most_lines → line_in width n (said_by (word_bytes w)) ≡ found.Word (n + 1) w

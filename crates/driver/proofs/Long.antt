@@ -1,4 +1,5 @@
 -- A line of events of more than fifteen bytes is bad.
+use Rattle.std.proofs.Common.{Option, Some, None}
 use Prim.Native.Nat.{ℕ, suc, ◌+◌, ◌^◌, ◌<◌, ◌≤◌}
 use mathlib.Core.Path.{◌≡◌, refl, ap}
 use mathlib.Core.Bool.{false, ◌||◌}
@@ -10,8 +11,6 @@ use lib.ListN.{length, take, drop, length-take, length-drop}
 use borrow.Author.Tests.{leb-true, ltb-false}
 use Rattle.numbers.proofs.Choices.{cases, neither}
 use Rattle.text.specs.Decimals.{plain, number_in}
-use Rattle.text.specs.declared.Number.{Number}
-use Rattle.text.specs.declared.Number.TheVariants.{None, Is}
 use Rattle.text.proofs.Digits.{decimal_few, read_written}
 use Rattle.text.specs.Lengths.{length_to}
 use Rattle.listing.specs.Lines.{tab}
@@ -25,17 +24,17 @@ abbrev IsBad : Order → Type 0
 IsBad o = o ≡ order.Bad
 
 -- a number of few digits has few bytes
-few_bytes : (ds : List ℕ) (p : ℕ) (x : ℤ) → number_in plain ds ≡ Is x → nat_abs x < 10 ^ suc p → length ds ≤ suc (suc p)
+few_bytes : (ds : List ℕ) (p : ℕ) (x : ℤ) → number_in plain ds ≡ Some x → nat_abs x < 10 ^ suc p → length ds ≤ suc (suc p)
 few_bytes ds p x e h = omega (arith, decimal_few plain p x (omega arith) h, ap length (read_written plain ds x e))
 
 -- a number up to a bound
 long_number : (bound p : ℕ) (says : ℕ → Order) (ds : List ℕ) → bound < 10 ^ suc p → suc (suc p) < length ds → IsBad (up_to bound says (number_in plain ds))
 long_number bound p says ds b h = go (number_in plain ds) refl
   where
-    go : (n : Number) → number_in plain ds ≡ n → IsBad (up_to bound says n)
+    go : (n : Option ℤ) → number_in plain ds ≡ n → IsBad (up_to bound says n)
     go None e = refl
-    go (Is (pos n)) e = cases IsBad (leb n bound) (λ k. absurd (omega (arith, few_bytes ds p (pos n) e (omega (arith, leb-true n bound k))))) (λ _. refl)
-    go (Is (negsuc n)) e = refl
+    go (Some (pos n)) e = cases IsBad (leb n bound) (λ k. absurd (omega (arith, few_bytes ds p (pos n) e (omega (arith, leb-true n bound k))))) (λ _. refl)
+    go (Some (negsuc n)) e = refl
 
 -- a movement of 16 bits
 within : (x : ℤ) → outside x ≡ false → nat_abs x ≤ 32768
@@ -49,10 +48,10 @@ long_motion bytes h = go (number_in plain (take n bytes)) refl (number_in plain 
     n : ℕ
     n = length_to tab bytes
 
-    go : (x : Number) → number_in plain (take n bytes) ≡ x → (y : Number) → number_in plain (drop (n + 1) bytes) ≡ y → IsBad (motion_of x y)
+    go : (x : Option ℤ) → number_in plain (take n bytes) ≡ x → (y : Option ℤ) → number_in plain (drop (n + 1) bytes) ≡ y → IsBad (motion_of x y)
     go None ex y ey = refl
-    go (Is x) ex None ey = refl
-    go (Is x) ex (Is y) ey =
+    go (Some x) ex None ey = refl
+    go (Some x) ex (Some y) ey =
         cases IsBad (outside x || outside y) (λ _. refl)
         (λ k.
         let each = neither (outside x) (outside y) k in

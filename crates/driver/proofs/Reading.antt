@@ -1,4 +1,5 @@
 -- Numbers up to a bound, movements, and what a line says by its length.
+use Rattle.std.proofs.Common.{Option, Some, None}
 use mathlib.Core.Path.{◌≡◌, refl}
 use mathlib.Core.Bool.{true, false, cond, ◌||◌, true≢false}
 use mathlib.Core.List.{List, [], ◌∷◌}
@@ -13,8 +14,6 @@ use borrow.Author.Tests.{ltb-true, ltb-false, le-leb, lt-leb}
 use Rattle.numbers.proofs.Choices.{or_else, neither}
 use Rattle.wire.specs.Line.{known}
 use Rattle.text.specs.Decimals.{plain, readable, plus_in, places_of, size_in, number_in}
-use Rattle.text.specs.declared.Number.{Number}
-use Rattle.text.specs.declared.Number.TheVariants.{None, Is}
 use Rattle.text.specs.Lengths.{length_to}
 use Rattle.listing.specs.Lines.{tab}
 use Rattle.driver.specs.Lines.{alone_in, format_in, up_to, motion_of, motion_in, with_fields, said_by}
@@ -23,12 +22,12 @@ use Rattle.driver.specs.declared.Order.TheVariants as order
 
 -- a number that is outside, and one that is not
 module _ (bound : ℕ) (says : ℕ → Order) where
-  pub not_up_to : (x : ℤ) → lt_z x (pos 0) || lt_z (pos bound) x ≡ true → order.Bad ≡ up_to bound says (Is x)
+  pub not_up_to : (x : ℤ) → lt_z x (pos 0) || lt_z (pos bound) x ≡ true → order.Bad ≡ up_to bound says (Some x)
   not_up_to (pos n) h =
       or_else (lt_z (pos n) (pos 0)) (lt_z (pos bound) (pos n)) (λ e. absurd (not-suc-le-zero (ltb-true n 0 e))) (λ e. rw (lt-leb n bound (ltb-true bound n e))) h
   not_up_to (negsuc n) h = refl
 
-  pub is_up_to : (x : ℤ) → lt_z x (pos 0) || lt_z (pos bound) x ≡ false → (x ≡ pos (nat_abs x)) × (nat_abs x ≤ bound) × (says (nat_abs x) ≡ up_to bound says (Is x))
+  pub is_up_to : (x : ℤ) → lt_z x (pos 0) || lt_z (pos bound) x ≡ false → (x ≡ pos (nat_abs x)) × (nat_abs x ≤ bound) × (says (nat_abs x) ≡ up_to bound says (Some x))
   is_up_to (pos n) h =
       let few = ltb-false bound n (neither (lt_z (pos n) (pos 0)) (lt_z (pos bound) (pos n)) h).1 in (refl, few, rw (le-leb n bound few))
   is_up_to (negsuc n) h = absurd (true≢false (neither true (lt_z (pos bound) (negsuc n)) h).0)
@@ -38,16 +37,16 @@ no_number : number_in plain [] ≡ None
 unfolding number_in plus_in readable places_of size_in
 no_number = refl
 
-no_second : (x : Number) → order.Bad ≡ motion_of x None
+no_second : (x : Option ℤ) → order.Bad ≡ motion_of x None
 no_second None = refl
-no_second (Is x) = refl
+no_second (Some x) = refl
 
 pub one_field : (bytes : List ℕ) (n : ℕ) → n ≡ length_to tab bytes → length bytes ≤ n → order.Bad ≡ motion_in bytes
 unfolding motion_in
 one_field bytes n is h =
     rw (← is, drop_of_length-le bytes {i = n + 1} (omega arith), no_number) (no_second (number_in plain (take n bytes)))
 
-pub two_fields : (bytes : List ℕ) (n : ℕ) (x y : Number) (r : Order) → n ≡ length_to tab bytes → x ≡ number_in plain (take n bytes) → y ≡ number_in plain (drop (n + 1) bytes)
+pub two_fields : (bytes : List ℕ) (n : ℕ) (x y : Option ℤ) (r : Order) → n ≡ length_to tab bytes → x ≡ number_in plain (take n bytes) → y ≡ number_in plain (drop (n + 1) bytes)
     → r ≡ motion_of x y → r ≡ motion_in bytes
 unfolding motion_in
 two_fields bytes n x y r is ex ey e = rw (← is, ← ex, ← ey) e

@@ -4,7 +4,7 @@ ghost use Rattle.driver.specs.Lines.{alone_in, format_in, buttons_in, host_in, s
 
 use crate::{MOST_LINES, Order};
 use ballbox::Event;
-use text::{Number, PLAIN};
+use text::{PLAIN, number};
 
 // The ends of a movement.
 const LEAST: i64 = -32_768;
@@ -39,10 +39,9 @@ fn format(bytes: &[u8]) -> Order
 fn buttons(bytes: &[u8]) -> Order
     ensures { result ≡ buttons_in bytes.now }
 {
-    let number = Number::read(bytes, PLAIN);
-    match number {
-        Number::None => Order::Bad,
-        Number::Is(x) => if (x < 0) | (255 < x) {
+    match number(bytes, PLAIN) {
+        None => Order::Bad,
+        Some(x) => if (x < 0) | (255 < x) {
             Order::Bad
         } else {
             Order::Single(Event::Buttons(x as u8))
@@ -53,10 +52,9 @@ fn buttons(bytes: &[u8]) -> Order
 fn host(bytes: &[u8]) -> Order
     ensures { result ≡ host_in bytes.now }
 {
-    let number = Number::read(bytes, PLAIN);
-    match number {
-        Number::None => Order::Bad,
-        Number::Is(x) => if (x < 0) | (255 < x) {
+    match number(bytes, PLAIN) {
+        None => Order::Bad,
+        Some(x) => if (x < 0) | (255 < x) {
             Order::Bad
         } else {
             Order::Single(Event::Host(x as u8))
@@ -67,10 +65,9 @@ fn host(bytes: &[u8]) -> Order
 fn slots(bytes: &[u8]) -> Order
     ensures { result ≡ slots_in bytes.now }
 {
-    let number = Number::read(bytes, PLAIN);
-    match number {
-        Number::None => Order::Bad,
-        Number::Is(x) => if (x < 0) | ((MOST_LINES as i64) < x) {
+    match number(bytes, PLAIN) {
+        None => Order::Bad,
+        Some(x) => if (x < 0) | ((MOST_LINES as i64) < x) {
             Order::Bad
         } else {
             Order::Slots(x as u32)
@@ -79,14 +76,14 @@ fn slots(bytes: &[u8]) -> Order
 }
 
 // Two numbers of 16 bits.
-fn motion_of(x: Number, y: Number) -> Order
+fn motion_of(x: Option<i64>, y: Option<i64>) -> Order
     ensures { result ≡ motion_of x y }
 {
     match x {
-        Number::None => Order::Bad,
-        Number::Is(dx) => match y {
-            Number::None => Order::Bad,
-            Number::Is(dy) => if (dx < LEAST) | (MOST < dx) | ((dy < LEAST) | (MOST < dy)) {
+        None => Order::Bad,
+        Some(dx) => match y {
+            None => Order::Bad,
+            Some(dy) => if (dx < LEAST) | (MOST < dx) | ((dy < LEAST) | (MOST < dy)) {
                 Order::Bad
             } else {
                 Order::Single(Event::Motion(dx as i16, dy as i16))
@@ -105,8 +102,8 @@ fn motion(bytes: &[u8]) -> Order
     }
     let start = n + 1;
     motion_of(
-        Number::read(&bytes[0..n], PLAIN),
-        Number::read(&bytes[start..], PLAIN),
+        number(&bytes[0..n], PLAIN),
+        number(&bytes[start..], PLAIN),
     )
 }
 

@@ -80,13 +80,18 @@ fn answer(output: Stdout, a: PuckAnswer) {
 
 // The reader after a word.
 fn heard(output: Stdout, r: PuckReader, word: u16) -> PuckReader {
-    let read = r.step(word);
-    let told = read.answer;
     print::say(output, b", ");
     print::word(output, word);
-    refusal(output, read.refusal);
-    answer(output, told);
-    read.next
+    match r.step(word) {
+        Ok(read) => {
+            answer(output, read.answer);
+            read.next
+        }
+        Err(refused) => {
+            refusal(output, refused.number());
+            r
+        }
+    }
 }
 
 // A fresh reader's answers to words, one after the other.

@@ -126,7 +126,7 @@ pub(crate) fn encoded(letter: u8, report: Report) -> Coded
     let answer = wire::encode(letter, report, &mut bytes);
     Coded {
         bytes: bytes,
-        length: answer.length(),
+        length: wire::length_in(answer),
     }
 }
 

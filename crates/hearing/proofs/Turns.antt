@@ -1,12 +1,10 @@
 -- What a byte or a wait tells, and what a turn hands out of it.
-use Rattle.std.proofs.Common.{◌≡◌, ℕ, ◌*◌, ◌<◌, ◌≤◌, Bool, true, false, List, [], ◌∷◌, ◌++◌, length, take, sym, refl, ap, ◌∙◌, arith, subst, Result, Ok, Err, is_ok, true≢false}
+use Rattle.std.proofs.Common.{◌≡◌, ℕ, ◌*◌, ◌<◌, ◌≤◌, Bool, true, false, List, [], ◌∷◌, ◌++◌, length, take, sym, refl, ap, ◌∙◌, arith, subst, Result, Ok, Err, is_ok, true≢false, Option, None, Some}
 use lib.Seq.{take-length}
 use Rattle.std.specs.Result.{IsErr}
 use Rattle.port.specs.Line.{words_in}
 use Rattle.port.specs.Sessions.{step_of, words_over}
 use Rattle.port.specs.declared.Heard.{Heard}
-use Rattle.port.specs.declared.Given.{Given}
-use Rattle.port.specs.declared.Given.TheVariants.{Nothing, Word}
 use Rattle.shell.specs.Outside.{Trace, wait, heard_in, Hears, Handed, Said}
 use Rattle.shell.specs.Standing.{Program, Stands, Failed}
 use Rattle.shell.specs.declared.Failure.{Failure}
@@ -43,29 +41,29 @@ broke p t rest told (Err e) i f = f
 
 -- the words of what is heard are those of the first, and then the others
 module _ {T : Type 0} (text told : T → List ℕ → List ℕ) (most : ℕ) (s : Session T) (heard : Heard) (h : ℕ) (is : heard ≡ step_of s.port (event_of h)) (before : List ℕ) (at : ℕ) where
-  begin : (g : Given) → heard.given ≡ g → (q : List ℕ) → words_over s.port (events_of (h ∷ q)) ≡ words_in g ++ words_over heard.next (events_of q)
+  begin : (g : Option ℕ) → heard.given ≡ g → (q : List ℕ) → words_over s.port (events_of (h ∷ q)) ≡ words_in g ++ words_over heard.next (events_of q)
   unfolding words_over
-  begin g e q = ap (λ (s : Heard). words_in s.given ++ words_over s.next (events_of q)) (sym is) ∙ ap (λ (x : Given). words_in x ++ words_over heard.next (events_of q)) e
+  begin g e q = ap (λ (s : Heard). words_in s.given ++ words_over s.next (events_of q)) (sym is) ∙ ap (λ (x : Option ℕ). words_in x ++ words_over heard.next (events_of q)) e
 
-  pub nothing : heard.given ≡ Nothing → Step (over text) (over told) most s h before at (record { port = heard.next; teller = s.teller }) before at
+  pub nothing : heard.given ≡ None → Step (over text) (over told) most s h before at (record { port = heard.next; teller = s.teller }) before at
   nothing e =
       record {
         text = [];
         so = refl;
         few = omega arith;
-        goes = λ q. ap (text s.teller) (begin Nothing e q);
-        says = λ q. ap (told s.teller) (begin Nothing e q);
+        goes = λ q. ap (text s.teller) (begin None e q);
+        says = λ q. ap (told s.teller) (begin None e q);
       }
 
-  pub word : (w behind : ℕ) (next : T) (after : List ℕ) → heard.given ≡ Word w → Step text told most s.teller w before at next after behind
+  pub word : (w behind : ℕ) (next : T) (after : List ℕ) → heard.given ≡ Some w → Step text told most s.teller w before at next after behind
       → Step (over text) (over told) most s h before at (record { port = heard.next; teller = next }) after behind
   word w behind next after e k =
       record {
         text = k.text;
         so = k.so;
         few = k.few;
-        goes = λ q. ap (text s.teller) (begin (Word w) e q) ∙ k.goes (words_over heard.next (events_of q));
-        says = λ q. ap (told s.teller) (begin (Word w) e q) ∙ k.says (words_over heard.next (events_of q));
+        goes = λ q. ap (text s.teller) (begin (Some w) e q) ∙ k.goes (words_over heard.next (events_of q));
+        says = λ q. ap (told s.teller) (begin (Some w) e q) ∙ k.says (words_over heard.next (events_of q));
       }
 
 module _ {M : Type 0} (rest told : M → List ℕ → List ℕ) (most : ℕ) (m : M) where

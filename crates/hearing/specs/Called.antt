@@ -3,7 +3,6 @@ use Rattle.std.specs.Prelude.{ℕ, cond, List, [], ◌∷◌, ℤ, pos, nat_abs,
 use Rattle.std.specs.Int.Signed.{lt_z}
 use Rattle.wire.specs.Line.{known}
 use Rattle.text.specs.Decimals.{plain, number_in}
-use Rattle.text.specs.declared.Number.{Number}
 use Rattle.text.specs.declared.Number.TheVariants as number
 
 -- a letter of the table, alone
@@ -16,7 +15,7 @@ letter_in (l ∷ more ∷ word) = None
 abbrev pub small_in : ℤ → Option ℕ
 small_in x = cond (lt_z x (pos 1)) None (cond (lt_z (pos 255) x) None (Some (nat_abs x)))
 
-abbrev pub small_of : Number → Option ℕ
+abbrev pub small_of : Option ℤ → Option ℕ
 small_of number.None = None
 small_of (number.Is x) = small_in x
 

@@ -7,7 +7,7 @@ ghost use Rattle.hearing.specs.Called.{letter_in, small_in, tenths_in};
 ghost use Rattle.hearing.specs.Clock.{turned_of};
 
 pub use session::{Names, Session, Teller};
-use text::Number;
+use text::number;
 
 mod session;
 
@@ -38,9 +38,9 @@ fn small(x: i64) -> Option<u8>
 pub fn tenths_in(word: &[u8]) -> Option<u8>
     ensures { result ≡ tenths_in word.now }
 {
-    match Number::read(word, 1) {
-        Number::None => None,
-        Number::Is(x) => small(x),
+    match number(word, 1) {
+        None => None,
+        Some(x) => small(x),
     }
 }
 

@@ -7,7 +7,7 @@ ghost use Rattle.hearing.specs.Steps.{Step, Far};
 ghost use Rattle.hearing.specs.Turns.{over, Goes};
 
 use crate::Clock;
-use port::{Given, Heard, Port};
+use port::{Heard, Port};
 use shell::{Failure, System};
 
 // More turns than a run has: each takes a tenth of a second or brings a byte.
@@ -55,8 +55,8 @@ impl<T: Teller> Session<T> {
     {
         self.port = heard.next;
         match heard.given {
-            Given::Nothing => at,
-            Given::Word(word) => self.teller.word(word, out, at),
+            None => at,
+            Some(word) => self.teller.word(word, out, at),
         }
     }
 

@@ -2,7 +2,7 @@
 ghost use Rattle.istrolf.specs.Promises.{EncodePromise};
 
 use crate::Encoding;
-use wire::Report;
+use wire::{length_in, number_in, Report};
 
 // The bytes of a report, to the front of a buffer.
 pub fn istrolf_encode(letter: u8, report: Report, buffer: &mut [u8]) -> Encoding
@@ -10,7 +10,7 @@ pub fn istrolf_encode(letter: u8, report: Report, buffer: &mut [u8]) -> Encoding
 {
     let encoded = wire::encode(letter, report, buffer);
     Encoding {
-        refusal: encoded.refusal(),
-        length: encoded.length(),
+        refusal: number_in(&encoded),
+        length: length_in(encoded),
     }
 }

@@ -1,4 +1,5 @@
 -- Numbers that are bytes, and what the first n of five bytes say, by n.
+use Rattle.std.proofs.Common.{Some}
 use mathlib.Core.Path.{◌≡◌, refl}
 use mathlib.Core.Bool.{true, false, ◌&&◌, ◌||◌, true≢false}
 use mathlib.Core.List.{List, [], ◌∷◌}
@@ -10,18 +11,17 @@ use lib.Signed.{lt_z}
 use lib.ListN.{take}
 use borrow.Author.Tests.{ltb-true, ltb-false, le-leb, lt-leb}
 use Rattle.numbers.proofs.Choices.{or_else, neither}
-use Rattle.text.specs.declared.Number.TheVariants.{Is}
 use lib.Dec.{eqb}
 use Rattle.listing.specs.Lines.{byte_of, byte_in, mark_in, format_in, said_by}
 use Rattle.listing.specs.declared.Line.TheVariants as line
 
 -- a number that is none, and one that is
-pub no_byte : (x : ℤ) → lt_z x (pos 0) || lt_z (pos 255) x ≡ true → line.Bad ≡ byte_of (Is x)
+pub no_byte : (x : ℤ) → lt_z x (pos 0) || lt_z (pos 255) x ≡ true → line.Bad ≡ byte_of (Some x)
 no_byte (pos n) h =
     or_else (lt_z (pos n) (pos 0)) (lt_z (pos 255) (pos n)) (λ e. absurd (not-suc-le-zero (ltb-true n 0 e))) (λ e. rw (lt-leb n 255 (ltb-true 255 n e))) h
 no_byte (negsuc n) h = refl
 
-pub a_byte : (x : ℤ) → lt_z x (pos 0) || lt_z (pos 255) x ≡ false → (x ≡ pos (nat_abs x)) × (nat_abs x ≤ 255) × (line.Word (nat_abs x) ≡ byte_of (Is x))
+pub a_byte : (x : ℤ) → lt_z x (pos 0) || lt_z (pos 255) x ≡ false → (x ≡ pos (nat_abs x)) × (nat_abs x ≤ 255) × (line.Word (nat_abs x) ≡ byte_of (Some x))
 a_byte (pos n) h =
     let few = ltb-false 255 n (neither (lt_z (pos n) (pos 0)) (lt_z (pos 255) (pos n)) h).1 in (refl, few, rw (le-leb n 255 few))
 a_byte (negsuc n) h = absurd (true≢false (neither true (lt_z (pos 255) (negsuc n)) h).0)

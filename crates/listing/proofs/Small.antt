@@ -19,8 +19,7 @@ use Rattle.frames.specs.Words.{is_byte, break, silence}
 use Rattle.wire.specs.Line.{named_by, of_named}
 use Rattle.wire.specs.Reading.{report, read_s, read_v, read_a, read_b, read_u, read_t, read_w, twelve, pair, at, report_of, report_by}
 use Rattle.wire.specs.declared.Report.{Report}
-use Rattle.wire.specs.declared.Named.{Named}
-use Rattle.wire.specs.declared.Named.TheVariants.{Known, Unknown}
+use Rattle.std.proofs.Common.{Option, Some, None}
 use Rattle.wire.specs.declared.Format.{Format}
 use Rattle.wire.specs.declared.Format.TheVariants.{Mm, Microsoft, Absolute, Relative, FiveByte, ThreeByte, Hexadecimal}
 use Rattle.reader.specs.Good.{good}
@@ -114,9 +113,9 @@ pub small_report : (letter : ℕ) (bs : List ℕ) → Small (answer.Report (repo
 unfolding report_by
 small_report letter bs = go (named_by letter)
   where
-    go : (n : Named) → Small (answer.Report (of_named (report 0 (pos 0) (pos 0)) (λ f. report_of f bs) n))
-    go (Known f) = near_small (report_of f bs) (near_report f bs)
-    go Unknown = (omega arith, omega arith)
+    go : (n : Option Format) → Small (answer.Report (of_named (report 0 (pos 0) (pos 0)) (λ f. report_of f bs) n))
+    go (Some f) = near_small (report_of f bs) (near_report f bs)
+    go None = (omega arith, omega arith)
 
 module _ (r : Reader) (few : r.count < 5) where
   abbrev P : Read → Type 0

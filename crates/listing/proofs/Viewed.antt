@@ -1,4 +1,5 @@
 -- What is found on a line: a letter of the table, on the first; a word of a line; a bad line within the width; or a line too many. And what a byte does to a scanner.
+use Rattle.std.proofs.Common.{Option, Some, None, ℤ}
 use Prim.Native.Nat.{ℕ, ◌+◌, ◌<◌, ◌≤◌, ◌^◌}
 use mathlib.Core.Path.{◌≡◌, refl}
 use mathlib.Core.Bool.{true, ◌&&◌}
@@ -11,8 +12,6 @@ use Rattle.numbers.proofs.Choices.{cases}
 use Rattle.frames.specs.Words.{silence}
 use Rattle.wire.specs.Line.{known}
 use Rattle.text.specs.Decimals.{plain, number_in}
-use Rattle.text.specs.declared.Number.{Number}
-use Rattle.text.specs.declared.Number.TheVariants.{None, Is}
 use Rattle.listing.specs.Lines.{newline, tab, byte_of, mark_in, format_in, said_by}
 use Rattle.listing.specs.Scanning.{width, most_lines, on_line, line_in, unfinished, passing, taken_of, scanned_byte}
 use Rattle.listing.specs.declared.Line.{Line}
@@ -29,10 +28,10 @@ Proper line.Bad = Unit {0}
 Proper (line.Format f) = known f ≡ true
 Proper (line.Word w) = w ≤ silence
 
-number_proper : (n : Number) → Proper (byte_of n)
+number_proper : (n : Option ℤ) → Proper (byte_of n)
 number_proper None = tt
-number_proper (Is (pos n)) = cases Proper (leb n 255) (λ e. omega (arith, leb-true n 255 e)) (λ _. tt)
-number_proper (Is (negsuc n)) = tt
+number_proper (Some (pos n)) = cases Proper (leb n 255) (λ e. omega (arith, leb-true n 255 e)) (λ _. tt)
+number_proper (Some (negsuc n)) = tt
 
 format_proper : (c : ℕ) (cs : List ℕ) → Proper (format_in c cs)
 unfolding format_in

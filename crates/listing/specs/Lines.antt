@@ -1,11 +1,9 @@
 -- The lines of an input, and what each says.
-use Rattle.std.specs.Prelude.{ℕ, ◌+◌, ◌<◌, ◌≡◌, cond, ◌&&◌, List, [], ◌∷◌, leb, eqb, pos, negsuc, get_or, take}
+use Rattle.std.specs.Prelude.{ℕ, ◌+◌, ◌<◌, ◌≡◌, cond, ◌&&◌, List, [], ◌∷◌, leb, eqb, pos, negsuc, get_or, take, Option, Some, None, ℤ}
 use Rattle.frames.specs.Words.{break, silence}
 use Rattle.wire.specs.Line.{known}
 use Rattle.text.specs.Decimals.{plain, number_in}
 use Rattle.text.specs.Lengths.{length_to}
-use Rattle.text.specs.declared.Number.{Number}
-use Rattle.text.specs.declared.Number.TheVariants.{None, Is}
 use Rattle.listing.specs.declared.Line.{Line}
 use Rattle.listing.specs.declared.Line.TheVariants as line
 use Rattle.listing.specs.declared.Told.{Told}
@@ -31,10 +29,10 @@ abbrev pub length_in : List ℕ → ℕ
 length_in = length_to newline
 
 -- "`B` decimal byte"; "Decimals have no leading zeros"
-abbrev pub byte_of : Number → Line
+abbrev pub byte_of : Option ℤ → Line
 byte_of None = line.Bad
-byte_of (Is (pos n)) = cond (leb n 255) (line.Word n) line.Bad
-byte_of (Is (negsuc n)) = line.Bad
+byte_of (Some (pos n)) = cond (leb n 255) (line.Word n) line.Bad
+byte_of (Some (negsuc n)) = line.Bad
 
 abbrev pub byte_in : List ℕ → Line
 byte_in ds = byte_of (number_in plain ds)

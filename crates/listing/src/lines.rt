@@ -4,7 +4,7 @@ ghost use Rattle.listing.specs.Lines.{tab, byte_of, byte_in, mark_in, format_in,
 ghost use Rattle.listing.specs.Batches.{LineAt};
 
 use crate::{Line, Told};
-use text::Number;
+use text::number;
 use wire::{BREAK, SILENCE};
 
 // A line of one byte.
@@ -29,12 +29,12 @@ fn format(c: u8) -> Line
 }
 
 // A number that is a byte.
-fn byte(number: Number) -> Line
+fn byte(number: Option<i64>) -> Line
     ensures { result ≡ byte_of number }
 {
     match number {
-        Number::None => Line::Bad,
-        Number::Is(x) => if (x < 0) | (255 < x) {
+        None => Line::Bad,
+        Some(x) => if (x < 0) | (255 < x) {
             Line::Bad
         } else {
             Line::Word(x as u16)
@@ -48,9 +48,9 @@ fn decimal(n: usize, c: u8, d: u8, e: u8) -> Line
 {
     let digits = [c, d, e];
     if n < 3 {
-        return byte(Number::read(&digits[..n], 1));
+        return byte(number(&digits[..n], 1));
     }
-    byte(Number::read(&digits, 1))
+    byte(number(&digits, 1))
 }
 
 // The line that the first n of five bytes are.

@@ -81,8 +81,7 @@ fn word(out: &mut [u8], at: usize, bridge: Bridge, n: u32, w: u16) -> Put
 fn format(out: &mut [u8], at: usize, bridge: Bridge, letter: u8) -> Put
     ensures { Puts bridge (Found.Format letter) out.old at result out.new }
 {
-    let new = Bridge::fresh(letter);
-    let next = new.bridge;
+    let next = Bridge::fresh(letter).unwrap_or_default();
     let end = Text::bytes_to(out, at, b"F\tV\n");
     Put {
         next: next,
@@ -286,8 +285,7 @@ fn whole(streams: Streams, turn: &mut u64, input: &mut [u8], out: &mut [u8]) -> 
 {
     let lister = Lister::fresh();
     let scanner = lister.scanner;
-    let new = Bridge::fresh(b'U');
-    let bridge = new.bridge;
+    let bridge = Bridge::fresh(b'U').unwrap_or_default();
     let mut went = Went {
         scanner: scanner,
         bridge: bridge,

@@ -1,4 +1,5 @@
 -- The table of a piece of a listing in front of more: the rows of its items, and then what is written of the rest.
+use Rattle.std.proofs.Common.{Option, None, Some}
 use Prim.Native.Nat.{ℕ, ◌*◌, ◌≤◌}
 use mathlib.Core.Path.{◌≡◌, refl, sym, ◌∙◌, ap}
 use mathlib.Core.Bool.{Bool, true, false, not, ◌&&◌}
@@ -15,8 +16,6 @@ use Rattle.fold.proofs.Laws.{over_taken}
 use Rattle.wire.specs.Numbers.{success}
 use Rattle.listing.specs.Items.{items_in}
 use Rattle.listing.specs.declared.Item.{Item}
-use Rattle.listing.specs.declared.Given.{Given}
-use Rattle.listing.specs.declared.Given.TheVariants.{Nothing, One}
 use Rattle.readback.specs.Items.{all_numbers, item_in}
 use Rattle.readback.specs.Steps.{fresh, step_of, good, said, above, has_ended, of_salvage}
 use Rattle.readback.specs.Pieces.{cut_in, body_of, is_whole, reads, read_lines, lines_of, items_among, faulty_line}
@@ -42,11 +41,11 @@ use Rattle.mtable.proofs.Lines.{rows_append}
 still : (r : Readback) (line : List ℕ) → (r.lines ≡ 0 → ⊥) → of_salvage (step_of r line).next ≡ of_salvage r
 still r line n = go (has_ended r) refl
   where
-    item : (g : Given) → of_salvage (said r g).next ≡ of_salvage r
-    item Nothing = refl
-    item (One i) = up (above r.last i) refl
+    item : (g : Option Item) → of_salvage (said r g).next ≡ of_salvage r
+    item None = refl
+    item (Some i) = up (above r.last i) refl
       where
-        up : (t : Bool) → above r.last i ≡ t → of_salvage (said r (One i)).next ≡ of_salvage r
+        up : (t : Bool) → above r.last i ≡ t → of_salvage (said r (Some i)).next ≡ of_salvage r
         up true k = rw k
         up false k = rw k
 
@@ -74,9 +73,9 @@ twice false = refl
 pub few_five : (r : Readback) (l : List ℕ) → good r ≡ true → places reads r l ≤ 5
 few_five r l g = go (step_of r (body_of l)).given
   where
-    go : (g : Given) → length (all_numbers (items_in g)) ≤ 5
-    go Nothing = omega arith
-    go (One i) = omega (arith, five_in (One i))
+    go : (g : Option Item) → length (all_numbers (items_in g)) ≤ 5
+    go None = omega arith
+    go (Some i) = omega (arith, five_in (Some i))
 
 small_append : (a b : List Item) → AllSmall a → AllSmall b → AllSmall (a ++ b)
 small_append [] b h k = k
@@ -84,7 +83,7 @@ small_append (i ∷ a) b h k = (h.0, small_append a b h.1 k)
 
 -- A PIECE AND MORE: the row of a salvage that begins in it, the rows of its items, and what is written of the rest
 module _ (r : Readback) (piece : List ℕ) (out after : List ℤ) (a : Back) (g : good r ≡ true) (p : ReadPromise r piece out a after) where
-  abbrev f : Ran Readback Given
+  abbrev f : Ran Readback (Option Item)
   f = run reads r (lines_of piece) (length out)
 
   abbrev pub items : List Item
@@ -105,9 +104,9 @@ module _ (r : Readback) (piece : List ℕ) (out after : List ℤ) (a : Back) (g 
         are = calls.call_numbers r piece out after a g p;
       }
     where
-      small_given : (h : Given) → SmallGiven h → AllSmall (items_in h)
-      small_given Nothing s = tt
-      small_given (One i) s = (s, tt)
+      small_given : (h : Option Item) → SmallGiven h → AllSmall (items_in h)
+      small_given None s = tt
+      small_given (Some i) s = (s, tt)
 
   pub goes : (q : List ℕ) → rest r piece q ≡ text ++ rest a.next (drop a.taken piece) q
   goes q =
@@ -131,7 +130,7 @@ module _ (r : Readback) (piece : List ℕ) (out after : List ℤ) (a : Back) (g 
           let nothing : rows_of items ≡ [] = ap rows_of (empty f.answers (omega (arith, z, more))) in
           simp (r_none, n_none, nothing)
         where
-          empty : (gs : List Given) → length gs ≡ 0 → items_among gs ≡ []
+          empty : (gs : List (Option Item)) → length gs ≡ 0 → items_among gs ≡ []
           empty [] e = refl
           empty (g ∷ gs) e = absurd (omega arith)
 

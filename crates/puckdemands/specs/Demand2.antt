@@ -1,15 +1,14 @@
 -- Demand 2 of the device and its reader: "Box and reader agree with the manuals: each event moves the box as the rules
 -- say, each report has the manual's bytes, and reading them with a ready reader gives back the report [..]; what was
 -- read, encoded again, gives the same bytes, except a minus zero."
-use Rattle.std.specs.Prelude.{ℕ, ◌+◌, ◌-◌, ◌≤◌, ◌%◌, ◌≡◌, true, false, List, [], ◌∷◌, ◌++◌, length, drop, replicate, eqb, ℤ}
+use Rattle.std.specs.Prelude.{ℕ, ◌+◌, ◌-◌, ◌≤◌, ◌%◌, ◌≡◌, true, false, List, [], ◌∷◌, ◌++◌, length, drop, replicate, eqb, ℤ, Ok}
 use Rattle.frames.specs.Passages.{UnderWay, passage_words, part_words}
 use Rattle.wire.specs.Line.{letter_of}
 use Rattle.wire.specs.Numbers.{success}
 use Rattle.wire.specs.Reading.{settled}
 use Rattle.wire.specs.Promises.{EncodePromise}
 use Rattle.wire.specs.declared.Report.{Report}
-use Rattle.wire.specs.declared.Encoded.{Encoded}
-use Rattle.wire.specs.declared.Encoded.TheVariants.{Written}
+use Rattle.wire.specs.Encoder.{Encoded}
 use Rattle.wire.specs.declared.Format.TheVariants.{Mm}
 use Rattle.ballbox.specs.Events.{broken_off, dropped}
 use Rattle.ballbox.specs.declared.Event.{Event}
@@ -130,7 +129,7 @@ pub movement_again : (r : PuckReader) (w : ℕ) (s : PuckRead) (q : Report) (bef
     → s.answer ≡ Movement q
     → 3 ≤ length before
     → EncodePromise (letter_of Mm) q before e after
-    → (e ≡ Written 3) × (after ≡ settled Mm (kept_in r ++ (w ∷ [])) ++ drop 3 before)
+    → (e ≡ Ok 3) × (after ≡ settled Mm (kept_in r ++ (w ∷ [])) ++ drop 3 before)
 movement_again = there_and_back.move_back
 
 -- "bytes in plus kept before equal bytes in reports plus dropped plus kept after": three bytes for a movement, four for a self-test

@@ -23,8 +23,8 @@ use Rattle.wire.specs.Places.{fits_first, fits_later, valid, all_later}
 use Rattle.wire.specs.Reading.{report_of, settled}
 use Rattle.wire.specs.Promises.{EncodePromise}
 use Rattle.wire.specs.declared.Report.{Report}
-use Rattle.wire.specs.declared.Encoded.{Encoded}
-use Rattle.wire.specs.declared.Encoded.TheVariants.{Written}
+use Rattle.std.proofs.Common.{Ok}
+use Rattle.wire.specs.Encoder.{Encoded}
 use Rattle.wire.specs.declared.Format.TheVariants.{Mm}
 use Rattle.wire.proofs.Answers.{accepted_written}
 use Rattle.wire.proofs.Codec as codec
@@ -207,7 +207,7 @@ pub move_back : (r : PuckReader) (w : ℕ) (s : PuckRead) (q : Report) (before a
     → s.answer ≡ Movement q
     → 3 ≤ length before
     → EncodePromise (letter_of Mm) q before e after
-    → (e ≡ Written 3) × (after ≡ settled Mm (kept_in r ++ (w ∷ [])) ++ drop 3 before)
+    → (e ≡ Ok 3) × (after ≡ settled Mm (kept_in r ++ (w ∷ [])) ++ drop 3 before)
 move_back r w s q before after e g p a room n =
     let h = held r g in
     let b = by_rules (MoveBack r w) r w (λ _ f. keep_moves r w h f) (λ _ _ u x. absurd (no_report (length (kept_in r)) 1 (omega arith) (omega arith) (ap kind x)))

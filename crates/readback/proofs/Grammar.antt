@@ -1,5 +1,5 @@
 -- The grammar of a line, read both ways: what Printing writes is read as it was, and what is read is what Printing writes.
-use Rattle.std.proofs.Common.{Option}
+use Rattle.std.proofs.Common.{Option, Some, None}
 use Prim.Native.Nat.{ℕ, suc, ◌+◌, ◌<◌, ◌≤◌, ◌^◌}
 use mathlib.Core.Path.{◌≡◌, refl, sym, ◌∙◌, ap, subst}
 use mathlib.Core.Bool.{Bool, true, false, ◌&&◌, ◌||◌, true≢false}
@@ -16,8 +16,6 @@ use borrow.Author.Tests.{ltb-true, ltb-false, le-ltb, lt-ltb, leb-true, eqb-true
 use Rattle.numbers.proofs.Choices.{cases, or_else, neither}
 use Rattle.numbers.proofs.Tested.{left, right, refused}
 use Rattle.text.specs.Decimals.{plain, places_of, unsigned_of, decimal_of, is_digit, all_digits, number_in, size_of}
-use Rattle.text.specs.declared.Number.{Number}
-use Rattle.text.specs.declared.Number.TheVariants.{None, Is}
 use Rattle.text.proofs.Digits.{digits_long, places_hold, places_few, all_digits_lem, written_read, read_written}
 use Rattle.text.specs.Lengths.{length_to}
 use Rattle.std.specs.declared.option.Option.TheVariants as option
@@ -65,7 +63,7 @@ wide p n h =
     cases (λ (q : ℕ). q ≤ suc p → q ≡ suc p) (ltb (size_of n) (suc p)) (λ _ _. refl) (λ e k. omega (arith, ltb-false (size_of n) (suc p) e)) few
 
 -- WRITTEN THEN READ: a field
-in_count : (m k : ℕ) → k ≤ m → within (pos 0) (pos m) (Is (pos k)) ≡ good_value (pos k)
+in_count : (m k : ℕ) → k ≤ m → within (pos 0) (pos m) (Some (pos k)) ≡ good_value (pos k)
 in_count m k h = let a : ltb k 0 ≡ false = le-ltb k 0 (omega arith) in rw (a, le-ltb m k h)
 
 pub sixteen_most : (x : ℤ) → Sixteen x → nat_abs x ≤ 32768
@@ -90,11 +88,11 @@ read_value : (p : ℕ) {k : Kind} {f : Field} → Of (suc p) k f → value_in (s
 unfolding value_in decimal_of
 read_value p (line {n} h) =
     let w = suc p in
-    let is : number_in w (decimal_of w (pos n)) ≡ Is (pos n) = written_read w (pos n) (omega (arith, h)) in
+    let is : number_in w (decimal_of w (pos n)) ≡ Some (pos n) = written_read w (pos n) (omega (arith, h)) in
     let long : length (unsigned_of w n) ≡ w = digits_long (places_of w n) n ∙ wide p n h.0 in
     rw (is, long, eq-eqb w w refl) (in_count most_lines n h.1)
-read_value p (count {k} h) = let is : number_in plain (decimal_of plain (pos k)) ≡ Is (pos k) = written_read plain (pos k) (omega arith) in rw is (in_count high k h)
-read_value p (number {x} h) = let is : number_in plain (decimal_of plain x) ≡ Is x = written_read plain x (omega (arith, sixteen_most x h)) in rw (is, h)
+read_value p (count {k} h) = let is : number_in plain (decimal_of plain (pos k)) ≡ Some (pos k) = written_read plain (pos k) (omega arith) in rw is (in_count high k h)
+read_value p (number {x} h) = let is : number_in plain (decimal_of plain x) ≡ Some x = written_read plain x (omega (arith, sixteen_most x h)) in rw (is, h)
 read_value p (pressed {b}) = read_pressed b.left b.middle b.right
 read_value p over_word = refl
 
@@ -165,24 +163,24 @@ over_says w (a ∷ b ∷ c ∷ d ∷ []) h =
 over_says w (a ∷ b ∷ c ∷ d ∷ e ∷ l) h = let z : eqb (suc (suc (suc (suc (suc (length l)))))) 4 ≡ false = ne_eqb (suc (suc (suc (suc (suc (length l)))))) 4 (λ e. omega arith) in absurd (true≢false (sym (rw z at h)))
 
 -- decimals
-count_says : (w : ℕ) (bytes : List ℕ) (v : Number) → number_in plain bytes ≡ v → (within (pos 0) (pos high) v).good ≡ true → Says w kind.Count bytes (within (pos 0) (pos high) v).value
+count_says : (w : ℕ) (bytes : List ℕ) (v : Option ℤ) → number_in plain bytes ≡ v → (within (pos 0) (pos high) v).good ≡ true → Says w kind.Count bytes (within (pos 0) (pos high) v).value
 count_says w bytes None e h = absurd (true≢false (sym h))
-count_says w bytes (Is (pos n)) e h =
+count_says w bytes (Some (pos n)) e h =
     record { field = field.Number (pos n); of = count (ltb-false high n (neither (ltb n 0) (ltb high n) (not-true _ h)).1); bytes_are = read_written plain bytes (pos n) e; value_is = refl }
-count_says w bytes (Is (negsuc n)) e h = absurd (true≢false (neither true (lt_z (pos high) (negsuc n)) (not-true _ h)).0)
+count_says w bytes (Some (negsuc n)) e h = absurd (true≢false (neither true (lt_z (pos high) (negsuc n)) (not-true _ h)).0)
 
-number_says : (w : ℕ) (bytes : List ℕ) (v : Number) → number_in plain bytes ≡ v → (within low (pos high) v).good ≡ true → Says w kind.Number bytes (within low (pos high) v).value
+number_says : (w : ℕ) (bytes : List ℕ) (v : Option ℤ) → number_in plain bytes ≡ v → (within low (pos high) v).good ≡ true → Says w kind.Number bytes (within low (pos high) v).value
 number_says w bytes None e h = absurd (true≢false (sym h))
-number_says w bytes (Is x) e h = record { field = field.Number x; of = number (not-true _ h); bytes_are = read_written plain bytes x e; value_is = refl }
+number_says w bytes (Some x) e h = record { field = field.Number x; of = number (not-true _ h); bytes_are = read_written plain bytes x e; value_is = refl }
 
-line_says : (w : ℕ) (bytes : List ℕ) (v : Number) → number_in w bytes ≡ v → length bytes ≡ w → (within (pos 0) (pos most_lines) v).good ≡ true → Says w kind.Line bytes (within (pos 0) (pos most_lines) v).value
+line_says : (w : ℕ) (bytes : List ℕ) (v : Option ℤ) → number_in w bytes ≡ v → length bytes ≡ w → (within (pos 0) (pos most_lines) v).good ≡ true → Says w kind.Line bytes (within (pos 0) (pos most_lines) v).value
 unfolding decimal_of
 line_says w bytes None e l h = absurd (true≢false (sym h))
-line_says w bytes (Is (pos n)) e l h =
+line_says w bytes (Some (pos n)) e l h =
     let is = read_written w bytes (pos n) e in
     let places : places_of w n ≡ w = sym (digits_long (places_of w n) n) ∙ ap length is ∙ l in
     record { field = field.Line n; of = line (rw places at (places_hold w n), ltb-false most_lines n (neither (ltb n 0) (ltb most_lines n) (not-true _ h)).1); bytes_are = is; value_is = refl }
-line_says w bytes (Is (negsuc n)) e l h = absurd (true≢false (neither true (lt_z (pos most_lines) (negsuc n)) (not-true _ h)).0)
+line_says w bytes (Some (negsuc n)) e l h = absurd (true≢false (neither true (lt_z (pos most_lines) (negsuc n)) (not-true _ h)).0)
 
 value_read : (w : ℕ) (k : Kind) (bytes : List ℕ) → (value_in w k bytes).good ≡ true → Says w k bytes (value_in w k bytes).value
 unfolding value_in

@@ -1,6 +1,6 @@
 -- Fields of a line: where they end, what bounds their values have, and fields one behind the other as the code reads them.
 use Rattle.listing.specs.declared.Item.{Item}
-use Rattle.std.proofs.Common.{Option}
+use Rattle.std.proofs.Common.{Option, Some, None}
 use Prim.Native.Nat.{ℕ, ◌+◌, ◌-◌, ◌<◌, ◌≤◌}
 use mathlib.Core.Path.{◌≡◌, refl, sym}
 use mathlib.Core.Bool.{Bool, true, false, cond, ◌&&◌, ◌||◌, true≢false}
@@ -18,8 +18,6 @@ use mir.Val.{SFits}
 use Rattle.numbers.proofs.Choices.{cases, neither}
 use Rattle.numbers.proofs.Tested.{left, right}
 use Rattle.text.specs.Decimals.{plain, number_in}
-use Rattle.text.specs.declared.Number.{Number}
-use Rattle.text.specs.declared.Number.TheVariants.{None, Is}
 use Rattle.text.specs.Lengths.{length_to}
 use Rattle.std.specs.declared.option.Option.TheVariants as option
 use Rattle.listing.specs.Lines.{tab}
@@ -38,14 +36,14 @@ use Rattle.readback.specs.declared.Kind.TheVariants as kind
 abbrev pub UpTo : ℕ → ℤ → Type 0
 UpTo m x = (x ≡ pos (nat_abs x)) × (nat_abs x ≤ m)
 
-up_to : (m : ℕ) (p : Number) → (within (pos 0) (pos m) p).good ≡ true → UpTo m (within (pos 0) (pos m) p).value
+up_to : (m : ℕ) (p : Option ℤ) → (within (pos 0) (pos m) p).good ≡ true → UpTo m (within (pos 0) (pos m) p).value
 up_to m None h = absurd (true≢false (sym h))
-up_to m (Is (pos n)) h = (refl, ltb-false m n (neither (ltb n 0) (ltb m n) (not-true _ h)).1)
-up_to m (Is (negsuc n)) h = absurd (true≢false (neither true (lt_z (pos m) (negsuc n)) (not-true _ h)).0)
+up_to m (Some (pos n)) h = (refl, ltb-false m n (neither (ltb n 0) (ltb m n) (not-true _ h)).1)
+up_to m (Some (negsuc n)) h = absurd (true≢false (neither true (lt_z (pos m) (negsuc n)) (not-true _ h)).0)
 
-sixteen : (p : Number) → (within low (pos high) p).good ≡ true → Sixteen (within low (pos high) p).value
+sixteen : (p : Option ℤ) → (within low (pos high) p).good ≡ true → Sixteen (within low (pos high) p).value
 sixteen None h = absurd (true≢false (sym h))
-sixteen (Is x) h = not-true _ h
+sixteen (Some x) h = not-true _ h
 
 pub counts_most : (b letter value : ℕ) → counts b letter value ≤ value
 counts_most b letter value = cases (λ (n : ℕ). n ≤ value) (eqb b letter) (λ _. omega arith) (λ _. omega arith)

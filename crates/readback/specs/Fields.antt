@@ -1,11 +1,9 @@
 -- The fields of a line, read by their kinds: what Printing writes, the other way.
-use Rattle.std.specs.Prelude.{ℕ, ◌+◌, ◌≡◌, Bool, true, false, not, cond, ◌&&◌, ◌||◌, List, [], ◌∷◌, eqb, ℤ, pos, negsuc, length, get_or, take, drop}
+use Rattle.std.specs.Prelude.{ℕ, ◌+◌, ◌≡◌, Bool, true, false, not, cond, ◌&&◌, ◌||◌, List, [], ◌∷◌, eqb, ℤ, pos, negsuc, length, get_or, take, drop, Some, None}
 use Rattle.std.specs.Int.Signed.{lt_z}
 use Rattle.std.specs.declared.option.Option.TheVariants as option
 use Rattle.std.specs.Prelude.{Option}
 use Rattle.text.specs.Decimals.{plain, number_in}
-use Rattle.text.specs.declared.Number.{Number}
-use Rattle.text.specs.declared.Number.TheVariants.{None, Is}
 use Rattle.text.specs.Lengths.{length_to}
 use Rattle.listing.specs.Lines.{tab}
 use Rattle.listing.specs.Scanning.{most_lines}
@@ -35,9 +33,9 @@ abbrev pub none : Value
 none = record { good = false; value = pos 0 }
 
 -- a number within bounds
-abbrev pub within : ℤ → ℤ → Number → Value
+abbrev pub within : ℤ → ℤ → Option ℤ → Value
 within from to None = none
-within from to (Is x) = record { good = not (lt_z x from || lt_z to x); value = x }
+within from to (Some x) = record { good = not (lt_z x from || lt_z to x); value = x }
 
 -- a line number: as many digits as the width
 abbrev pub line_in : ℕ → List ℕ → Value

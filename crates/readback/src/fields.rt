@@ -3,7 +3,7 @@ ghost use Rattle.std.specs.Prelude.{◌≡◌, ◌+◌, drop};
 ghost use Rattle.readback.specs.Fields.{Says, within, line_in, counts, three_of, pressed_in, over_in, value_in, Takes, took, field_in};
 
 use crate::{Field, Kind};
-use text::{Number, PLAIN};
+use text::{PLAIN, number};
 
 // The highest number of a line.
 const MOST: i64 = 999_999;
@@ -14,11 +14,11 @@ const HIGH: i64 = 32_767;
 const LOW: i64 = -32_768;
 
 // A number within bounds.
-fn within(low: i64, high: i64, number: Number) -> Option<i64>
+fn within(low: i64, high: i64, number: Option<i64>) -> Option<i64>
     ensures { Says (within low high number) result }
 {
     match number {
-        Number::Is(x) if low <= x && x <= high => Some(x),
+        Some(x) if low <= x && x <= high => Some(x),
         _ => None,
     }
 }
@@ -27,7 +27,7 @@ fn within(low: i64, high: i64, number: Number) -> Option<i64>
 fn line(width: usize, bytes: &[u8]) -> Option<i64>
     ensures { Says (line_in width bytes.now) result }
 {
-    let number = within(0, MOST, Number::read(bytes, width));
+    let number = within(0, MOST, number(bytes, width));
     if bytes.len() == width { number } else { None }
 }
 
@@ -79,8 +79,8 @@ fn value(kind: Kind, width: usize, bytes: &[u8]) -> Option<i64>
 {
     match kind {
         Kind::Line => line(width, bytes),
-        Kind::Count => within(0, HIGH, Number::read(bytes, PLAIN)),
-        Kind::Number => within(LOW, HIGH, Number::read(bytes, PLAIN)),
+        Kind::Count => within(0, HIGH, number(bytes, PLAIN)),
+        Kind::Number => within(LOW, HIGH, number(bytes, PLAIN)),
         Kind::Pressed => pressed(bytes),
         Kind::Over => over(bytes),
     }

@@ -16,13 +16,11 @@ use Rattle.wire.specs.Places.{fits_at, fits_by, valid}
 use Rattle.wire.specs.Reading.{report_of, report_by, settled_by}
 use Rattle.wire.specs.Holds.{accepted}
 use Rattle.wire.specs.Numbers.{success}
-use Rattle.wire.specs.Encoder.{Encoding, refusal_of, length_of, encode_in}
+use Rattle.wire.specs.Encoder.{Encoding, refusal_of, length_of, encode_in, Encoded}
 use Rattle.wire.specs.Promises.{EncodePromise}
 use Rattle.wire.specs.declared.Report.{Report}
 use Rattle.wire.specs.declared.Format.{Format}
-use Rattle.wire.specs.declared.Named.{Named}
-use Rattle.wire.specs.declared.Named.TheVariants.{Known, Unknown}
-use Rattle.wire.specs.declared.Encoded.{Encoded}
+use Rattle.std.proofs.Common.{Option, Some, None}
 use Rattle.wire.proofs.Accepts.{accepts}
 use Rattle.wire.proofs.Letters.{size_named}
 use Rattle.wire.proofs.Codec as codec
@@ -62,7 +60,7 @@ finished r w p =
     dropped = dropping_reports r.count
 
 -- the kept bytes and the last one
-module _ (r : Reader) (b : ℕ) (p : Report) (f : Format) (g : good r ≡ true) (named : named_by r.format ≡ Known f) (d : Finished r b p) where
+module _ (r : Reader) (b : ℕ) (p : Report) (f : Format) (g : good r ≡ true) (named : named_by r.format ≡ Some f) (d : Finished r b p) where
   abbrev has : Parts r
   has = parts r g
 
@@ -103,7 +101,7 @@ module _ (r : Reader) (b : ℕ) (p : Report) (f : Format) (g : good r ≡ true) 
   report_is : p ≡ report_of f bytes
   report_is = d.is ∙ report_like f r g named b (omega (arith, size_is, d.last))
 
-  encodes : (buffer : List ℕ) → size_of f ≤ length buffer → encode_in (Known f) p buffer ≡ record { refusal = success; told = size_of f; buffer = settled_by r.format bytes ++ drop (size_of f) buffer }
+  encodes : (buffer : List ℕ) → size_of f ≤ length buffer → encode_in (Some f) p buffer ≡ record { refusal = success; told = size_of f; buffer = settled_by r.format bytes ++ drop (size_of f) buffer }
   unfolding settled_by
   encodes buffer h =
       rw report_is (accepts f (report_of f bytes) buffer (codec.read_accepted f bytes bytes_valid) h ∙ rw (named, codec.back f bytes bytes_valid))
@@ -114,7 +112,7 @@ pub record Reported (f : Format) (p : Report) : Type 0 where
   pub fit : valid f of_bytes ≡ true
   pub stands_for : p ≡ report_of f of_bytes
 
-pub reported : (r : Reader) (w : ℕ) (p : Report) (f : Format) → good r ≡ true → named_by r.format ≡ Known f → (word_of r w).answer ≡ answer.Report p → Reported f p
+pub reported : (r : Reader) (w : ℕ) (p : Report) (f : Format) → good r ≡ true → named_by r.format ≡ Some f → (word_of r w).answer ≡ answer.Report p → Reported f p
 reported r w p f g named a =
     let b = entered r.format w in
     let d = finished r w p a in
@@ -135,9 +133,9 @@ pub back : (r : Reader) (w : ℕ) (s : Read) (p : Report) (before after : List �
 unfolding known
 back r w s p before after e g h a room n = go (named_by r.format) refl
   where
-    go : (m : Named) → named_by r.format ≡ m → (refusal_of e ≡ success) × (length_of e ≡ size_by r.format) × (after ≡ settled_by r.format (kept_in r ++ entered r.format w ∷ []) ++ drop (size_by r.format) before)
-    go Unknown q = absurd (holds (rw q at (parts r g).of_known))
-    go (Known f) q =
+    go : (m : Option Format) → named_by r.format ≡ m → (refusal_of e ≡ success) × (length_of e ≡ size_by r.format) × (after ≡ settled_by r.format (kept_in r ++ entered r.format w ∷ []) ++ drop (size_by r.format) before)
+    go None q = absurd (holds (rw q at (parts r g).of_known))
+    go (Some f) q =
         let i = ap (λ (t : Read). t.answer) (step_is r w s h ∙ step_word r w g) in
         let d = finished r w p (sym i ∙ a) in
         let z = size_named r.format q in

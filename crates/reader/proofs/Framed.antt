@@ -18,7 +18,7 @@ use Rattle.wire.specs.Reading.{report_of, report_by}
 use Rattle.wire.specs.Numbers.{success}
 use Rattle.wire.specs.declared.Report.{Report}
 use Rattle.wire.specs.declared.Format.{Format}
-use Rattle.wire.specs.declared.Named.TheVariants.{Known}
+use Rattle.std.proofs.Common.{Some}
 use Rattle.wire.proofs.Letters.{letter_named, size_named, marked_named, fits_named}
 use Rattle.wire.proofs.Front.{same_front, size_between}
 use Rattle.wire.proofs.Codec.{fits_byte, mark}
@@ -83,7 +83,7 @@ dropping_told zero = refl
 dropping_told (suc k) = rw (ne_eqb (suc k) 0 (λ e. omega arith))
 
 -- a good reader of the format
-module _ (f : Format) (r : Reader) (g : good r ≡ true) (named : named_by r.format ≡ Known f) where
+module _ (f : Format) (r : Reader) (g : good r ≡ true) (named : named_by r.format ≡ Some f) where
   abbrev size_is : size_by r.format ≡ size_of f
   size_is = size_named r.format named
 
@@ -174,7 +174,7 @@ pub record ReaderOf (f : Format) (r : Reader) : Type 0 where
 
 -- over legal words, as they enter
 module _ (f : Format) where
-  steps_like : (words : List ℕ) (r : Reader) → good r ≡ true → named_by r.format ≡ Known f → line_words words ≡ true
+  steps_like : (words : List ℕ) (r : Reader) → good r ≡ true → named_by r.format ≡ Some f → line_words words ≡ true
       → answers (steps_of r words) ≡ map told (frame.answers (frame_of f) (state_of r) (entered_all r.format words))
   unfolding steps_of line_words
   steps_like [] r g named l = refl

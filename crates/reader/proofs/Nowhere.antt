@@ -17,7 +17,7 @@ use Rattle.wire.specs.Digits.{between, is_digit}
 use Rattle.wire.specs.Places.{like, fits_at, fits_first, fits_later}
 use Rattle.wire.specs.declared.Format.{Format}
 use Rattle.wire.specs.declared.Format.TheVariants.{Mm, Absolute, Relative, FiveByte, ThreeByte, Hexadecimal}
-use Rattle.wire.specs.declared.Named.TheVariants.{Known}
+use Rattle.std.proofs.Common.{Some}
 use Rattle.wire.proofs.Letters.{letter_named, marked_named, fits_named}
 use Rattle.reader.specs.State.{fresh, Read}
 use Rattle.reader.specs.Good.{good}
@@ -42,7 +42,7 @@ module _ (r : Reader) (w : ℕ) (s : Read) (g : good r ≡ true) (byte : w ≤ 2
 
   -- a byte of the format that enters as it is
   module _ (f : Format) (is : r.format ≡ letter_of f) (enters : entered (letter_of f) w ≡ w) where
-    named : named_by r.format ≡ Known f
+    named : named_by r.format ≡ Some f
     named = rw is (letter_named f)
 
     same_byte : entered r.format w ≡ w

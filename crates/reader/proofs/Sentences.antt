@@ -11,8 +11,8 @@ use borrow.Author.Tests.{le-leb, eqb-true, ne_eqb}
 use Rattle.numbers.proofs.Tested.{refused, holds}
 use Rattle.wire.specs.Line.{named_by, of_named, size_by, marked_of, marked_by}
 use Rattle.wire.specs.Places.{fits_at, fits_by}
-use Rattle.wire.specs.declared.Named.{Named}
-use Rattle.wire.specs.declared.Named.TheVariants.{Known, Unknown}
+use Rattle.std.proofs.Common.{Option, Some, None}
+use Rattle.wire.specs.declared.Format.{Format}
 use Rattle.wire.proofs.Letters.{at_most_five, at_least_three}
 use Rattle.wire.proofs.Codec.{mark}
 use Rattle.reader.specs.State.{reader, kept_in, fresh, Read}
@@ -51,9 +51,9 @@ first_not_later : (letter place b : ℕ) → marked_by letter ≡ true → fits_
 unfolding marked_by fits_by fits_at
 first_not_later letter place b = go (named_by letter)
   where
-    go : (n : Named) → of_named false marked_of n ≡ true → of_named false (λ f. fits_at f 0 b) n ≡ true → of_named false (λ f. fits_at f (suc place) b) n ≡ false
-    go (Known f) m h = rw (eqb-suc-zero place) (mark f b m h)
-    go Unknown m h = absurd (holds m)
+    go : (n : Option Format) → of_named false marked_of n ≡ true → of_named false (λ f. fits_at f 0 b) n ≡ true → of_named false (λ f. fits_at f (suc place) b) n ≡ false
+    go (Some f) m h = rw (eqb-suc-zero place) (mark f b m h)
+    go None m h = absurd (holds m)
 
 -- a byte b, as it enters, by the rule that takes it
 module _ (r : Reader) (w : ℕ) (s : Read) (g : good r ≡ true) (byte : w ≤ 255) (e : StepPromise r w s) where

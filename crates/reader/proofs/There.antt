@@ -18,13 +18,11 @@ use Rattle.wire.specs.Holds.{accepted, carried_by}
 use Rattle.wire.specs.Places.{fits_at}
 use Rattle.wire.specs.Reading.{report_of, report_by}
 use Rattle.wire.specs.Numbers.{success}
-use Rattle.wire.specs.Encoder.{Encoding, refusal_of, length_of, outcome, encode_in}
+use Rattle.wire.specs.Encoder.{Encoding, refusal_of, length_of, outcome, encode_in, Encoded}
 use Rattle.wire.specs.Promises.{EncodePromise}
 use Rattle.wire.specs.declared.Report.{Report}
 use Rattle.wire.specs.declared.Format.{Format}
-use Rattle.wire.specs.declared.Named.{Named}
-use Rattle.wire.specs.declared.Named.TheVariants.{Known, Unknown}
-use Rattle.wire.specs.declared.Encoded.{Encoded}
+use Rattle.std.proofs.Common.{Option, Some, None}
 use Rattle.wire.proofs.Accepts.{done}
 use Rattle.wire.proofs.Codec as codec
 use Rattle.wire.proofs.Front.{size_between, size_small, same_front}
@@ -56,7 +54,7 @@ record Reads (r : Reader) (p : Report) (bytes : List ℕ) : Type 0 where
   again : reader_after r (steps_of r bytes) ≡ ready r.format
   written : (out : List ℤ) → 5 ≤ length out → read_of r bytes out ≡ gave r p bytes out
 
-module _ (f : Format) (letter : ℕ) (named : named_by letter ≡ Known f) where
+module _ (f : Format) (letter : ℕ) (named : named_by letter ≡ Some f) where
   ready_is_good : good (ready letter) ≡ true
   unfolding known
   ready_is_good = ready_good letter (rw named)
@@ -131,7 +129,7 @@ module _ (f : Format) (letter : ℕ) (named : named_by letter ≡ Known f) where
 -- the bytes that an encoder has written
 record Sent (letter : ℕ) (p : Report) (size : ℕ) (bytes : List ℕ) : Type 0 where
   f : Format
-  named : named_by letter ≡ Known f
+  named : named_by letter ≡ Some f
   taken : accepted f p ≡ true
   sized : size ≡ size_of f
   are : bytes ≡ bytes_of f p
@@ -140,9 +138,9 @@ sent : (letter : ℕ) (p : Report) (before after : List ℕ) (e : Encoded) → E
 unfolding encode_in
 sent letter p before after e h z = go (named_by letter) refl
   where
-    go : (n : Named) → named_by letter ≡ n → Sent letter p (length_of e) (take (length_of e) after)
-    go Unknown q = absurd (omega (arith, z, ap (λ (l : Encoding). l.refusal) (rw q at h)))
-    go (Known f) q =
+    go : (n : Option Format) → named_by letter ≡ n → Sent letter p (length_of e) (take (length_of e) after)
+    go None q = absurd (omega (arith, z, ap (λ (l : Encoding). l.refusal) (rw q at h)))
+    go (Some f) q =
         let d = done f p before (outcome e after) (rw q at h) z in
         let size = ap (λ (l : Encoding). l.told) d.is in
         let buffer = ap (λ (l : Encoding). l.buffer) d.is in

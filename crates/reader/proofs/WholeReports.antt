@@ -18,8 +18,8 @@ use Rattle.wire.specs.Line.{named_by, of_named, size_of, size_by}
 use Rattle.wire.specs.Places.{fits_by}
 use Rattle.wire.specs.Reading.{report_by}
 use Rattle.wire.specs.declared.Format.TheVariants.{Mm, Microsoft, Absolute, Relative, FiveByte, ThreeByte, Hexadecimal}
-use Rattle.wire.specs.declared.Named.{Named}
-use Rattle.wire.specs.declared.Named.TheVariants.{Known, Unknown}
+use Rattle.std.proofs.Common.{Option, Some, None}
+use Rattle.wire.specs.declared.Format.{Format}
 use Rattle.reader.specs.State.{reader, ready, five_of}
 use Rattle.reader.specs.Good.{good}
 use Rattle.reader.specs.Rules.{finishes, more, keep, byte_of, word_of}
@@ -35,15 +35,15 @@ pub three_or_five : (letter n : ℕ) → n < size_by letter → (size_by letter 
 unfolding size_by
 three_or_five letter n = go (named_by letter)
   where
-    go : (m : Named) → n < of_named 0 size_of m → (of_named 0 size_of m ≡ 3) ⊎ (of_named 0 size_of m ≡ 5)
-    go Unknown h = absurd (omega arith)
-    go (Known Mm) h = inl refl
-    go (Known Microsoft) h = inl refl
-    go (Known ThreeByte) h = inl refl
-    go (Known Absolute) h = inr refl
-    go (Known Relative) h = inr refl
-    go (Known FiveByte) h = inr refl
-    go (Known Hexadecimal) h = inr refl
+    go : (m : Option Format) → n < of_named 0 size_of m → (of_named 0 size_of m ≡ 3) ⊎ (of_named 0 size_of m ≡ 5)
+    go None h = absurd (omega arith)
+    go (Some Mm) h = inl refl
+    go (Some Microsoft) h = inl refl
+    go (Some ThreeByte) h = inl refl
+    go (Some Absolute) h = inr refl
+    go (Some Relative) h = inr refl
+    go (Some FiveByte) h = inr refl
+    go (Some Hexadecimal) h = inr refl
 
 pub three_or_more : {size : ℕ} → (size ≡ 3) ⊎ (size ≡ 5) → 3 ≤ size
 three_or_more (inl e) = omega arith

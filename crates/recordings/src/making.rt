@@ -32,7 +32,7 @@ pub(crate) fn report(out: &mut [u8], n: usize, letter: u8, report: Report) -> us
     ensures { result ≤ length out.new }
 {
     let mut bytes = [0u8; 5];
-    let size = wire::encode(letter, report, &mut bytes).length();
+    let size = wire::length_in(wire::encode(letter, report, &mut bytes));
     let mut end = n;
     for b in bytes.iter().take(size) {
         end = byte(out, end, *b);

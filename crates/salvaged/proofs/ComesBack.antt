@@ -1,4 +1,5 @@
 -- COMES BACK: the salvage of every input, read by the reader of listings in whatever calls, comes back as its items, without a fault, and as a salvage's.
+use Rattle.std.proofs.Common.{Option, None, Some}
 use Prim.Native.Nat.{ℕ, zero, suc, ◌+◌, ◌-◌, ◌<◌, ◌≤◌}
 use mathlib.Core.Path.{◌≡◌, refl, sym, ap, ◌∙◌}
 use mathlib.Core.Bool.{Bool, true, false}
@@ -19,8 +20,6 @@ use Rattle.listing.specs.Scanning.{width, most_lines}
 use Rattle.listing.specs.Printing.{all_bytes}
 use Rattle.listing.specs.declared.Item.{Item}
 use Rattle.listing.specs.declared.Item.TheVariants as item
-use Rattle.listing.specs.declared.Given.{Given}
-use Rattle.listing.specs.declared.Given.TheVariants as goal
 use Rattle.listing.proofs.Small.{small_report}
 use Rattle.listing.proofs.Ordered.{Ordered}
 use Rattle.readback.specs.Items.{all_numbers}
@@ -98,9 +97,9 @@ module _ (letter : ℕ) (words : List ℕ) (few : length words ≤ most_words) w
 pub ordered : (input : List ℕ) → Ordered most_lines 0 (items_of (log_of input))
 ordered input = go (log_of input).alone refl
   where
-    go : (g : Given) → (log_of input).alone ≡ g → Ordered most_lines 0 (items_of (log_of input))
-    go goal.Nothing e = rw e (all_go (log_of input).letter (log_of input).words (settled input).sound.few)
-    go (goal.One i) e = rw e (rw e at (settled input).sound.last)
+    go : (g : Option Item) → (log_of input).alone ≡ g → Ordered most_lines 0 (items_of (log_of input))
+    go None e = rw e (all_go (log_of input).letter (log_of input).words (settled input).sound.few)
+    go (Some i) e = rw e (rw e at (settled input).sound.last)
 
 -- the text is the items, printed behind `S`
 lines_printed : (is : List Item) → text_of (map item_line is) ≡ all_bytes width is

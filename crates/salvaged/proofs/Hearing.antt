@@ -1,4 +1,5 @@
 -- A log in its slice: a word more, one too many, and what stands alone; and the log of an input byte by byte.
+use Rattle.std.proofs.Common.{Option, None, Some}
 use Prim.Native.Nat.{ℕ, ◌+◌, ◌<◌, ◌≤◌}
 use mathlib.Core.Path.{◌≡◌, refl, ap, ◌∙◌}
 use mathlib.Core.List.{List, [], ◌∷◌}
@@ -16,8 +17,6 @@ use Rattle.listing.specs.declared.Found.{Found}
 use Rattle.listing.specs.declared.Found.TheVariants as found
 use Rattle.listing.specs.declared.Item.{Item}
 use Rattle.listing.specs.declared.Item.TheVariants as item
-use Rattle.listing.specs.declared.Given.{Given}
-use Rattle.listing.specs.declared.Given.TheVariants as goal
 use Rattle.listing.specs.declared.Scanner.{Scanner}
 use Rattle.listing.proofs.Scanned.{all_found, told, scanned}
 use Rattle.listing.proofs.Few.{ShortGiven}
@@ -31,11 +30,11 @@ module _ {h : Heard} {slice : List ℕ} (fine : Fine h slice) where
   counted : length (take h.count slice) ≡ h.count
   counted = length-take-le h.count slice (omega (arith, fine.few, fine.long))
 
-  pub word_over : (w : ℕ) → most_words ≤ h.count → Hears (word_heard (log_in h slice) w) (record { letter = h.letter; count = h.count; alone = goal.One item.Over }) slice
+  pub word_over : (w : ℕ) → most_words ≤ h.count → Hears (word_heard (log_in h slice) w) (record { letter = h.letter; count = h.count; alone = Some item.Over }) slice
   unfolding word_heard
   word_over w l = record { fine = record { few = fine.few; long = fine.long; short = tt }; same = rw (counted, le-leb most_words h.count l) }
 
-  pub word_more : (w : ℕ) → h.count < most_words → Hears (word_heard (log_in h slice) w) (record { letter = h.letter; count = h.count + 1; alone = goal.Nothing }) (set slice h.count w)
+  pub word_more : (w : ℕ) → h.count < most_words → Hears (word_heard (log_in h slice) w) (record { letter = h.letter; count = h.count + 1; alone = None }) (set slice h.count w)
   unfolding word_heard
   word_more w l =
       record {
@@ -44,7 +43,7 @@ module _ {h : Heard} {slice : List ℕ} (fine : Fine h slice) where
       }
 
   -- what stands alone, with a short line
-  pub beside : (letter : ℕ) (alone : Given) → ShortGiven alone → Hears (log letter (take h.count slice) alone) (record { letter = letter; count = h.count; alone = alone }) slice
+  pub beside : (letter : ℕ) (alone : Option Item) → ShortGiven alone → Hears (log letter (take h.count slice) alone) (record { letter = letter; count = h.count; alone = alone }) slice
   beside letter alone short = record { fine = record { few = fine.few; long = fine.long; short = short }; same = refl }
 
   pub as_it_was : Hears (log_in h slice) h slice
@@ -88,17 +87,17 @@ pub heard_nothing : (l : Log) → heard l found.Nothing ≡ l
 unfolding heard
 heard_nothing l = go l.alone
   where
-    go : (g : Given) → unless g l l ≡ l
-    go goal.Nothing = refl
-    go (goal.One i) = refl
+    go : (g : Option Item) → unless g l l ≡ l
+    go None = refl
+    go (Some i) = refl
 
-pub heard_new : (l : Log) (f : Found) → l.alone ≡ goal.Nothing → heard l f ≡ new_heard l f
+pub heard_new : (l : Log) (f : Found) → l.alone ≡ None → heard l f ≡ new_heard l f
 unfolding heard
-heard_new l f e = ap (λ (g : Given). unless g l (new_heard l f)) e
+heard_new l f e = ap (λ (g : Option Item). unless g l (new_heard l f)) e
 
-pub heard_behind : (l : Log) (f : Found) {i : Item} → l.alone ≡ goal.One i → heard l f ≡ l
+pub heard_behind : (l : Log) (f : Found) {i : Item} → l.alone ≡ Some i → heard l f ≡ l
 unfolding heard
-heard_behind l f e = ap (λ (g : Given). unless g l (new_heard l f)) e
+heard_behind l f e = ap (λ (g : Option Item). unless g l (new_heard l f)) e
 
 -- one after the other
 pub then : {l : Log} {h next : Heard} {slice later : List ℕ} (f : Found) → Hears l h slice → Hears (heard (log_in h slice) f) next later → Hears (heard l f) next later
@@ -109,9 +108,9 @@ pub nothing_heard : (l : Log) → heard l found.Nothing ≡ l
 unfolding heard
 nothing_heard l = go l.alone
   where
-    go : (g : Given) → unless g l l ≡ l
-    go goal.Nothing = refl
-    go (goal.One i) = refl
+    go : (g : Option Item) → unless g l l ≡ l
+    go None = refl
+    go (Some i) = refl
 
 pub told_heard : (fs : List Found) (l : Log) → heard_all l fs ≡ heard_all l (told fs)
 unfolding heard_all

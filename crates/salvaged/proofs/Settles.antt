@@ -1,4 +1,5 @@
 -- Once so many bytes are read, nothing that follows changes the salvage: the recording has ended, or a word too many was heard.
+use Rattle.std.proofs.Common.{Option, None, Some}
 use Prim.Native.Nat.{ℕ, ◌+◌, ◌≤◌, ◌<◌}
 use mathlib.Core.Path.{◌≡◌, refl, sym, ◌∙◌, ap, subst}
 use mathlib.Core.Bool.{true}
@@ -16,8 +17,6 @@ use Rattle.listing.specs.declared.Found.{Found}
 use Rattle.listing.specs.declared.Found.TheVariants as found
 use Rattle.listing.specs.declared.Item.{Item}
 use Rattle.listing.specs.declared.Item.TheVariants as item
-use Rattle.listing.specs.declared.Given.{Given}
-use Rattle.listing.specs.declared.Given.TheVariants as goal
 use Rattle.listing.proofs.Scanned.{all_found}
 use Rattle.listing.proofs.Ended.{Within, byte_over, byte_on, none_told}
 use Rattle.listing.proofs.Viewed.{View, is_over, is_bad, is_format, is_word, Passes, ended, within, behind, passes}
@@ -29,7 +28,7 @@ use Rattle.salvaged.proofs.Hearing.{heard_new, heard_behind, nothing_heard, told
 
 -- nothing more is heard: something stands alone, or the recording has ended
 abbrev Alone : Log → Type 0
-Alone l = (i : Item) × (l.alone ≡ goal.One i)
+Alone l = (i : Item) × (l.alone ≡ Some i)
 
 abbrev Shut : Log → Scanner → Type 0
 Shut l s = Alone l ⊎ (s.ended ≡ true)
@@ -76,9 +75,9 @@ found_counts n l f v h few = go l.alone refl
     new (found.Format x) (is_format z p) = inr (omega arith, few)
     new (found.Word m w) (is_word q p) = word_counts n l w h
 
-    go : (g : Given) → l.alone ≡ g → Counts n (heard l f)
-    go goal.Nothing e = subst (Counts n) (sym (heard_new l f e)) (new f v)
-    go (goal.One i) e = inl (subst Alone (sym (heard_behind l f e)) (i, e))
+    go : (g : Option Item) → l.alone ≡ g → Counts n (heard l f)
+    go None e = subst (Counts n) (sym (heard_new l f e)) (new f v)
+    go (Some i) e = inl (subst Alone (sym (heard_behind l f e)) (i, e))
 
 byte_counts : (l : Log) (s : Scanner) (c : ℕ) → Open l s
     → let k = scanned_byte s c in Shut (heard l k.found) k.next ⊎ ((k.next.line ≤ length (heard l k.found).words + 1) × (length (heard l k.found).words ≤ most_words))

@@ -1,4 +1,5 @@
 -- The log of an input is one that may be salvaged, or something stands alone, with a short line.
+use Rattle.std.proofs.Common.{Option, None, Some}
 use Prim.Native.Nat.{ℕ, ◌+◌, ◌≤◌}
 use mathlib.Core.Path.{◌≡◌, refl, sym, ◌∙◌}
 use mathlib.Core.Bool.{Bool, true, false, cond}
@@ -20,8 +21,6 @@ use Rattle.listing.specs.declared.Found.{Found}
 use Rattle.listing.specs.declared.Found.TheVariants as found
 use Rattle.listing.specs.declared.Item.{Item}
 use Rattle.listing.specs.declared.Item.TheVariants as item
-use Rattle.listing.specs.declared.Given.{Given}
-use Rattle.listing.specs.declared.Given.TheVariants as goal
 use Rattle.listing.proofs.Few.{ShortGiven}
 use Rattle.listing.proofs.Ordered.{Ordered}
 use Rattle.listing.proofs.Viewed.{View, is_over, is_bad, is_format, is_word, viewed}
@@ -29,9 +28,9 @@ use Rattle.salvaged.specs.Log.{Log, log, empty, marked, word_heard, new_heard, h
 use Rattle.salvaged.proofs.Hearing.{marked_short, heard_new, heard_behind}
 
 -- what stands alone is the last item of a listing, as its first
-abbrev pub Last : Given → Type 0
-Last goal.Nothing = Unit {0}
-Last (goal.One i) = Ordered most_lines 0 (i ∷ [])
+abbrev pub Last : Option Item → Type 0
+Last None = Unit {0}
+Last (Some i) = Ordered most_lines 0 (i ∷ [])
 
 -- a log as it should be: few words, all of a line, and what stands alone is short
 pub record Sound (l : Log) : Type 0 where
@@ -46,16 +45,16 @@ Fits l = (known l.letter ≡ true) × (marked_by l.letter ≡ false)
 -- and where nothing stands alone, its format is one that may be salvaged
 pub record Settled (l : Log) : Type 0 where
   pub sound : Sound l
-  pub fits : l.alone ≡ goal.Nothing → Fits l
+  pub fits : l.alone ≡ None → Fits l
 
-one_not : {i : Item} → goal.One i ≡ goal.Nothing → ⊥
+one_not : {i : Item} → Some i ≡ None → ⊥
 one_not e = let z : ◌≡◌ {A = ℕ} 0 1 = cc in omega arith
 
 -- what stands alone stands
-alone_settled : (l : Log) (i : Item) → l.alone ≡ goal.One i → Sound l → Settled l
+alone_settled : (l : Log) (i : Item) → l.alone ≡ Some i → Sound l → Settled l
 alone_settled l i e s = record { sound = s; fits = λ n. absurd (one_not (sym e ∙ n)) }
 
-made_alone : (l : Log) (i : Item) → ShortGiven (goal.One i) → Last (goal.One i) → Sound l → Settled (log l.letter l.words (goal.One i))
+made_alone : (l : Log) (i : Item) → ShortGiven (Some i) → Last (Some i) → Sound l → Settled (log l.letter l.words (Some i))
 made_alone l i h z s = record { sound = record { short = h; last = z; few = s.few; line = s.line }; fits = λ e. absurd (one_not e) }
 
 line_more : (ws : List ℕ) (w : ℕ) → line_words ws ≡ true → w ≤ silence → line_words (ws ++ w ∷ []) ≡ true
@@ -64,7 +63,7 @@ line_more [] w h l = rw (le-leb w silence l)
 line_more (v ∷ ws) w h l = both (leb v silence) (line_words (ws ++ w ∷ [])) (left (leb v silence) (line_words ws) h) (line_more ws w (right (leb v silence) (line_words ws) h) l)
 
 -- one found more
-word_settled : (l : Log) (w : ℕ) → w ≤ silence → Settled l → l.alone ≡ goal.Nothing → Settled (word_heard l w)
+word_settled : (l : Log) (w : ℕ) → w ≤ silence → Settled l → l.alone ≡ None → Settled (word_heard l w)
 unfolding word_heard
 word_settled l w h s e =
     cases Settled (leb most_words (length l.words)) (λ _. made_alone l item.Over tt refl s.sound)
@@ -78,11 +77,11 @@ word_settled l w h s e =
       fits = λ _. s.fits e;
     })
 
-none_marked : (f : ℕ) → marked f ≡ goal.Nothing → marked_by f ≡ false
+none_marked : (f : ℕ) → marked f ≡ None → marked_by f ≡ false
 unfolding marked
 none_marked f e = go (marked_by f) refl e
   where
-    go : (t : Bool) → marked_by f ≡ t → cond t (goal.One (item.E 1)) goal.Nothing ≡ goal.Nothing → marked_by f ≡ false
+    go : (t : Bool) → marked_by f ≡ t → cond t (Some (item.E 1)) None ≡ None → marked_by f ≡ false
     go true m e = absurd (one_not e)
     go false m e = m
 
@@ -99,17 +98,17 @@ format_settled l f k s =
 
 -- what is heard behind n lines, where the format has been heard on the first of them
 module _ (n : ℕ) (l : Log) (s : Sound l) (k : 1 ≤ n → Settled l) where
-  unless_alone : (f : Found) → (l.alone ≡ goal.Nothing → Settled (new_heard l f)) → Settled (heard l f)
+  unless_alone : (f : Found) → (l.alone ≡ None → Settled (new_heard l f)) → Settled (heard l f)
   unless_alone f r = go l.alone refl
     where
-      go : (g : Given) → l.alone ≡ g → Settled (heard l f)
-      go goal.Nothing e = rw (heard_new l f e) (r e)
-      go (goal.One i) e = rw (heard_behind l f e) (alone_settled l i e s)
+      go : (g : Option Item) → l.alone ≡ g → Settled (heard l f)
+      go None e = rw (heard_new l f e) (r e)
+      go (Some i) e = rw (heard_behind l f e) (alone_settled l i e s)
 
   heard_settled : (f : Found) → View n f → Settled (heard l f)
   heard_settled f v = unless_alone f (λ e. go f v e)
     where
-      go : (f : Found) → View n f → l.alone ≡ goal.Nothing → Settled (new_heard l f)
+      go : (f : Found) → View n f → l.alone ≡ None → Settled (new_heard l f)
       go found.Nothing v e = elim v [ ]
       go found.End v e = elim v [ ]
       go found.Over is_over e = made_alone l item.Over tt refl s
@@ -136,7 +135,7 @@ unfolding line_words
 settled input = by_lines (lines_in input) 0 empty (record { short = tt; last = tt; few = omega arith; line = refl }) (λ h. absurd (omega arith))
 
 -- where nothing stands alone it may be salvaged
-pub may_be : (input : List ℕ) → (log_of input).alone ≡ goal.Nothing → refusal_of (log_of input).letter (log_of input).words ≡ success
+pub may_be : (input : List ℕ) → (log_of input).alone ≡ None → refusal_of (log_of input).letter (log_of input).words ≡ success
 may_be input e =
     let l = log_of input in
     let s = settled input in

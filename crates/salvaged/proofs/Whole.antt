@@ -1,4 +1,5 @@
 -- What is listed of an input: its account, one answer, and all of it where there is room.
+use Rattle.std.proofs.Common.{Option, None, Some}
 use Prim.Native.Nat.{ℕ, ◌+◌, ◌≤◌}
 use mathlib.Core.Path.{◌≡◌, refl, sym, ap, ◌∙◌}
 use mathlib.Core.Bool.{true}
@@ -13,8 +14,6 @@ use Rattle.choosing.proofs.Pieces.{falls, few_pieces}
 use Rattle.salvage.specs.Picking.{most_words, valid_by, picked_by}
 use Rattle.listing.specs.declared.Item.{Item}
 use Rattle.listing.specs.declared.Item.TheVariants as item
-use Rattle.listing.specs.declared.Given.{Given}
-use Rattle.listing.specs.declared.Given.TheVariants as goal
 use Rattle.salvaged.specs.Log.{log_of}
 use Rattle.salvaged.specs.Items.{item_of, items_of}
 use Rattle.salvaged.specs.Writing.{Written, written, start, add_all}
@@ -30,7 +29,7 @@ use Rattle.salvaged.proofs.Room.{AllFew, all_added, few_append, few_line, all_fe
 pub one_list : (input before : List ℕ) {a b : Salvaged} {x y : List ℕ} → ListPromise input before a x → ListPromise input before b y → (a ≡ b) × (x ≡ y)
 one_list input before p q = let e = p ∙ sym q in (ap (λ (w : Whole). w.salvaged) e, ap (λ (w : Whole). w.out) e)
 
-module _ (input : List ℕ) (nothing : (log_of input).alone ≡ goal.Nothing) where
+module _ (input : List ℕ) (nothing : (log_of input).alone ≡ None) where
   sized : 1 ≤ size_by (log_of input).letter
   sized = size_positive (log_of input).letter ((settled input).fits nothing).0
 
@@ -50,7 +49,7 @@ module _ (input : List ℕ) (nothing : (log_of input).alone ≡ goal.Nothing) wh
       }
 
 -- or what stands alone
-pub alone : (input : List ℕ) (i : Item) → (log_of input).alone ≡ goal.One i → items_of (log_of input) ≡ i ∷ []
+pub alone : (input : List ℕ) (i : Item) → (log_of input).alone ≡ Some i → items_of (log_of input) ≡ i ∷ []
 alone input i e = rw e
 
 -- each line is short, and there are not too many
@@ -61,9 +60,9 @@ record Small (lines : List (List ℕ)) : Type 0 where
 beside_small : (input : List ℕ) → Small (lines_of (items_of (log_of input)))
 beside_small input = go (log_of input).alone refl
   where
-    go : (g : Given) → (log_of input).alone ≡ g → Small (lines_of (items_of (log_of input)))
-    go (goal.One i) e = rw e (record { few = (opening_few, (few_line i (rw e at (settled input).sound.short), tt)); many = omega arith })
-    go goal.Nothing e =
+    go : (g : Option Item) → (log_of input).alone ≡ g → Small (lines_of (items_of (log_of input)))
+    go (Some i) e = rw e (record { few = (opening_few, (few_line i (rw e at (settled input).sound.short), tt)); many = omega arith })
+    go None e =
         let letter = (log_of input).letter in
         let words = (log_of input).words in
         let s = (settled input).sound in

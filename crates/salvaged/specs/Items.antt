@@ -1,6 +1,6 @@
 -- A log, to items of its listing: "It prints the reports and the rest in the listing's `R` and `D` lines, a `D` for each longest run of neighbouring
 -- bytes left out, at the line of its last byte."
-use Rattle.std.specs.Prelude.{ℕ, ◌+◌, List, [], ◌∷◌, ◌++◌, map, take, drop}
+use Rattle.std.specs.Prelude.{ℕ, ◌+◌, List, [], ◌∷◌, ◌++◌, map, take, drop, Option, None, Some}
 use Rattle.wire.specs.Line.{size_by}
 use Rattle.wire.specs.Reading.{report_by}
 use Rattle.choosing.specs.Pieces as piece
@@ -9,8 +9,6 @@ use Rattle.salvage.specs.Picking.{valid_by}
 use Rattle.listing.specs.Items.{report_item}
 use Rattle.listing.specs.declared.Item.{Item}
 use Rattle.listing.specs.declared.Item.TheVariants as item
-use Rattle.listing.specs.declared.Given.{Given}
-use Rattle.listing.specs.declared.Given.TheVariants as given
 use Rattle.salvaged.specs.Log.{Log}
 
 -- the bytes of the run that starts at a place
@@ -28,9 +26,9 @@ abbrev pub items_in : ℕ → List ℕ → List Item
 items_in letter words = map (item_of letter words) (pieces (size_by letter) (valid_by letter) words) ++ item.H 0 ∷ []
 
 -- or what "stands alone after `S`"
-abbrev pub items_beside : Given → List Item → List Item
-items_beside given.Nothing items = items
-items_beside (given.One i) items = i ∷ []
+abbrev pub items_beside : Option Item → List Item → List Item
+items_beside None items = items
+items_beside (Some i) items = i ∷ []
 
 abbrev pub items_of : Log → List Item
 items_of l = items_beside l.alone (items_in l.letter l.words)

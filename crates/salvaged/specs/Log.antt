@@ -1,5 +1,5 @@
 -- What a recording holds: a log of words, or what stands alone.
-use Rattle.std.specs.Prelude.{ℕ, cond, List, [], ◌∷◌, ◌++◌, length, leb}
+use Rattle.std.specs.Prelude.{ℕ, cond, List, [], ◌∷◌, ◌++◌, length, leb, Option, None, Some}
 use Rattle.wire.specs.Line.{marked_by}
 use Rattle.salvage.specs.Picking.{most_words}
 use Rattle.listing.specs.Scanning.{width, recording_of}
@@ -7,25 +7,23 @@ use Rattle.listing.specs.declared.Found.{Found}
 use Rattle.listing.specs.declared.Found.TheVariants as found
 use Rattle.listing.specs.declared.Item.{Item}
 use Rattle.listing.specs.declared.Item.TheVariants as item
-use Rattle.listing.specs.declared.Given.{Given}
-use Rattle.listing.specs.declared.Given.TheVariants as given
 
 -- its format, its words, and what stands alone, if anything
 pub record Log : Type 0 where
   pub letter : ℕ
   pub words : List ℕ
-  pub alone : Given
+  pub alone : Option Item
 
-abbrev pub log : ℕ → List ℕ → Given → Log
+abbrev pub log : ℕ → List ℕ → Option Item → Log
 log letter words alone = record { letter = letter; words = words; alone = alone }
 
 -- before anything is found
 abbrev pub empty : Log
-empty = log 0 [] given.Nothing
+empty = log 0 [] None
 
 -- "Refusal 13 prints `E` and line 1": where the format is marked
-unfoldable pub marked : ℕ → Given
-marked f = cond (marked_by f) (given.One (item.E 1)) given.Nothing
+unfoldable pub marked : ℕ → Option Item
+marked f = cond (marked_by f) (Some (item.E 1)) None
 
 abbrev pub format_heard : Log → ℕ → Log
 format_heard l f = log f l.words (marked f)
@@ -33,12 +31,12 @@ format_heard l f = log f l.words (marked f)
 -- "14 `E` and `over`": at a word more than may be
 unfoldable pub word_heard : Log → ℕ → Log
 word_heard l w =
-    cond (leb most_words (length l.words)) (log l.letter l.words (given.One item.Over))
-    (log l.letter (l.words ++ w ∷ []) given.Nothing)
+    cond (leb most_words (length l.words)) (log l.letter l.words (Some item.Over))
+    (log l.letter (l.words ++ w ∷ []) None)
 
 -- "or a bad line's `E`"
 abbrev pub alone_heard : Log → Item → Log
-alone_heard l i = log l.letter l.words (given.One i)
+alone_heard l i = log l.letter l.words (Some i)
 
 abbrev pub new_heard : Log → Found → Log
 new_heard l found.Nothing = l
@@ -49,9 +47,9 @@ new_heard l found.Over = alone_heard l item.Over
 new_heard l found.End = l
 
 -- "whichever comes first": nothing is heard behind it
-abbrev pub unless : Given → Log → Log → Log
-unless given.Nothing l next = next
-unless (given.One i) l next = l
+abbrev pub unless : Option Item → Log → Log → Log
+unless None l next = next
+unless (Some i) l next = l
 
 unfoldable pub heard : Log → Found → Log
 heard l f = unless l.alone l (new_heard l f)

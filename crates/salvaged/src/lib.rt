@@ -3,7 +3,7 @@
 
 ghost use Rattle.salvaged.specs.Promises.{ListPromise};
 
-use listing::Given;
+use listing::Item;
 
 mod lines;
 mod log;
@@ -21,7 +21,7 @@ pub struct Salvaged {
 pub(crate) struct Heard {
     pub letter: u8,
     pub count: usize,
-    pub alone: Given,
+    pub alone: Option<Item>,
 }
 
 // How far a log has been printed: the place, the bytes left out right before it, and what is told so far.

@@ -6,10 +6,10 @@ ghost use Rattle.salvaged.specs.Log.{marked, word_heard, new_heard, heard, log_o
 ghost use Rattle.salvaged.specs.Hearing.{Numbered, log_in, Fine, Hears};
 
 use crate::Heard;
-use listing::{Found, Given, Item, Scanner};
+use listing::{Found, Item, Scanner};
 use salvage::MOST;
 
-fn made(letter: u8, count: usize, alone: Given) -> Heard
+fn made(letter: u8, count: usize, alone: Option<Item>) -> Heard
     ensures { result ≡ record { letter = letter; count = count; alone = alone } }
 {
     Heard {
@@ -20,13 +20,13 @@ fn made(letter: u8, count: usize, alone: Given) -> Heard
 }
 
 // What stands alone where the format is marked.
-fn marked(letter: u8) -> Given
+fn marked(letter: u8) -> Option<Item>
     ensures { result ≡ marked letter }
 {
     if wire::marked(letter) {
-        return Given::One(Item::E(1));
+        return Some(Item::E(1));
     }
-    Given::Nothing
+    None
 }
 
 // A word more, or that it is one too many.
@@ -36,10 +36,10 @@ fn word(log: Heard, w: u16, words: &mut [u16]) -> Heard
 {
     let n = log.count;
     if n >= MOST {
-        return made(log.letter, n, Given::One(Item::Over));
+        return made(log.letter, n, Some(Item::Over));
     }
     words[n] = w;
-    made(log.letter, n + 1, Given::Nothing)
+    made(log.letter, n + 1, None)
 }
 
 // What is found, where nothing stands alone yet.
@@ -52,8 +52,8 @@ fn news(log: Heard, found: Found, words: &mut [u16]) -> Heard
         Found::Nothing => log,
         Found::Format(letter) => made(letter, n, marked(letter)),
         Found::Word(_, w) => word(log, w, words),
-        Found::Bad(line) => made(log.letter, n, Given::One(Item::E(line))),
-        Found::Over => made(log.letter, n, Given::One(Item::Over)),
+        Found::Bad(line) => made(log.letter, n, Some(Item::E(line))),
+        Found::Over => made(log.letter, n, Some(Item::Over)),
         Found::End => log,
     }
 }
@@ -65,8 +65,8 @@ fn hear(log: Heard, found: Found, words: &mut [u16]) -> Heard
 {
     let alone = log.alone;
     match alone {
-        Given::Nothing => news(log, found, words),
-        Given::One(_) => log,
+        None => news(log, found, words),
+        Some(_) => log,
     }
 }
 
@@ -95,7 +95,7 @@ pub(crate) fn read(input: &[u8], words: &mut [u16]) -> Heard
         held: [0, 0, 0, 0, 0],
         count: 0,
     };
-    let mut log = made(0, 0, Given::Nothing);
+    let mut log = made(0, 0, None);
     let mut at: usize = 0;
     while at < input.len() {
         let scan = scanner.byte(input[at]);

@@ -11,7 +11,7 @@ ghost use Rattle.salvaged.specs.Promises.{whole, told};
 ghost use Rattle.salvaged.specs.Walk.{Adds, AddsLeft, lines_in, Words, RunOf, five_in, Here, Stepped};
 
 use crate::{Salvaged, Step, lines};
-use listing::{Given, Item};
+use listing::Item;
 
 fn reached(at: usize, left: usize, told: Salvaged) -> Step
     ensures { result ≡ record { at = at; left = left; told = told } }
@@ -100,21 +100,21 @@ fn walk(letter: u8, size: usize, words: &[u16], told: Salvaged, out: &mut [u8]) 
 }
 
 // What stands alone, or what the words fall into and then `H` and 0.
-fn items(letter: u8, alone: Given, words: &[u16], told: Salvaged, out: &mut [u8]) -> Salvaged
+fn items(letter: u8, alone: Option<Item>, words: &[u16], told: Salvaged, out: &mut [u8]) -> Salvaged
     requires { (length words.now ≤ most_words) × ShortGiven alone }
     ensures { Adds (map item_line (items_beside alone (items_in letter words.now))) told out.old result out.new }
 {
     match alone {
-        Given::Nothing => {
+        None => {
             let all = walk(letter, wire::size(letter), words, told, out);
             lines::item(all, Item::H(0), out)
         }
-        Given::One(item) => lines::item(told, item, out),
+        Some(item) => lines::item(told, item, out),
     }
 }
 
 // The listing, behind its first line.
-pub(crate) fn print(letter: u8, alone: Given, words: &[u16], out: &mut [u8]) -> Salvaged
+pub(crate) fn print(letter: u8, alone: Option<Item>, words: &[u16], out: &mut [u8]) -> Salvaged
     requires { (length words.now ≤ most_words) × ShortGiven alone }
     ensures { whole result out.new ≡ told (add_all (length out.old) start (lines_of (items_beside alone (items_in letter words.now)))) out.old }
 {

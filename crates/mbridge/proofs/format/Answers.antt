@@ -1,4 +1,5 @@
 -- A fresh bridge, and the line of V.
+use Rattle.bridge.proofs.Goodness.{fresh_or}
 use borrow.Author.Rules.{rules}
 use mathlib.Core.Path.{◌≡◌, ◌∙◌, ap}
 use Rattle.bridge.specs.Promises.{NewBridge}
@@ -7,4 +8,4 @@ use Rattle.mbridge.proofs.format.Goals as goal
 
 pub returns : goal.returns
 unfolding bridge_behind lines_for
-returns c = record { next = ap (λ (n : NewBridge). n.bridge) c.fresh-new.ensures; lines = c.bytes_to-end.ensures }
+returns c = record { next = fresh_or _ _ c.unwrap_or_default-next.ensures ∙ ap (λ (n : NewBridge). n.bridge) c.fresh.ensures; lines = c.bytes_to-end.ensures }

@@ -1,3 +1,4 @@
+use Rattle.bridge.proofs.Goodness.{fresh_or}
 use borrow.Author.Rules.{rules}
 use native.Mathlib.Omega.{arith}
 use Prim.Native.Nat.{suc, ◌-◌}
@@ -15,8 +16,8 @@ use Rattle.mbridge.proofs.whole.Goals as goal
 pub loop-went-init : goal.loop-went-init
 loop-went-init c =
     let lister = c.fresh-lister in
-    let new = c.fresh-new in
-    (starts c.args.turn.now c.requires.0 lister.result.scanner new.result.bridge (ap (λ (m : Lister). m.scanner) lister.ensures) (ap (λ (n : NewBridge). n.bridge) new.ensures), refl, refl)
+    let bridge = c.unwrap_or_default-bridge in
+    (starts c.args.turn.now c.requires.0 lister.result.scanner bridge.result (ap (λ (m : Lister). m.scanner) lister.ensures) (fresh_or _ _ bridge.ensures ∙ ap (λ (n : NewBridge). n.bridge) c.fresh.ensures), refl, refl)
 
 pub block-went-requires : goal.block-went-requires
 block-went-requires c =

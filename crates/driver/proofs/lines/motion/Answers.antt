@@ -14,4 +14,4 @@ pub returns : goal.returns
 returns c = let l = c.args.bytes.now in
     let n = c.length_to-n in
     let size : n.result - 0 ≡ n.result = omega arith in
-    two_fields l n.result _ _ _ n.ensures (rw size at c.read.ensures) (c.read-2.ensures ∙ ap (number_in plain) (rest_is l (n.result + 1))) c.motion_of.ensures
+    two_fields l n.result _ _ _ n.ensures (rw size at c.number.ensures) (c.number-2.ensures ∙ ap (number_in plain) (rest_is l (n.result + 1))) c.motion_of.ensures

@@ -20,26 +20,26 @@ inside x h = let e = neither (lt_z x least) (lt_z most x) h in between_fits {lo 
 
 pub overflow_cast-result : goal.overflow_cast-result
 overflow_cast-result c =
-    let fits : SFits w16 (to_z w64 (of_z w64 c.in-Is.dx)) × SFits w16 (to_z w64 (of_z w64 c.in-Is-y.dy)) = let e = neither _ _ c.if-dx-dy.false in (inside _ e.0, inside _ e.1) in
+    let fits : SFits w16 (to_z w64 (of_z w64 c.in-Some.dx)) × SFits w16 (to_z w64 (of_z w64 c.in-Some-y.dy)) = let e = neither _ _ c.if-dx-dy.false in (inside _ e.0, inside _ e.1) in
     fits.0
 
 pub overflow_cast-result-else-dx-dy : goal.overflow_cast-result-else-dx-dy
 overflow_cast-result-else-dx-dy c =
-    let fits : SFits w16 (to_z w64 (of_z w64 c.in-Is.dx)) × SFits w16 (to_z w64 (of_z w64 c.in-Is-y.dy)) = let e = neither _ _ c.if-dx-dy.false in (inside _ e.0, inside _ e.1) in
+    let fits : SFits w16 (to_z w64 (of_z w64 c.in-Some.dx)) × SFits w16 (to_z w64 (of_z w64 c.in-Some-y.dy)) = let e = neither _ _ c.if-dx-dy.false in (inside _ e.0, inside _ e.1) in
     fits.1
 
 pub returns-then-dx-dy : goal.returns-then-dx-dy
-returns-then-dx-dy c = let x = c.in-Is.dx in
-    let y = c.in-Is-y.dy in
+returns-then-dx-dy c = let x = c.in-Some.dx in
+    let y = c.in-Some-y.dy in
     let same_x : to_z w64 (of_z w64 x) ≡ x = search rules in
     let same_y : to_z w64 (of_z w64 y) ≡ y = search rules in
-    rw (c.in-Is.is, c.in-Is-y.is, rw (same_x, same_y) at c.if-dx-dy.true)
+    rw (c.in-Some.is, c.in-Some-y.is, rw (same_x, same_y) at c.if-dx-dy.true)
 
 pub returns-else-dx-dy : goal.returns-else-dx-dy
 returns-else-dx-dy c =
-    let fits : SFits w16 (to_z w64 (of_z w64 c.in-Is.dx)) × SFits w16 (to_z w64 (of_z w64 c.in-Is-y.dy)) = let e = neither _ _ c.if-dx-dy.false in (inside _ e.0, inside _ e.1) in
-    let x = c.in-Is.dx in
-    let y = c.in-Is-y.dy in
+    let fits : SFits w16 (to_z w64 (of_z w64 c.in-Some.dx)) × SFits w16 (to_z w64 (of_z w64 c.in-Some-y.dy)) = let e = neither _ _ c.if-dx-dy.false in (inside _ e.0, inside _ e.1) in
+    let x = c.in-Some.dx in
+    let y = c.in-Some-y.dy in
     let same_x : to_z w64 (of_z w64 x) ≡ x = search rules in
     let same_y : to_z w64 (of_z w64 y) ≡ y = search rules in
-    rw (to_z-of_z fits.0, to_z-of_z fits.1, same_x, same_y, c.in-Is.is, c.in-Is-y.is, rw (same_x, same_y) at c.if-dx-dy.false)
+    rw (to_z-of_z fits.0, to_z-of_z fits.1, same_x, same_y, c.in-Some.is, c.in-Some-y.is, rw (same_x, same_y) at c.if-dx-dy.false)
