@@ -12,7 +12,7 @@ use Rattle.numbers.proofs.Held.{mag_sum}
 use Rattle.numbers.proofs.Choices.{cases}
 use Rattle.wire.specs.Line.{known}
 use Rattle.reader.specs.Promises.{FreshPromise, fresh_of}
-use Rattle.reader.specs.State.{NewReader}
+use Rattle.reader.specs.declared.NewReader.{NewReader}
 
 -- a number from -2048 to 2047 and one below 4096 have a sum of sixteen bits
 pub sum_fits : (z : ℤ) (k : ℕ) → mag z < 2048 → k < 4096 → SFits w16 (z +ℤ pos k)

@@ -21,7 +21,7 @@ use Rattle.hearing.specs.Steps.{Step}
 use Rattle.hearing.proofs.Steps.{then_more}
 use Rattle.reader.specs.Promises as reader
 use Rattle.reader.specs.Promises.{StepPromise}
-use Rattle.reader.specs.State.{Read}
+use Rattle.reader.specs.declared.Read.{Read}
 use Rattle.reader.specs.declared.Answer.{Answer}
 use Rattle.reader.proofs.Permitted.{step_is}
 use Rattle.mwatch.specs.declared.Look.{Look}
