@@ -13,9 +13,8 @@ use Rattle.bridge.specs.Good.{good}
 use Rattle.fold.specs.Calls.{line, call}
 use Rattle.fold.proofs.Calls.{call_line}
 use Rattle.bridge.specs.Line.{Long, bridges, converts}
-use Rattle.bridge.specs.Promises.{FreshPromise, ConvertPromise, fresh_of}
+use Rattle.bridge.specs.Promises.{NewBridge, FreshPromise, ConvertPromise, fresh_of}
 use Rattle.bridge.specs.declared.Bridge.{Bridge}
-use Rattle.bridge.specs.declared.NewBridge.{NewBridge}
 use Rattle.bridge.specs.declared.Converted.{Converted}
 use Rattle.bridge.proofs.Keeps.{word_keeps}
 use Rattle.bridge.proofs.Counted.{lawful}

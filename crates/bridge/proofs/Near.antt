@@ -1,12 +1,13 @@
 -- Sums and differences of 16-bit numbers, and what is left of them, are numbers that 32 bits hold.
 use Prim.Native.Nat.{ℕ, suc, ◌-◌}
-use mathlib.Core.Path.{◌≡◌}
+use mathlib.Core.Path.{◌≡◌, ◌∙◌}
 use native.Mathlib.Omega.{arith}
 use lib.Dec.{ltb}
 use lib.IntN.{ℤ, pos, negsuc, nat_abs, neg_ℤ, ◌+ℤ◌, ◌-ℤ◌}
 use borrow.Author.Tests.{ltb-true, ltb-false}
 use mir.Syntax.{w16, w32}
-use mir.Val.{SFits}
+use mir.Facts.{to_z-of_z, sfits_widen}
+use mir.Val.{SFits, to_z, of_z}
 use Rattle.numbers.specs.Signed.{excess}
 use Rattle.numbers.proofs.Choices.{cases}
 use Rattle.numbers.proofs.Held.{mag_sum}
@@ -54,3 +55,13 @@ near_leaves d h = omega (arith, leaves_less d, mag_magnitude (leaves d), magnitu
 
 pub near_rest : (m : Move) → NearMove m → NearMove (rest m)
 near_rest m h = (near_leaves m.x h.0, near_leaves m.y h.1)
+
+-- two 16-bit numbers, widened, and what is made of them
+pub widened : (op : ℤ → ℤ → ℤ) → ((a b : ℤ) → SFits w16 a → SFits w16 b → SFits w32 (op a b)) → (a b : ℤ) {f g : ℤ} → SFits w16 a → SFits w16 b
+    → f ≡ to_z w16 (of_z w16 a)
+    → g ≡ to_z w16 (of_z w16 b)
+    → to_z w32 (of_z w32 (op (to_z w32 (of_z w32 f)) (to_z w32 (of_z w32 g)))) ≡ op a b
+widened op fits a b h k e d =
+    let a_is : to_z w32 (of_z w32 a) ≡ a = to_z-of_z {w = w32} (sfits_widen tt h) in
+    let b_is : to_z w32 (of_z w32 b) ≡ b = to_z-of_z {w = w32} (sfits_widen tt k) in
+    rw (e ∙ to_z-of_z h, d ∙ to_z-of_z k, a_is, b_is) (to_z-of_z (fits a b h k))

@@ -4,9 +4,8 @@ use mathlib.Core.Path.{◌≡◌, sym, ◌∙◌, ap}
 use mathlib.Core.Bool.{Bool}
 use mathlib.Core.List.{List}
 use Rattle.bridge.specs.Line.{Long, told}
-use Rattle.bridge.specs.Promises.{FreshPromise, GoodPromise, ConvertPromise}
+use Rattle.bridge.specs.Promises.{NewBridge, FreshPromise, GoodPromise, ConvertPromise}
 use Rattle.bridge.specs.declared.Bridge.{Bridge}
-use Rattle.bridge.specs.declared.NewBridge.{NewBridge}
 use Rattle.bridge.specs.declared.Converted.{Converted}
 
 pub one_fresh : (letter : ℕ) (a b : NewBridge) → FreshPromise letter a → FreshPromise letter b → a ≡ b

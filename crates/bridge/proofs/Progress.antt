@@ -30,7 +30,7 @@ use Rattle.wire.proofs.Codec.Accepted.{OnePair, Held, parts}
 use Rattle.reader.specs.Rules.{word_of}
 use Rattle.reader.specs.Counts.{reports_in, handed_out}
 use Rattle.reader.specs.Runs.{steps_of, StepsPromise, answers}
-use Rattle.reader.specs.declared.Read.{Read}
+use Rattle.reader.specs.State.{Read}
 use Rattle.reader.specs.declared.Answer.{Answer}
 use Rattle.reader.specs.declared.Answer.TheVariants as answer
 use Rattle.reader.proofs.Parts as reader

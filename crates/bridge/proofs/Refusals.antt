@@ -14,17 +14,14 @@ use Rattle.frames.specs.Words.{silence}
 use Rattle.wire.specs.Line.{known, letter_of}
 use Rattle.wire.specs.Numbers.{success, bad_state, bad_letter, bad_word, accepted, refusal}
 use Rattle.wire.specs.declared.Format.TheVariants.{FiveByte}
-use Rattle.reader.specs.State.{fresh}
+use Rattle.reader.specs.State.{fresh, NewReader, Read}
 use Rattle.reader.specs.Promises as reader
-use Rattle.reader.specs.declared.NewReader.{NewReader}
-use Rattle.reader.specs.declared.Read.{Read}
 use Rattle.reader.proofs.Word.{word_number}
 use Rattle.reader.proofs.Refusals.{above}
 use Rattle.bridge.specs.Good.{good}
 use Rattle.bridge.specs.Line.{Long, whole, told, converts}
-use Rattle.bridge.specs.Promises.{FreshPromise, ConvertPromise, FreshRefusal, ConvertRefusal, with_none, fresh_of}
+use Rattle.bridge.specs.Promises.{NewBridge, FreshPromise, ConvertPromise, FreshRefusal, ConvertRefusal, with_none, fresh_of}
 use Rattle.bridge.specs.declared.Bridge.{Bridge}
-use Rattle.bridge.specs.declared.NewBridge.{NewBridge}
 use Rattle.bridge.specs.declared.Converted.{Converted}
 use Rattle.bridge.proofs.Counted.{lawful}
 

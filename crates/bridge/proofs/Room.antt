@@ -9,7 +9,7 @@ use Rattle.fold.proofs.Calls as calls
 use Rattle.wire.specs.Numbers.{success}
 use Rattle.reader.specs.Rules.{word_of}
 use Rattle.reader.specs.Promises.{StepPromise}
-use Rattle.reader.specs.declared.Read.{Read}
+use Rattle.reader.specs.State.{Read}
 use Rattle.reader.proofs.Permitted.{step_is}
 use Rattle.reader.proofs.Goodness.{step_word}
 use Rattle.bridge.specs.Good.{good}

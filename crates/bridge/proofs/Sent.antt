@@ -10,7 +10,7 @@ use Rattle.wire.specs.declared.Report.{Report}
 use Rattle.reader.specs.Rules.{word_of}
 use Rattle.reader.specs.Counts.{handed_out, dropped_among}
 use Rattle.reader.specs.Runs.{steps_of, StepsPromise, answers, reader_after}
-use Rattle.reader.specs.declared.Read.{Read}
+use Rattle.reader.specs.State.{Read}
 use Rattle.reader.specs.declared.Answer.{Answer}
 use Rattle.reader.specs.declared.Answer.TheVariants as answer
 use Rattle.reader.proofs.Word.{word_format}

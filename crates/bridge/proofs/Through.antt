@@ -14,18 +14,17 @@ use Rattle.reader.specs.Counts.{handed_out}
 use Rattle.reader.specs.Promises as reader
 use Rattle.reader.specs.Runs.{steps_of, StepsPromise, answers}
 use Rattle.reader.specs.DamagedLines.{HandsOutBy, HandsOut, HandsOutAt}
-use Rattle.reader.specs.declared.Read.{Read}
+use Rattle.reader.specs.State.{Read}
 use Rattle.reader.specs.declared.Answer.{Answer}
 use Rattle.reader.specs.declared.Answer.TheVariants as answer
 use Rattle.reader.proofs.Handed.{permitted, found_at}
 use Rattle.bridge.specs.Remembered.{is_a, none, movement, noted}
 use Rattle.bridge.specs.Splitting.{becomes, bytes_all}
 use Rattle.bridge.specs.Good.{good}
-use Rattle.bridge.specs.Promises.{FreshPromise, ConvertPromise, fresh_of}
+use Rattle.bridge.specs.Promises.{NewBridge, FreshPromise, ConvertPromise, fresh_of}
 use Rattle.bridge.specs.Sent.{sends, past_after}
 use Rattle.bridge.specs.declared.Past.{Past}
 use Rattle.bridge.specs.declared.Bridge.{Bridge}
-use Rattle.bridge.specs.declared.NewBridge.{NewBridge}
 use Rattle.bridge.specs.declared.Converted.{Converted}
 use Rattle.bridge.proofs.Goodness.{fresh_is_good}
 use Rattle.bridge.proofs.Progress.{Passed, passed}

@@ -9,8 +9,7 @@ use Rattle.numbers.proofs.Tested.{holds}
 use Rattle.reader.specs.State.{fresh, ready}
 use Rattle.bridge.specs.Remembered.{base_at}
 use Rattle.bridge.specs.Line.{Long}
-use Rattle.bridge.specs.Promises.{FreshPromise, GoodPromise, ConvertPromise, with_none}
-use Rattle.bridge.specs.declared.NewBridge.{NewBridge}
+use Rattle.bridge.specs.Promises.{NewBridge, FreshPromise, GoodPromise, ConvertPromise, with_none}
 use Rattle.bridge.proofs.Computing.{computing}
 
 -- a bridge of U for the letter T; and a letter that is not in the table taken without a word

@@ -7,7 +7,7 @@ use Rattle.wire.specs.Numbers.{bad_state}
 use Rattle.wire.specs.declared.Report.{Report}
 use Rattle.reader.specs.Rules.{word_of}
 use Rattle.reader.specs.Counts.{reports_in, dropped_in}
-use Rattle.reader.specs.declared.Read.{Read}
+use Rattle.reader.specs.State.{Read}
 use Rattle.reader.specs.declared.Answer.{Answer}
 use Rattle.reader.specs.declared.Answer.TheVariants as answer
 use Rattle.bridge.specs.Remembered.{noted}

@@ -1,7 +1,9 @@
 -- What is promised of `Bridge::fresh`, `Bridge::good` and `Bridge::convert`. "Tested in that order, where they apply; 0 is success."
-use Rattle.std.specs.Prelude.{ℕ, ◌≡◌, Bool, List, [], ◌∷◌, take}
+use Rattle.std.specs.Prelude.{ℕ, ◌≡◌, Bool, List, [], ◌∷◌, take, Result, Ok, Err}
 use Rattle.wire.specs.Line.{letter_of}
-use Rattle.wire.specs.Numbers.{bad_state, bad_letter, bad_word, RefusesRightly}
+use Rattle.wire.specs.Numbers.{success, bad_state, bad_letter, bad_word, RefusesRightly}
+use Rattle.wire.specs.Refusals.{number_of}
+use Rattle.wire.specs.declared.refusal.Refusal.{Refusal}
 use Rattle.wire.specs.declared.Format.TheVariants.{FiveByte}
 use Rattle.reader.specs.State as reader
 use Rattle.reader.specs.Promises as long
@@ -11,12 +13,20 @@ use Rattle.bridge.specs.Good.{good}
 use Rattle.fold.specs.Calls.{with_refusal, stopped, call}
 use Rattle.bridge.specs.Line.{Long, whole, converts}
 use Rattle.bridge.specs.declared.Bridge.{Bridge}
-use Rattle.bridge.specs.declared.NewBridge.{NewBridge}
 use Rattle.bridge.specs.declared.Converted.{Converted}
 
 -- a fresh bridge has a fresh reader and remembers nothing; 1 as in the reader, with a fresh one of U
 abbrev pub with_none : Reader → Bridge
 with_none r = record { reader = r; past = none }
+
+-- a new bridge: a number, and the bridge
+pub record NewBridge : Type 0 where
+  pub refusal : ℕ
+  pub bridge : Bridge
+
+abbrev pub new_in : Result Bridge Refusal → NewBridge
+new_in (Ok b) = record { refusal = success; bridge = b }
+new_in (Err e) = record { refusal = number_of e; bridge = with_none (reader.fresh (letter_of FiveByte)) }
 
 unfoldable pub fresh_of : ℕ → NewBridge
 fresh_of letter = record { refusal = (long.fresh_of letter).refusal; bridge = with_none (long.fresh_of letter).reader }

@@ -4,7 +4,7 @@ use Rattle.wire.specs.Table.{M}
 use Rattle.wire.specs.declared.Report.{Report}
 use Rattle.reader.specs.Counts.{handed_out, dropped_among}
 use Rattle.reader.specs.Runs.{answers, reader_after}
-use Rattle.reader.specs.declared.Read.{Read}
+use Rattle.reader.specs.State.{Read}
 use Rattle.bridge.specs.Remembered.{noted}
 use Rattle.bridge.specs.Splitting.{becomes, bytes_all}
 use Rattle.bridge.specs.declared.Past.{Past}

@@ -1,17 +1,22 @@
 // The bridge to recorders that know only V: line words of any format in, V bytes out. Here stand its parts, its numbers, and what a user calls.
 #![tactic(auto)]
 
-ghost use Rattle.bridge.specs.Promises.{FreshPromise, GoodPromise, ConvertPromise};
+ghost use Rattle.std.specs.Prelude.{◌≡◌};
+ghost use Rattle.wire.specs.Line.{letter_of};
+ghost use Rattle.wire.specs.declared.Format.TheVariants.{FiveByte};
+ghost use Rattle.reader.specs.State.{fresh};
+ghost use Rattle.bridge.specs.Promises.{with_none, new_in, FreshPromise, GoodPromise, ConvertPromise};
 
 use crate::line::converted;
 use reader::Reader;
-use wire::BAD_STATE;
+use wire::{BAD_STATE, Refusal};
 
 mod line;
 mod remembered;
 mod splitting;
 
-// The position of the last report of A, where there was one.
+// The position of the last report of A, where there was one. A flag with numbers beside it, and no Option: C hands in any such three, `bridge_back` of
+// istrolf gives each back as it came, and `good` and `convert` refuse numbers other than 0 beside no base, which an Option could not hold.
 #[derive(Clone, Copy, Drop)]
 pub struct Base {
     pub set: bool,
@@ -41,13 +46,6 @@ pub struct Move {
     pub y: i32,
 }
 
-// A new bridge, or why there is none of this letter.
-#[derive(Clone, Copy, Drop)]
-pub struct NewBridge {
-    pub refusal: u8,
-    pub bridge: Bridge,
-}
-
 // What a long call gives back: also the words taken, the reports that came in, the V reports written and the bytes dropped.
 #[derive(Clone, Copy, Drop)]
 pub struct Converted {
@@ -59,30 +57,35 @@ pub struct Converted {
     pub dropped: usize,
 }
 
-impl Bridge {
-    // A fresh bridge: a fresh reader, no base, the middle up, no press. A letter that is not in the table is refused with 1 and a fresh one of U.
-    pub fn fresh(letter: u8) -> NewBridge
-        ensures { FreshPromise letter result }
-    {
-        let new = Reader::fresh(letter);
-        let reader = new.reader;
-        NewBridge {
-            refusal: new.refusal,
-            bridge: Bridge {
-                reader: reader,
-                past: Past::none(),
-            },
+// A fresh bridge of U, where there is none of a letter.
+impl Default for Bridge {
+    ghost is_default = { λ b. b ≡ with_none (fresh (letter_of FiveByte)) };
+
+    fn default() -> Bridge {
+        Bridge {
+            reader: Reader::default(),
+            past: Past::none(),
         }
+    }
+}
+
+impl Bridge {
+    // A fresh bridge: a fresh reader, no base, the middle up, no press. A letter that is not in the table is refused.
+    pub fn fresh(letter: u8) -> Result<Bridge, Refusal>
+        ensures { FreshPromise letter (new_in result) }
+    {
+        let reader = Reader::fresh(letter)?;
+        Ok(Bridge {
+            reader,
+            past: Past::none(),
+        })
     }
 
     // Whether the bridge is good: a long call of any other is refused with 6.
     pub fn good(self) -> bool
         ensures { GoodPromise self result }
     {
-        let reader = self.reader;
-        let past = self.past;
-        let base = past.base;
-        reader.good() & base.good(reader.format)
+        self.reader.good() & self.past.base.good(self.reader.format)
     }
 
     // A line of words, and the bytes of its V reports to a lent slice.

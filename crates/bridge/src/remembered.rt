@@ -1,45 +1,18 @@
 // What is remembered of the reports so far, and how a report moves by it.
-ghost use Rattle.std.specs.Prelude.{◌≡◌, pos, ◌+ℤ◌, ◌-ℤ◌};
-ghost use Rattle.bridge.specs.Remembered.{none, most_set, good_base, summed, since_base, movement, one_more, counted_by, noted};
+ghost use Rattle.std.specs.Prelude.{◌≡◌, pos};
+ghost use Rattle.bridge.specs.Remembered.{none, most_set, good_base, summed, since_base, movement, counted_by, noted};
 
 use crate::{Base, Move, Past};
 use wire::{FORMAT_A, Report};
-
-// The sum of two, and the difference.
-fn sum(a: i16, b: i16) -> i32
-    ensures { result ≡ a +ℤ b }
-{
-    (a as i32) + (b as i32)
-}
-
-fn difference(a: i16, b: i16) -> i32
-    ensures { result ≡ a -ℤ b }
-{
-    (a as i32) - (b as i32)
-}
 
 // Both pairs of a report, summed.
 fn summed(report: Report) -> Move
     ensures { result ≡ summed report }
 {
-    let x1 = report.x1;
-    let y1 = report.y1;
-    let x2 = report.x2;
-    let y2 = report.y2;
     Move {
-        x: sum(x1, x2),
-        y: sum(y1, y2),
+        x: i32::from(report.x1) + i32::from(report.x2),
+        y: i32::from(report.y1) + i32::from(report.y2),
     }
-}
-
-// A press more, held at 65535.
-fn one_more(presses: u16) -> u16
-    ensures { result ≡ one_more presses }
-{
-    if presses < 65535 {
-        return presses + 1;
-    }
-    presses
 }
 
 impl Base {
@@ -55,10 +28,8 @@ impl Base {
         ensures { result ≡ good_base letter self }
     {
         let most = self.most();
-        let x = self.x;
-        let y = self.y;
-        let east = (0 <= x) & (x <= most);
-        let north = (0 <= y) & (y <= most);
+        let east = (0 <= self.x) & (self.x <= most);
+        let north = (0 <= self.y) & (self.y <= most);
         (!self.set | (letter == FORMAT_A)) & east & north
     }
 
@@ -69,13 +40,9 @@ impl Base {
         if !self.set {
             return Move { x: 0, y: 0 };
         }
-        let x1 = report.x1;
-        let y1 = report.y1;
-        let x = self.x;
-        let y = self.y;
         Move {
-            x: difference(x1, x),
-            y: difference(y1, y),
+            x: i32::from(report.x1) - i32::from(self.x),
+            y: i32::from(report.y1) - i32::from(self.y),
         }
     }
 }
@@ -101,8 +68,7 @@ impl Past {
         ensures { result ≡ movement letter self report }
     {
         if letter == FORMAT_A {
-            let base = self.base;
-            return base.since(report);
+            return self.base.since(report);
         }
         summed(report)
     }
@@ -112,7 +78,7 @@ impl Past {
         ensures { result ≡ counted_by self down }
     {
         if down & !self.middle {
-            return one_more(self.presses);
+            return self.presses.saturating_add(1);
         }
         self.presses
     }
@@ -125,18 +91,16 @@ impl Past {
         let presses = self.counted(down);
         let mut base = self.base;
         if letter == FORMAT_A {
-            let x = report.x1;
-            let y = report.y1;
             base = Base {
                 set: true,
-                x: x,
-                y: y,
+                x: report.x1,
+                y: report.y1,
             };
         }
         Past {
-            base: base,
+            base,
             middle: down,
-            presses: presses,
+            presses,
         }
     }
 }

@@ -1,5 +1,5 @@
 // A movement, split into V reports.
-ghost use Rattle.std.specs.Prelude.{◌≡◌, ◌++◌, ◌*◌, ◌<◌, ◌≤◌, max, length, drop, nat_abs};
+ghost use Rattle.std.specs.Prelude.{◌≡◌, ◌++◌, ◌*◌, ◌<◌, ◌≤◌, length, drop};
 ghost use Rattle.wire.specs.Table.{bytes_of};
 ghost use Rattle.wire.specs.declared.Format.TheVariants.{Microsoft};
 ghost use Rattle.bridge.specs.Splitting.{Near, NearMove, carries, leaves, needs, count_of, left_and_right, rest, report_v, split, bytes_all};
@@ -34,27 +34,12 @@ fn left(d: i32) -> i32
     0
 }
 
-// How far a movement goes, whatever its sign.
-fn magnitude(d: i32) -> usize
-    requires { Near d }
-    ensures { result ≡ nat_abs d }
-{
-    if d < 0 { (-d) as usize } else { d as usize }
-}
-
 // How many V reports an axis needs.
 fn needed(d: i32) -> usize
     requires { Near d }
     ensures { result ≡ needs d }
 {
-    (magnitude(d) + 126) / 127
-}
-
-// The larger of two.
-fn larger(a: usize, b: usize) -> usize
-    ensures { result ≡ max a b }
-{
-    if a < b { b } else { a }
+    (d.unsigned_abs() as usize + 126) / 127
 }
 
 // The buttons of a V report.
@@ -70,7 +55,7 @@ impl Move {
         requires { NearMove self }
         ensures { result ≡ count_of self }
     {
-        larger(1, larger(needed(self.x), needed(self.y)))
+        needed(self.x).max(needed(self.y)).max(1)
     }
 
     // What a V report leaves of it.
@@ -112,13 +97,8 @@ pub(crate) fn put(buttons: u8, count: usize, m: Move, out: &mut [u8])
     ensures { out.new ≡ bytes_all (split count buttons m) ++ drop (3 * count) out.old }
 {
     let mut left = m;
-    let mut n = count;
-    let mut at: usize = 0;
-    while n > 0 {
-        left.write(buttons, &mut out[at..]);
-        let rest = left.rest();
-        left = rest;
-        at = at + 3;
-        n = n - 1;
+    for n in 0..count {
+        left.write(buttons, &mut out[3 * n..]);
+        left = left.rest();
     }
 }

@@ -1,15 +1,8 @@
 // The box: steps.
-use crate::{draws, mixes};
+use crate::{Stand, draws, mixes};
 use ballbox::{BallBox, Event, Excess, Going, Memory, Pair, Settings, Sums, Track};
 
-// The sum so far, and the box that came back.
-#[derive(Clone, Copy, Drop)]
-pub(crate) struct Stand {
-    pub sum: u64,
-    pub next: BallBox,
-}
-
-pub(crate) fn first() -> Stand {
+pub(crate) fn first() -> Stand<BallBox> {
     Stand {
         sum: 0,
         next: BallBox::fresh(),
@@ -109,14 +102,11 @@ fn any(call: u64) -> BallBox {
 
 // The box of a call: a fresh one, any, or the one that came back before.
 fn chosen(last: BallBox, call: u64) -> BallBox {
-    let kind = draws::drawn(call, 88, 128);
-    if kind < 6 {
-        return BallBox::fresh();
+    match draws::drawn(call, 88, 128) {
+        0..=5 => BallBox::fresh(),
+        6 | 7 => any(call),
+        _ => last,
     }
-    if kind < 8 {
-        return any(call);
-    }
-    last
 }
 
 fn pair(h: u64, p: Pair) -> u64 {
@@ -131,15 +121,13 @@ fn mixed(h: u64, ball: BallBox) -> u64 {
     let s = ball.settings;
     let t = ball.track;
     let g = ball.going;
-    let bytes = g.bytes;
     let r = ball.memory;
-    let states = r.states;
     let sums = ball.sums;
     let set = mixes::byte(mixes::byte(mixes::byte(h, s.format), s.mode), s.buttons);
     let track = pair(pair(pair(set, t.counter), t.position), t.last);
-    let going = mixes::five(mixes::byte(mixes::byte(track, g.length), g.sent), &bytes);
+    let going = mixes::bytes(mixes::byte(mixes::byte(track, g.length), g.sent), &g.bytes);
     let memory = mixes::byte(
-        mixes::byte(mixes::eight(going, &states), r.count),
+        mixes::byte(mixes::bytes(going, &r.states), r.count),
         r.showing,
     );
     let thrown = excess(excess(memory, sums.limit), sums.counter);
@@ -147,23 +135,14 @@ fn mixed(h: u64, ball: BallBox) -> u64 {
 }
 
 fn event(call: u64) -> Event {
-    let kind = draws::drawn(call, 89, 6);
-    if kind == 0 {
-        return Event::Motion(draws::movement(call, 90), draws::movement(call, 91));
+    match draws::drawn(call, 89, 6) {
+        0 => Event::Motion(draws::movement(call, 90), draws::movement(call, 91)),
+        1 => Event::Buttons(draws::byte(call, 92, 9)),
+        2 => Event::Host(draws::host(call, 93)),
+        3 => Event::Latch,
+        4 => Event::Send,
+        _ => Event::Period,
     }
-    if kind == 1 {
-        return Event::Buttons(draws::byte(call, 92, 9));
-    }
-    if kind == 2 {
-        return Event::Host(draws::host(call, 93));
-    }
-    if kind == 3 {
-        return Event::Latch;
-    }
-    if kind == 4 {
-        return Event::Send;
-    }
-    Event::Period
 }
 
 // How many words, and the word.
@@ -172,7 +151,7 @@ fn sent(h: u64, count: u8, word: u16) -> u64 {
 }
 
 // One event.
-pub(crate) fn turn(last: Stand, call: u64) -> Stand {
+pub(crate) fn turn(last: Stand<BallBox>, call: u64) -> Stand<BallBox> {
     let ball = chosen(last.next, call);
     let s = ball.step(event(call));
     let next = s.next;

@@ -1,5 +1,5 @@
 // Draws: numbers that look random, each told by its call and its place, and the same in C.
-ghost use Rattle.std.specs.Prelude.{◌<◌, ◌≤◌};
+ghost use Rattle.std.specs.Prelude.{◌<◌};
 
 fn turned(x: u64) -> u64 {
     let y = ((x % 2147483648) * 1103515245 + 12345) % 2147483648;
@@ -89,11 +89,4 @@ pub(crate) fn word(call: u64, place: u64) -> u16 {
     } else {
         others[i - 56]
     }
-}
-
-// The lesser of two numbers.
-pub(crate) fn least(a: usize, b: usize) -> usize
-    ensures { (result ≤ a) × (result ≤ b) }
-{
-    if a < b { a } else { b }
 }

@@ -10,16 +10,21 @@ mod mixes;
 mod print;
 mod readers;
 
+// The sum so far, and what came back.
+#[derive(Clone, Copy, Drop)]
+pub(crate) struct Stand<T> {
+    sum: u64,
+    next: T,
+}
+
 fn main(rt: HostRuntime) {
     let mut read = readers::first();
     let mut stepped = boxes::first();
     let mut listed = listers::first();
-    let mut call: u64 = 0;
-    while call < 100000 {
+    for call in 0..100_000 {
         read = readers::turn(read, call);
         stepped = boxes::turn(stepped, call);
         listed = listers::turn(listed, call);
-        call += 1;
     }
     print::line(rt.stdout(), b"istrolf_reader_read", read.sum);
     print::line(rt.stdout(), b"istrolf_box", stepped.sum);

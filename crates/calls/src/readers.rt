@@ -1,20 +1,13 @@
 // The reader: long reads.
-use crate::{draws, mixes};
+use crate::{Stand, draws, mixes};
 use reader::{Reader, Reading};
-
-// The sum so far, and the reader that came back.
-#[derive(Clone, Copy, Drop)]
-pub(crate) struct Stand {
-    pub sum: u64,
-    pub next: Reader,
-}
 
 fn fresh_of(letter: u8) -> Reader {
     let new = Reader::fresh(letter);
     new.reader
 }
 
-pub(crate) fn first() -> Stand {
+pub(crate) fn first() -> Stand<Reader> {
     Stand {
         sum: 0,
         next: fresh_of(b'U'),
@@ -39,20 +32,17 @@ pub(crate) fn any(call: u64) -> Reader {
 
 // The reader of a call: a fresh one, any, or the one that came back before.
 fn chosen(last: Reader, call: u64) -> Reader {
-    let kind = draws::drawn(call, 1, 16);
-    if kind == 0 {
-        return fresh_of(draws::letter(call, 2));
+    match draws::drawn(call, 1, 16) {
+        0 => fresh_of(draws::letter(call, 2)),
+        1 => any(call),
+        _ => last,
     }
-    if kind == 1 {
-        return any(call);
-    }
-    last
 }
 
 // The first of words, and the front of a slice.
 fn lent(reader: Reader, words: &[u16], count: usize, out: &mut [i16], room: usize) -> Reading {
-    let some = draws::least(count, words.len());
-    let places = draws::least(room, out.len());
+    let some = count.min(words.len());
+    let places = room.min(out.len());
     reader.read(&words[..some], &mut out[..places])
 }
 
@@ -63,7 +53,7 @@ fn mixed(h: u64, a: Reading) -> u64 {
 }
 
 // Many words, to a slice that holds sevens.
-pub(crate) fn turn(last: Stand, call: u64) -> Stand {
+pub(crate) fn turn(last: Stand<Reader>, call: u64) -> Stand<Reader> {
     let words = [
         draws::word(call, 30),
         draws::word(call, 31),
@@ -83,9 +73,8 @@ pub(crate) fn turn(last: Stand, call: u64) -> Stand {
         &mut out,
         draws::at(call, 41, 13),
     );
-    let next = a.next;
     Stand {
-        sum: mixes::twelve(mixed(last.sum, a), &out),
-        next: next,
+        sum: mixes::numbers(mixed(last.sum, a), &out),
+        next: a.next,
     }
 }

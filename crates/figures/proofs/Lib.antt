@@ -1,2 +1,2 @@
--- What the proofs share: laws of the encoder's and the reader's promises, and of a sum (Laws).
+-- What the proofs share: a law of the reader's promises (Laws).
 pub mod Laws

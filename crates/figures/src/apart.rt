@@ -26,10 +26,8 @@ fn lone_break(output: Stdout) {
 // So many words more, with no Latch.
 fn sends(output: Stdout, run: Run, count: u8) -> Run {
     let mut next = run;
-    let mut left = count;
-    while left > 0 {
+    for _ in 0..count {
         next = on(output, next, Event::Send);
-        left -= 1;
     }
     next
 }

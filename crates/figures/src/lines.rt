@@ -38,14 +38,10 @@ fn send(letter: u8, report: Report, words: &mut [u16], at: usize) -> usize
     ensures { result ≤ at + 5 }
 {
     let coded = encoded(letter, report);
-    let bytes = coded.bytes;
-    let count = coded.length;
-    let mut i = 0;
-    while i < count {
-        words[at + i] = bytes[i] as u16;
-        i += 1;
+    for (i, byte) in coded.bytes[..coded.length].iter().enumerate() {
+        words[at + i] = u16::from(*byte);
     }
-    at + count
+    at + coded.length
 }
 
 // A format's line, the numbers that its reports carry, and how many words it has.
@@ -54,26 +50,18 @@ fn lay(letter: u8, words: &mut [u16], sent: &mut [i16]) -> usize
     ensures { result ≤ length words.new }
 {
     let mut at = begun(letter, words);
-    let mut n = 0;
-    while n < REPORTS {
+    for n in 0..REPORTS {
         let report = made(letter, n as u8);
         at = send(letter, report, words, at);
         put(&mut sent[5 * n..], carried(letter, report));
-        n += 1;
     }
     at
 }
 
 // The first place at which two lines of numbers differ, or the end of both.
 fn difference(sent: &[i16; NUMBERS], read: &[i16; NUMBERS]) -> usize {
-    let mut i = 0;
-    while i < NUMBERS {
-        if sent[i] != read[i] {
-            return i;
-        }
-        i += 1;
-    }
-    i
+    let differs = sent.iter().zip(read).position(|(s, r)| s != r);
+    differs.unwrap_or(NUMBERS)
 }
 
 fn verdict(output: Stdout, place: usize) {

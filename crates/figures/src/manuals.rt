@@ -87,10 +87,8 @@ fn reply(output: Stdout, b: BallBox, letter: u8, question: u8, bytes: u8) -> Bal
 
 fn replies(output: Stdout, letters: &[u8], question: u8, bytes: u8) {
     let mut b = BallBox::fresh();
-    let mut i = 0;
-    while i < letters.len() {
-        b = reply(output, b, letters[i], question, bytes);
-        i += 1;
+    for letter in letters {
+        b = reply(output, b, *letter, question, bytes);
     }
     print::say(output, b"\n");
 }

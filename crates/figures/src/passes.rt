@@ -19,37 +19,33 @@ pub(crate) struct Pass {
     pub(crate) dropped: usize,
 }
 
-fn least(a: usize, b: usize) -> usize
-    ensures { (result ≤ a) × (result ≤ b) }
-{
-    if a < b { a } else { b }
-}
-
 // A call: the next words of the line, and places that are not used yet.
-fn call(reader: Reader, cut: Cut, words: &[u16], at: usize, out: &mut [i16], used: usize) -> Reading
-    requires { (at ≤ length words.now) × (used ≤ length out.old) }
-    ensures { (at + result.taken ≤ length words.now) × (used + 5 * result.reports ≤ length out.old) × (result.dropped + result.next.count ≤ result.taken + reader.count) }
+fn call(reader: Reader, cut: Cut, words: &[u16], out: &mut [i16]) -> Reading
+    ensures taken { result.taken ≤ length words.now }
+    ensures room { 5 * result.reports ≤ length out.old }
+    ensures few { result.dropped + result.next.count ≤ result.taken + reader.count }
 {
-    let end = at + least(words.len() - at, cut.words);
-    let last = used + least(out.len() - used, cut.places);
-    reader.read(&words[at..end], &mut out[used..last])
+    let some = cut.words.min(words.len());
+    let places = cut.places.min(out.len());
+    reader.read(&words[..some], &mut out[..places])
 }
 
 // The whole line, from a fresh reader on; each call has the reader that came back from the one before.
 pub(crate) fn passed(letter: u8, cut: Cut, words: &[u16], out: &mut [i16]) -> Pass {
     let new = Reader::fresh(letter);
     let mut next = new.reader;
+    let mut rest = words;
     let mut calls: usize = 0;
     let mut taken: usize = 0;
     let mut reports: usize = 0;
     let mut dropped: usize = 0;
-    while taken < words.len() {
-        let read = call(next, cut, words, taken, out, 5 * reports);
+    while !rest.is_empty() {
+        let read = call(next, cut, rest, &mut out[5 * reports..]);
         if read.taken == 0 {
             break;
         }
-        let back = read.next;
-        next = back;
+        next = read.next;
+        rest = &rest[read.taken..];
         calls += 1;
         taken += read.taken;
         reports += read.reports;

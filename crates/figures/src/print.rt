@@ -2,7 +2,7 @@
 ghost use Rattle.std.specs.Prelude.{◌<◌};
 
 use std::io::Stdout;
-use text::Text;
+use text::{PLAIN, Text};
 use wire::Report;
 
 pub(crate) fn say(output: Stdout, bytes: &[u8]) {
@@ -18,18 +18,12 @@ pub(crate) fn small(output: Stdout, n: u8) {
     number(output, n as usize);
 }
 
-// The first bytes, where there are so many.
-fn front(output: Stdout, bytes: &[u8], count: usize) {
-    if count <= bytes.len() {
-        say(output, &bytes[..count]);
-    }
-}
-
 // A sum of 64 bits.
 pub(crate) fn long(output: Stdout, v: i64) {
-    let decimal = Text::none().decimal(1, v);
-    let bytes = decimal.bytes;
-    front(output, &bytes, decimal.len);
+    let decimal = Text::none().decimal(PLAIN, v);
+    if let Some(shown) = decimal.bytes.get(..decimal.len) {
+        say(output, shown);
+    }
 }
 
 pub(crate) fn signed(output: Stdout, v: i16) {

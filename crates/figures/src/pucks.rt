@@ -41,10 +41,8 @@ fn on(output: Stdout, run: Run, e: Event) -> Run {
 // So many words more, with no Latch.
 fn sends(output: Stdout, run: Run, count: u8) -> Run {
     let mut next = run;
-    let mut left = count;
-    while left > 0 {
+    for _ in 0..count {
         next = on(output, next, Event::Send);
-        left -= 1;
     }
     next
 }
@@ -94,27 +92,18 @@ fn heard(output: Stdout, r: PuckReader, word: u16) -> PuckReader {
 // A fresh reader's answers to words, one after the other.
 fn answers(output: Stdout, words: &[u16]) {
     let mut next = PuckReader::fresh();
-    let mut i = 0;
-    while i < words.len() {
-        next = heard(output, next, words[i]);
-        i += 1;
+    for word in words {
+        next = heard(output, next, *word);
     }
     print::say(output, b", keeps ");
     print::small(output, next.count);
 }
 
-// The same to the first words, where there are so many.
-fn answers_to_first(output: Stdout, words: &[u16], count: usize) {
-    if count <= words.len() {
-        answers(output, &words[..count]);
-    }
-}
-
 // The same to the words of a run.
 fn answers_to(output: Stdout, run: Run) {
-    let line = run.line;
-    let words = line.words;
-    answers_to_first(output, &words, line.count);
+    if let Some(words) = run.line.words.get(..run.line.count) {
+        answers(output, words);
+    }
 }
 
 // "error 3DH and the buttons if any is down".
@@ -177,18 +166,12 @@ fn damaged(output: Stdout) {
     print::say(output, b"\n");
 }
 
+// Six numbers, each behind a blank.
 fn six(output: Stdout, numbers: &[i16; 6]) {
-    print::signed(output, numbers[0]);
-    print::say(output, b" ");
-    print::signed(output, numbers[1]);
-    print::say(output, b" ");
-    print::signed(output, numbers[2]);
-    print::say(output, b" ");
-    print::signed(output, numbers[3]);
-    print::say(output, b" ");
-    print::signed(output, numbers[4]);
-    print::say(output, b" ");
-    print::signed(output, numbers[5]);
+    for n in numbers {
+        print::say(output, b" ");
+        print::signed(output, *n);
+    }
 }
 
 // 001 section C.6.5: a self-test of revision 0 and maker 0, word by word and in a long read.
@@ -199,7 +182,7 @@ fn tested(output: Stdout, device: u16, error: u16, buttons: u16) {
     let mut numbers = [0i16; 6];
     let reader = PuckReader::fresh();
     reader.read(&words, &mut numbers);
-    print::say(output, b", numbers ");
+    print::say(output, b", numbers");
     six(output, &numbers);
     print::say(output, b"\n");
 }

@@ -21,7 +21,7 @@ pub(crate) struct Ranges {
     pub(crate) second: Values,
 }
 
-// The bytes of a report, and how many they are.
+// The bytes of a report, and how many they are: at most five, so no heap is needed.
 #[derive(Clone, Copy, Drop)]
 pub(crate) struct Coded {
     pub(crate) bytes: [u8; 5],
@@ -88,42 +88,34 @@ fn spread(n: u8, values: Values) -> i16
 pub(crate) fn made(letter: u8, n: u8) -> Report {
     let to = ranges_of(letter);
     let wide = n as u16;
-    let x = spread(n, to.x);
-    let y = spread((wide * 37 % 256) as u8, to.y);
-    let x2 = spread((wide * 91 % 256) as u8, to.second);
-    let y2 = spread((wide * 203 % 256) as u8, to.second);
     Report {
         buttons: n / 17 % 8,
-        x1: x,
-        y1: y,
-        x2: x2,
-        y2: y2,
+        x1: spread(n, to.x),
+        y1: spread((wide * 37 % 256) as u8, to.y),
+        x2: spread((wide * 91 % 256) as u8, to.second),
+        y2: spread((wide * 203 % 256) as u8, to.second),
     }
 }
 
 // A report as its format carries it: "V drops M".
-pub(crate) fn carried(letter: u8, report: Report) -> Report {
-    let mut r = report;
+pub(crate) fn carried(letter: u8, mut report: Report) -> Report {
     if letter == b'V' {
-        r.buttons = r.buttons / 4 * 4 + r.buttons % 2;
+        report.buttons = report.buttons / 4 * 4 + report.buttons % 2;
     }
-    r
+    report
 }
 
 // The five numbers of a report, to the front of a slice.
 pub(crate) fn put(numbers: &mut [i16], report: Report)
     requires { 5 ≤ length numbers.old }
 {
-    let buttons = report.buttons as i16;
-    let x1 = report.x1;
-    let y1 = report.y1;
-    let x2 = report.x2;
-    let y2 = report.y2;
-    numbers[0] = buttons;
-    numbers[1] = x1;
-    numbers[2] = y1;
-    numbers[3] = x2;
-    numbers[4] = y2;
+    numbers[..5].copy_from_slice(&[
+        i16::from(report.buttons),
+        report.x1,
+        report.y1,
+        report.x2,
+        report.y2,
+    ]);
 }
 
 // A report's bytes from the encoder; none where it is refused.
@@ -141,15 +133,11 @@ pub(crate) fn encoded(letter: u8, report: Report) -> Coded
 // A report, and its bytes from the encoder.
 pub(crate) fn show(output: Stdout, letter: u8, report: Report) {
     let coded = encoded(letter, report);
-    let bytes = coded.bytes;
-    let length = coded.length;
     print::report(output, report);
     print::say(output, b" is");
-    let mut i = 0;
-    while i < length {
+    for byte in &coded.bytes[..coded.length] {
         print::say(output, b" ");
-        print::byte(output, bytes[i]);
-        i += 1;
+        print::byte(output, *byte);
     }
     print::say(output, b"\n");
 }

@@ -6,9 +6,8 @@ use std::io::Stdout;
 
 // A byte of the host's: as its character where it has one, else in hexadecimal.
 fn host(output: Stdout, byte: u8) {
-    if (b' ' < byte) & (byte < 127) {
-        let character = [byte];
-        print::say(output, &character);
+    if byte.is_ascii_graphic() {
+        print::say(output, &[byte]);
     } else {
         print::byte(output, byte);
     }
@@ -62,7 +61,7 @@ pub(crate) fn refusal(output: Stdout, number: u8) {
 // The words that a run has room for.
 const ROOM: usize = 32;
 
-// The words that a run gave, as many as there is room for.
+// The words that a run gave, as many as there is room for: a run is passed by value, and no heap is used.
 #[derive(Clone, Copy, Drop)]
 pub(crate) struct Line {
     pub(crate) words: [u16; ROOM],
@@ -77,21 +76,20 @@ pub(crate) fn no_words() -> Line {
 }
 
 // A word behind the others.
-fn with_word(line: Line, word: u16) -> Line {
-    let mut l = line;
-    let at = l.count;
-    if at < ROOM {
-        l.words[at] = word;
-        l.count = at + 1;
+fn with_word(mut line: Line, word: u16) -> Line {
+    if line.count < ROOM {
+        line.words[line.count] = word;
+        line.count += 1;
     }
-    l
+    line
 }
 
 pub(crate) fn noted(line: Line, count: u8, word: u16) -> Line {
     if count == 1 {
-        return with_word(line, word);
+        with_word(line, word)
+    } else {
+        line
     }
-    line
 }
 
 // A run of the box: the box, and the words that it gave.
@@ -126,25 +124,21 @@ pub(crate) fn on(output: Stdout, run: Run, e: Event) -> Run {
 // The run after time for so many characters: each is latched for, and sent.
 pub(crate) fn on_slots(output: Stdout, run: Run, count: u8) -> Run {
     let mut next = run;
-    let mut left = count;
-    while left > 0 {
+    for _ in 0..count {
         next = on(output, next, Event::Latch);
         next = on(output, next, Event::Send);
-        left -= 1;
     }
     next
 }
 
 // The box after an event.
 pub(crate) fn after(output: Stdout, b: BallBox, e: Event) -> BallBox {
-    let run = on(output, started(b), e);
-    run.ball
+    on(output, started(b), e).ball
 }
 
 // The box after time for so many characters.
 pub(crate) fn slots(output: Stdout, b: BallBox, count: u8) -> BallBox {
-    let run = on_slots(output, started(b), count);
-    run.ball
+    on_slots(output, started(b), count).ball
 }
 
 fn answer(output: Stdout, a: Answer) {
@@ -188,26 +182,17 @@ fn judged(output: Stdout, letter: u8, words: &[u16]) {
 pub(crate) fn answers(output: Stdout, letter: u8, words: &[u16]) {
     let new = Reader::fresh(letter);
     let mut next = new.reader;
-    let mut i = 0;
-    while i < words.len() {
-        next = heard(output, next, words[i]);
-        i += 1;
+    for word in words {
+        next = heard(output, next, *word);
     }
     print::say(output, b", keeps ");
     print::small(output, next.count);
     judged(output, letter, words);
 }
 
-// The same to the first words, where there are so many.
-fn answers_to_first(output: Stdout, letter: u8, words: &[u16], count: usize) {
-    if count <= words.len() {
-        answers(output, letter, &words[..count]);
-    }
-}
-
 // The same to the words of a run.
 pub(crate) fn answers_to(output: Stdout, letter: u8, run: Run) {
-    let line = run.line;
-    let words = line.words;
-    answers_to_first(output, letter, &words, line.count);
+    if let Some(words) = run.line.words.get(..run.line.count) {
+        answers(output, letter, words);
+    }
 }

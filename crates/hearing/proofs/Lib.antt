@@ -1,2 +1,3 @@
--- A machine that hears bytes one by one.
+-- A machine that hears bytes (Steps), and the turns of a session (Turns).
 pub mod Steps
+pub mod Turns

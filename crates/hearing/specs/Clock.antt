@@ -1,9 +1,10 @@
 -- Whether the line is gone: the twentieth read in a row that brought nothing, in the second of the first.
-use Rattle.std.specs.Prelude.{ℕ, ◌+◌, Bool, false, cond, ltb}
+use Rattle.std.specs.Prelude.{ℕ, ◌+◌, Bool, cond, ltb, Option, Some, None}
 use Rattle.hearing.specs.declared.Clock.{Clock}
 
-abbrev pub clock : ℕ → Bool → Clock
-clock empty gone = record { empty = empty; gone = gone }
+abbrev pub clock : ℕ → Option Clock
+clock empty = Some (record { empty = empty })
 
-unfoldable pub turned_of : Clock → Bool → Bool → Clock
-turned_of c came same = cond came (clock 0 false) (cond (ltb c.empty 19) (clock (c.empty + 1) false) (clock 0 same))
+-- the clock behind a read; none where the line is gone
+abbrev pub turned_of : Clock → Bool → Bool → Option Clock
+turned_of c came same = cond came (clock 0) (cond (ltb c.empty 19) (clock (c.empty + 1)) (cond same None (clock 0)))

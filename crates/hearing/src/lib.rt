@@ -1,81 +1,72 @@
-// What the programs that listen to a serial line share: how they are called, and whether the line is gone.
+// What the programs that listen to a serial line share: how they are called, whether the line is gone (Clock), and the turns in which they hear it
+// (Session).
 #![tactic(auto)]
 
-ghost use Rattle.std.specs.Prelude.{◌≡◌};
+ghost use Rattle.std.specs.Prelude.{◌≡◌, Option};
 ghost use Rattle.hearing.specs.Called.{letter_in, small_in, tenths_in};
 ghost use Rattle.hearing.specs.Clock.{turned_of};
 
+pub use session::{Names, Session, Teller};
 use text::Number;
 
-// More turns than a run has: each takes a tenth of a second or brings a byte.
-pub const TURNS: u64 = 1_000_000_000_000_000;
+mod session;
 
-// The letter of a format, if a word is one; else 0.
-pub fn letter_in(word: &[u8]) -> u8
+// The letter of a format, if a word is one.
+pub fn letter_in(word: &[u8]) -> Option<u8>
     ensures { result ≡ letter_in word.now }
 {
-    if word.len() != 1 {
-        return 0;
+    match word {
+        [letter] if wire::known(*letter) => Some(*letter),
+        _ => None,
     }
-    let letter = word[0];
-    if wire::known(letter) {
-        return letter;
-    }
-    0
 }
 
-// A number from 1 to 255; 0 for any other.
-fn small(x: i64) -> u8
+// A number from 1 to 255.
+fn small(x: i64) -> Option<u8>
     ensures { result ≡ small_in x }
 {
     if x < 1 {
-        return 0;
+        return None;
     }
     if 255 < x {
-        return 0;
+        return None;
     }
-    x as u8
+    Some(x as u8)
 }
 
-// How many tenths of a second make a silence, if a word is such a number; else 0.
-pub fn tenths_in(word: &[u8]) -> u8
+// How many tenths of a second make a silence, if a word is such a number.
+pub fn tenths_in(word: &[u8]) -> Option<u8>
     ensures { result ≡ tenths_in word.now }
 {
-    let number = Number::read(word, 1);
-    match number {
-        Number::None => 0,
+    match Number::read(word, 1) {
+        Number::None => None,
         Number::Is(x) => small(x),
     }
 }
 
-// The reads in a row that brought nothing, and whether the line is gone.
+// The reads in a row that brought nothing.
 #[derive(Clone, Copy, Drop)]
 pub struct Clock {
     pub empty: u8,
-    pub gone: bool,
 }
 
 impl Clock {
     // A read: whether it brought bytes, and whether it was in the same second as the first of those that brought nothing. A read
-    // that waits for a tenth of a second is not answered twenty times in a second: then the line is gone.
-    pub fn turned(self, came: bool, same: bool) -> Clock
+    // that waits for a tenth of a second is not answered twenty times in a second: then the line is gone, and there is no clock.
+    pub fn turned(self, came: bool, same: bool) -> Option<Clock>
         ensures { result ≡ turned_of self came same }
     {
         if came {
-            return Clock {
-                empty: 0,
-                gone: false,
-            };
+            return Some(Clock { empty: 0 });
         }
         if self.empty < 19 {
-            return Clock {
+            return Some(Clock {
                 empty: self.empty + 1,
-                gone: false,
-            };
+            });
         }
-        Clock {
-            empty: 0,
-            gone: same,
+        if same {
+            return None;
         }
+        Some(Clock { empty: 0 })
     }
 }

@@ -14,7 +14,7 @@ use Rattle.reader.specs.Promises as reader
 use Rattle.reader.specs.Runs.{steps_of, answers}
 use Rattle.reader.specs.declared.Answer.{Answer}
 use Rattle.reader.specs.declared.Answer.TheVariants as answer
-use Rattle.reader.specs.declared.Read.{Read}
+use Rattle.reader.specs.State.{Read}
 use Rattle.reader.specs.declared.Reader.{Reader}
 use Rattle.reader.proofs.Handed.{permitted}
 use Rattle.replies.specs.Promises as replies

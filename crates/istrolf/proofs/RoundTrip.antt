@@ -1,4 +1,5 @@
 -- What C holds is what the library holds: packed and unpacked again it is the same, and what stands for a state is one that was packed.
+use Rattle.std.proofs.Common.{Option, None, Some}
 use Prim.Native.Nat.{ℕ, zero, suc}
 use mathlib.Core.Path.{◌≡◌, refl}
 use mathlib.Core.Bool.{true, ◌&&◌}
@@ -75,20 +76,20 @@ pub bridge_stands : (b : Bridge) → bridges.stands (bridges.packed b) ≡ true
 bridge_stands b = rw (mark_stands b.reader.awaiting, mark_stands b.past.base.set, mark_stands b.past.middle)
 
 -- a reader that is told of replies
-kind_back : (k : Kind) → told.kind_of (told.kind_number k) ≡ k
+kind_back : (k : Option Kind) → told.kind_of (told.kind_number k) ≡ k
 unfolding told.kind_of
-kind_back kind.Nothing = refl
-kind_back kind.Ack = refl
-kind_back kind.Code = refl
-kind_back kind.Letters = refl
-kind_back kind.Buttons = refl
+kind_back None = refl
+kind_back (Some kind.Ack) = refl
+kind_back (Some kind.Code) = refl
+kind_back (Some kind.Letters) = refl
+kind_back (Some kind.Buttons) = refl
 
-kind_stands : (k : Kind) → leb (told.kind_number k) 4 ≡ true
-kind_stands kind.Nothing = refl
-kind_stands kind.Ack = refl
-kind_stands kind.Code = refl
-kind_stands kind.Letters = refl
-kind_stands kind.Buttons = refl
+kind_stands : (k : Option Kind) → leb (told.kind_number k) 4 ≡ true
+kind_stands None = refl
+kind_stands (Some kind.Ack) = refl
+kind_stands (Some kind.Code) = refl
+kind_stands (Some kind.Letters) = refl
+kind_stands (Some kind.Buttons) = refl
 
 number_back : (n : ℕ) → leb n 4 ≡ true → told.kind_number (told.kind_of n) ≡ n
 unfolding told.kind_of

@@ -6,8 +6,7 @@ use Rattle.reader.specs.Line.{Long, reading as reading_of}
 use Rattle.reader.specs.declared.Answer.{Answer}
 use Rattle.reader.specs.declared.Answer.TheVariants as answer
 use Rattle.reader.specs.declared.Reader.{Reader}
-use Rattle.reader.specs.declared.NewReader.{NewReader}
-use Rattle.reader.specs.declared.Read.{Read}
+use Rattle.reader.specs.State.{NewReader, Read}
 use Rattle.reader.specs.declared.Reading.{Reading}
 use Rattle.ballbox.specs.Marks.{mark, marked, is_mark}
 use Rattle.istrolf.specs.declared.HeldReader.{HeldReader}

@@ -1,11 +1,11 @@
 -- A reader that is told of replies, as C holds it: the report reader, a number for the reply that is awaited, and what
 -- has come of it; and what its functions give back.
-use Rattle.std.specs.Prelude.{ℕ, Bool, cond, ◌&&◌, List, eqb, leb, ℤ}
+use Rattle.std.specs.Prelude.{ℕ, Bool, cond, ◌&&◌, List, eqb, leb, ℤ, Option, None, Some}
 use Rattle.wire.specs.Numbers.{bad_state}
 use Rattle.reader.specs.declared.Answer.{Answer}
 use Rattle.reader.specs.declared.Answer.TheVariants as answer
 use Rattle.replies.specs.Replying.{none, awaiting}
-use Rattle.replies.specs.Rules.{told_reader}
+use Rattle.replies.specs.Rules.{Heard, told_reader}
 use Rattle.replies.specs.Line.{Long, heard_line}
 use Rattle.replies.specs.declared.Kind.{Kind}
 use Rattle.replies.specs.declared.Kind.TheVariants as kind
@@ -13,9 +13,7 @@ use Rattle.replies.specs.declared.Came.{Came}
 use Rattle.replies.specs.declared.Reply.{Reply}
 use Rattle.replies.specs.declared.Reply.TheVariants as reply
 use Rattle.replies.specs.declared.ToldReader.{ToldReader}
-use Rattle.replies.specs.declared.NewToldReader.{NewToldReader}
-use Rattle.replies.specs.declared.Telling.{Telling}
-use Rattle.replies.specs.declared.Heard.{Heard}
+use Rattle.replies.specs.Promises.{Telling, NewToldReader}
 use Rattle.replies.specs.declared.HeardLine.{HeardLine}
 use Rattle.istrolf.specs.Readers as readers
 use Rattle.istrolf.specs.declared.HeldTold.{HeldTold}
@@ -27,20 +25,20 @@ use Rattle.istrolf.specs.declared.HeardWords.{HeardWords}
 use Rattle.istrolf.specs.declared.Own.{Own}
 
 -- the reply that is awaited: 0 none, 1 ACK, 2 that to `f`, 3 that to `t`, 4 that to 05H
-abbrev pub kind_number : Kind → ℕ
-kind_number kind.Nothing = 0
-kind_number kind.Ack = 1
-kind_number kind.Code = 2
-kind_number kind.Letters = 3
-kind_number kind.Buttons = 4
+abbrev pub kind_number : Option Kind → ℕ
+kind_number None = 0
+kind_number (Some kind.Ack) = 1
+kind_number (Some kind.Code) = 2
+kind_number (Some kind.Letters) = 3
+kind_number (Some kind.Buttons) = 4
 
-unfoldable pub kind_of : ℕ → Kind
+unfoldable pub kind_of : ℕ → Option Kind
 kind_of n =
-    cond (eqb n 1) kind.Ack
-    (cond (eqb n 2) kind.Code
-    (cond (eqb n 3) kind.Letters
-    (cond (eqb n 4) kind.Buttons
-    kind.Nothing)))
+    cond (eqb n 1) (Some kind.Ack)
+    (cond (eqb n 2) (Some kind.Code)
+    (cond (eqb n 3) (Some kind.Letters)
+    (cond (eqb n 4) (Some kind.Buttons)
+    None)))
 
 abbrev pub packed : ToldReader → HeldTold
 packed s = record { reader = readers.packed s.reader; awaited = kind_number s.awaited.kind; came = s.awaited.came }
@@ -59,16 +57,16 @@ packed_fresh n = record { refusal = n.refusal; told = packed n.reader }
 abbrev pub replied : ℕ → ℕ → ℕ → ℕ → Came → HeldReply
 replied kind format mode buttons came = record { kind = kind; format = format; mode = mode; buttons = buttons; came = came }
 
-abbrev pub packed_reply : Reply → HeldReply
-packed_reply reply.Nothing = replied 0 0 0 0 none
-packed_reply reply.Ack = replied 1 0 0 0 none
-packed_reply (reply.Format f) = replied 2 f 0 0 none
-packed_reply (reply.Letters f m) = replied 3 f m 0 none
-packed_reply (reply.Buttons n) = replied 4 0 0 n none
-packed_reply (reply.Broken came) = replied 5 0 0 0 came
+abbrev pub packed_reply : Option Reply → HeldReply
+packed_reply None = replied 0 0 0 0 none
+packed_reply (Some reply.Ack) = replied 1 0 0 0 none
+packed_reply (Some (reply.Format f)) = replied 2 f 0 0 none
+packed_reply (Some (reply.Letters f m)) = replied 3 f m 0 none
+packed_reply (Some (reply.Buttons n)) = replied 4 0 0 n none
+packed_reply (Some (reply.Broken came)) = replied 5 0 0 0 came
 
 abbrev pub no_reply : HeldReply
-no_reply = packed_reply reply.Nothing
+no_reply = packed_reply None
 
 -- the report reader's own answer: how many reports, 0 or 1, how many bytes dropped, and the report
 abbrev pub own_of : Answer → Own

@@ -5,7 +5,7 @@ ghost use Rattle.istrolf.specs.Promises.{FreshBridgePromise, ConvertPromise};
 
 use crate::{ConvertedWords, FreshBridge, HeldBridge, readers};
 use bridge::{Base, Bridge, Converted, Past};
-use wire::BAD_STATE;
+use wire::{BAD_STATE, SUCCESS};
 
 fn packed(bridge: Bridge) -> HeldBridge
     ensures { result ≡ packed bridge }
@@ -79,11 +79,15 @@ fn refused_converted(held: HeldBridge) -> ConvertedWords
 pub fn istrolf_bridge_fresh(letter: u8) -> FreshBridge
     ensures { FreshBridgePromise letter result }
 {
-    let fresh = Bridge::fresh(letter);
-    let bridge = packed(fresh.bridge);
-    FreshBridge {
-        refusal: fresh.refusal,
-        bridge: bridge,
+    match Bridge::fresh(letter) {
+        Ok(bridge) => FreshBridge {
+            refusal: SUCCESS,
+            bridge: packed(bridge),
+        },
+        Err(refusal) => FreshBridge {
+            refusal: refusal.number(),
+            bridge: packed(Bridge::default()),
+        },
     }
 }
 

@@ -1,15 +1,16 @@
 // The VSXXX puck and its reader for C.
 ghost use Rattle.std.specs.Prelude.{◌≡◌};
 ghost use Rattle.ballbox.specs.declared.Event.TheVariants.{Motion, Buttons, Host, Latch, Send, Period};
-ghost use Rattle.istrolf.specs.Pucks.{no_test, packed_read, packed_reading};
+ghost use Rattle.istrolf.specs.Pucks.{no_test, answered, packed_reading};
 ghost use Rattle.istrolf.specs.Promises.{MadePuckPromise, PuckStepPromise, FreshPuckReaderPromise, PuckReaderStepPromise, PuckReadPromise};
 
 use crate::readers::no_report;
 use crate::{ReadPuckWord, ReadPuckWords};
 use ballbox::Event;
 use puck::{Puck, PuckStepped};
-use puckreader::{PuckAnswer, PuckRead, PuckReader, PuckReading};
+use puckreader::{PuckAnswer, PuckReader, PuckReading};
 use vsxxx::SelfTest;
+use wire::SUCCESS;
 
 // Power-up: buttons modulo 8, revision modulo 16, maker modulo 8.
 pub fn istrolf_puck_made(buttons: u8, revision: u8, maker: u8) -> Puck
@@ -72,48 +73,31 @@ fn no_test() -> SelfTest
     }
 }
 
-fn packed_read(read: PuckRead) -> ReadPuckWord
-    ensures { result ≡ packed_read read }
+fn answered(refusal: u8, next: PuckReader, answer: PuckAnswer) -> ReadPuckWord
+    ensures { result ≡ answered refusal next answer }
 {
-    let next = read.next;
-    let answer = read.answer;
+    let nothing = ReadPuckWord {
+        refusal,
+        movements: 0,
+        tests: 0,
+        dropped: 0,
+        next,
+        movement: no_report(),
+        test: no_test(),
+    };
     match answer {
-        PuckAnswer::Nothing => ReadPuckWord {
-            refusal: read.refusal,
-            movements: 0,
-            tests: 0,
-            dropped: 0,
-            next: next,
-            movement: no_report(),
-            test: no_test(),
-        },
-        PuckAnswer::Movement(report) => ReadPuckWord {
-            refusal: read.refusal,
+        PuckAnswer::Nothing => nothing,
+        PuckAnswer::Movement(movement) => ReadPuckWord {
             movements: 1,
-            tests: 0,
-            dropped: 0,
-            next: next,
-            movement: report,
-            test: no_test(),
+            movement,
+            ..nothing
         },
         PuckAnswer::Test(test) => ReadPuckWord {
-            refusal: read.refusal,
-            movements: 0,
             tests: 1,
-            dropped: 0,
-            next: next,
-            movement: no_report(),
-            test: test,
+            test,
+            ..nothing
         },
-        PuckAnswer::Dropped(count) => ReadPuckWord {
-            refusal: read.refusal,
-            movements: 0,
-            tests: 0,
-            dropped: count,
-            next: next,
-            movement: no_report(),
-            test: no_test(),
-        },
+        PuckAnswer::Dropped(dropped) => ReadPuckWord { dropped, ..nothing },
     }
 }
 
@@ -141,7 +125,10 @@ pub fn istrolf_puck_reader_fresh() -> PuckReader
 pub fn istrolf_puck_reader_step(reader: PuckReader, word: u16) -> ReadPuckWord
     ensures { PuckReaderStepPromise reader word result }
 {
-    packed_read(reader.step(word))
+    match reader.step(word) {
+        Ok(step) => answered(SUCCESS, step.next, step.answer),
+        Err(refusal) => answered(refusal.number(), reader, PuckAnswer::Nothing),
+    }
 }
 
 // A line of words, and the numbers of its reports to a lent slice.

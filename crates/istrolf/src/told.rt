@@ -1,36 +1,38 @@
 // The reader that is told of replies, for C.
 ghost use Rattle.std.specs.Prelude.{◌≡◌};
 ghost use Rattle.replies.specs.declared.Asked.TheVariants.{Command, Waking};
+ghost use Rattle.replies.specs.Rules.{heard_in};
+ghost use Rattle.replies.specs.Promises.{telling_in};
 ghost use Rattle.istrolf.specs.Told.{kind_number, kind_of, packed, unpacked, stands, replied, packed_reply, own_of, packed_heard, refused_heard, packed_line, refused_line, packed_telling, refused_telling};
 ghost use Rattle.istrolf.specs.Promises.{FreshToldPromise, TellPromise, ToldStepPromise, ToldReadPromise};
 
 use crate::readers::no_report;
 use crate::{FreshTold, HeardWord, HeardWords, HeldReply, HeldTold, Own, ToldCommand, readers};
 use reader::Answer;
-use replies::{Asked, Awaited, Came, Heard, HeardLine, Kind, Reply, Telling, ToldReader};
-use wire::BAD_STATE;
+use replies::{Asked, Awaited, Came, HeardLine, Kind, Reply, Told, ToldReader, ToldStep};
+use wire::{BAD_STATE, Refusal, SUCCESS};
 
-fn kind_number(kind: Kind) -> u8
+fn kind_number(kind: Option<Kind>) -> u8
     ensures { result ≡ kind_number kind }
 {
     match kind {
-        Kind::Nothing => 0,
-        Kind::Ack => 1,
-        Kind::Code => 2,
-        Kind::Letters => 3,
-        Kind::Buttons => 4,
+        None => 0,
+        Some(Kind::Ack) => 1,
+        Some(Kind::Code) => 2,
+        Some(Kind::Letters) => 3,
+        Some(Kind::Buttons) => 4,
     }
 }
 
-fn kind_of(number: u8) -> Kind
+fn kind_of(number: u8) -> Option<Kind>
     ensures { result ≡ kind_of number }
 {
     match number {
-        1 => Kind::Ack,
-        2 => Kind::Code,
-        3 => Kind::Letters,
-        4 => Kind::Buttons,
-        _ => Kind::Nothing,
+        1 => Some(Kind::Ack),
+        2 => Some(Kind::Code),
+        3 => Some(Kind::Letters),
+        4 => Some(Kind::Buttons),
+        _ => None,
     }
 }
 
@@ -83,7 +85,7 @@ fn replied(kind: u8, format: u8, mode: u8, buttons: u8, came: Came) -> HeldReply
     }
 }
 
-fn packed_reply(reply: Reply) -> HeldReply
+fn packed_reply(reply: Option<Reply>) -> HeldReply
     ensures { result ≡ packed_reply reply }
 {
     let none = Came {
@@ -92,12 +94,12 @@ fn packed_reply(reply: Reply) -> HeldReply
         second: 0,
     };
     match reply {
-        Reply::Nothing => replied(0, 0, 0, 0, none),
-        Reply::Ack => replied(1, 0, 0, 0, none),
-        Reply::Format(f) => replied(2, f, 0, 0, none),
-        Reply::Letters(f, m) => replied(3, f, m, 0, none),
-        Reply::Buttons(n) => replied(4, 0, 0, n, none),
-        Reply::Broken(came) => replied(5, 0, 0, 0, came),
+        None => replied(0, 0, 0, 0, none),
+        Some(Reply::Ack) => replied(1, 0, 0, 0, none),
+        Some(Reply::Format(f)) => replied(2, f, 0, 0, none),
+        Some(Reply::Letters(f, m)) => replied(3, f, m, 0, none),
+        Some(Reply::Buttons(n)) => replied(4, 0, 0, n, none),
+        Some(Reply::Broken(came)) => replied(5, 0, 0, 0, came),
     }
 }
 
@@ -123,29 +125,37 @@ fn own(answer: Answer) -> Own
     }
 }
 
-fn packed_heard(heard: Heard) -> HeardWord
-    ensures { result ≡ packed_heard heard }
+// What a step gives back to the reader that took it.
+fn packed_heard(told: ToldReader, heard: Result<ToldStep, Refusal>) -> HeardWord
+    ensures { result ≡ packed_heard (heard_in told heard) }
 {
-    let answer = heard.answer;
-    let became = heard.reply;
-    let o = own(answer);
-    let report = o.report;
-    let reply = packed_reply(became);
-    let next = packed(heard.next);
-    HeardWord {
-        refusal: heard.refusal,
-        reports: o.reports,
-        dropped: o.dropped,
-        reply: reply,
-        next: next,
-        report: report,
+    match heard {
+        Ok(step) => {
+            let own = own(step.answer);
+            HeardWord {
+                refusal: SUCCESS,
+                reports: own.reports,
+                dropped: own.dropped,
+                reply: packed_reply(step.reply),
+                next: packed(step.next),
+                report: own.report,
+            }
+        }
+        Err(refusal) => HeardWord {
+            refusal: refusal.number(),
+            reports: 0,
+            dropped: 0,
+            reply: packed_reply(None),
+            next: packed(told),
+            report: no_report(),
+        },
     }
 }
 
 fn refused_heard(held: HeldTold) -> HeardWord
     ensures { result ≡ refused_heard held }
 {
-    let reply = packed_reply(Reply::Nothing);
+    let reply = packed_reply(None);
     let report = no_report();
     HeardWord {
         refusal: BAD_STATE,
@@ -176,7 +186,7 @@ fn packed_line(line: HeardLine) -> HeardWords
 fn refused_line(held: HeldTold) -> HeardWords
     ensures { result ≡ refused_line held }
 {
-    let reply = packed_reply(Reply::Nothing);
+    let reply = packed_reply(None);
     HeardWords {
         refusal: BAD_STATE,
         reply: reply,
@@ -187,14 +197,21 @@ fn refused_line(held: HeldTold) -> HeardWords
     }
 }
 
-fn packed_telling(telling: Telling) -> ToldCommand
-    ensures { result ≡ packed_telling telling }
+// And a telling.
+fn packed_telling(told: ToldReader, telling: Result<Told, Refusal>) -> ToldCommand
+    ensures { result ≡ packed_telling (telling_in told telling) }
 {
-    let next = packed(telling.next);
-    ToldCommand {
-        refusal: telling.refusal,
-        discarded: telling.discarded,
-        next: next,
+    match telling {
+        Ok(telling) => ToldCommand {
+            refusal: SUCCESS,
+            discarded: telling.discarded,
+            next: packed(telling.next),
+        },
+        Err(refusal) => ToldCommand {
+            refusal: refusal.number(),
+            discarded: 0,
+            next: packed(told),
+        },
     }
 }
 
@@ -212,11 +229,15 @@ fn refused_telling(held: HeldTold) -> ToldCommand
 pub fn istrolf_told_fresh(letter: u8) -> FreshTold
     ensures { FreshToldPromise letter result }
 {
-    let fresh = ToldReader::fresh(letter);
-    let told = packed(fresh.reader);
-    FreshTold {
-        refusal: fresh.refusal,
-        told: told,
+    match ToldReader::fresh(letter) {
+        Ok(told) => FreshTold {
+            refusal: SUCCESS,
+            told: packed(told),
+        },
+        Err(refusal) => FreshTold {
+            refusal: refusal.number(),
+            told: packed(ToldReader::default()),
+        },
     }
 }
 
@@ -227,7 +248,8 @@ pub fn istrolf_told_command(held: HeldTold, byte: u8) -> ToldCommand
     if !stands(held) {
         return refused_telling(held);
     }
-    packed_telling(unpacked(held).tell(Asked::Command(byte)))
+    let told = unpacked(held);
+    packed_telling(told, told.tell(Asked::Command(byte)))
 }
 
 // The byte just sent woke a dormant box.
@@ -237,7 +259,8 @@ pub fn istrolf_told_waking(held: HeldTold) -> ToldCommand
     if !stands(held) {
         return refused_telling(held);
     }
-    packed_telling(unpacked(held).tell(Asked::Waking))
+    let told = unpacked(held);
+    packed_telling(told, told.tell(Asked::Waking))
 }
 
 // One word.
@@ -247,7 +270,8 @@ pub fn istrolf_told_step(held: HeldTold, word: u16) -> HeardWord
     if !stands(held) {
         return refused_heard(held);
     }
-    packed_heard(unpacked(held).step(word))
+    let told = unpacked(held);
+    packed_heard(told, told.step(word))
 }
 
 // A line of words, and the numbers of its reports to a lent slice.

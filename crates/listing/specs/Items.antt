@@ -53,6 +53,14 @@ gave_of r (found.Bad n) = gave r (Some (item.E n))
 gave_of r found.Over = gave r (Some item.Over)
 gave_of r found.End = gave r (Some (item.H r.count))
 
+-- the number of an item's line, if it has one
+abbrev pub line_number_of : Item → Option ℕ
+line_number_of (item.D n k) = Some n
+line_number_of (item.R n b x y) = Some n
+line_number_of (item.H k) = None
+line_number_of (item.E n) = Some n
+line_number_of item.Over = None
+
 abbrev pub items_in : Option Item → List Item
 items_in None = []
 items_in (Some i) = i ∷ []

@@ -7,7 +7,7 @@ use Rattle.text.specs.Growth.{text_of}
 use Rattle.text.specs.declared.Text.{Text}
 use Rattle.wire.specs.declared.Report.{Report}
 use Rattle.listing.specs.Scanning.{width}
-use Rattle.listing.specs.Items.{report_item}
+use Rattle.listing.specs.Items.{report_item, line_number_of}
 use Rattle.listing.specs.Printing.{form_of, opening_s, line_of, line_at}
 use Rattle.listing.specs.Feeding.{fresh, Feed, feed_in, finish_in, good}
 use Rattle.listing.specs.declared.Scanner.{Scanner}
@@ -77,6 +77,10 @@ ReportedPromise letter n report answer = answer ≡ report_item letter n report
 -- `Item::line(self)`: the text of its line
 abbrev pub ItemLinePromise : Item → Text → Type 0
 ItemLinePromise item answer = answer ≡ text_of (line_of width (form_of item))
+
+-- `Item::line_number(self)`: the number of its line, if it has one
+abbrev pub LineNumberPromise : Item → Option ℕ → Type 0
+LineNumberPromise item answer = answer ≡ line_number_of item
 
 -- `salvage_opening()`: the text of a salvage's first line
 abbrev pub SalvagePromise : Text → Type 0

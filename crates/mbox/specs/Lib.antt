@@ -1,3 +1,2 @@
--- What the program is to write.
+-- What the program writes.
 pub mod Program
-pub mod Blocks

@@ -1,7 +1,8 @@
 // mbox: a box to try. Events on standard input, the recording of what the box puts on the line on standard output.
 #![tactic(auto)]
 
-ghost use Rattle.std.specs.Prelude.{◌≡◌, true, false, [], ◌++◌, ◌-◌, ◌≤◌, ◌<◌, length};
+ghost use Rattle.std.specs.Prelude.{◌≡◌, [], ◌-◌, ◌≤◌, ◌<◌, length, is_ok};
+ghost use Rattle.std.proofs.Common.{rules};
 ghost use Rattle.shell.specs.Outside.{Trace};
 ghost use Rattle.shell.specs.Standing.{Ends};
 ghost use Rattle.driver.specs.Promises.{enough};
@@ -9,113 +10,84 @@ ghost use Rattle.driver.proofs.Kept.{Kept};
 ghost use Rattle.driver.proofs.Whole.{all_of};
 ghost use Rattle.driver.proofs.Nearer.{passed, most_bytes};
 ghost use Rattle.mbox.specs.Program.{mbox};
-ghost use Rattle.mbox.specs.Blocks.{On, Left};
 
 use driver::Driver;
-use shell::Streams;
+use shell::{Failure, Filter, Step, System};
 
-// Where the events stand: the driver, whether more is to be read, and whether each read and write went well.
+// How far the events are driven.
 #[derive(Clone, Copy, Drop)]
-struct Went {
-    next: Driver,
-    on: bool,
-    well: bool,
+struct Driving {
+    driver: Driver,
 }
 
-// Bytes of the input, and their recording to standard output: a call may stop for room, and is followed by another until all of them are taken and no slot is
-// owed. With nine places each takes a byte or a slot.
-fn drive(streams: Streams, turn: &mut u64, driver: Driver, bytes: &[u8], out: &mut [u8]) -> Went
-    requires kept { Kept driver × (enough ≤ length out.old) × (0 < length bytes.now) }
-    requires on { On turn.old (λ q. all_of driver (bytes.now ++ q)) }
-    ensures left { Left turn.new result }
-    ensures next_bound { result.on ≡ true → most_bytes - passed result.next < most_bytes - passed driver }
-{
-    let mut here = driver;
-    let mut at: usize = 0;
-    let mut well = true;
-    while well & ((at < bytes.len()) | (here.owed != 0)) {
-        let driven = here.feed(&bytes[at..], out);
-        let n = driven.written;
-        well = shell::show(streams, turn, b"mbox: standard output", &out[..n]);
-        at = at + driven.taken;
-        here = driven.next;
+impl Filter for Driving {
+    ghost program = { mbox };
+
+    ghost rest = { λ s. all_of s.driver };
+
+    ghost reads = { λ s. Kept s.driver };
+
+    ghost ends = { λ s. Kept s.driver };
+
+    ghost left = { λ s. most_bytes - passed s.driver };
+
+    ghost room = { λ _. enough };
+
+    ghost may_end = { λ s kept. kept };
+
+    ghost room_grows = { Prim.search rules };
+
+    // A call may stop for room, and is followed by another until all of the bytes are taken and no slot is owed. With nine places each takes a byte or a slot.
+    // Nothing is read once the recording has ended.
+    fn feed(
+        self,
+        system: &mut System,
+        bytes: &[u8],
+        out: &mut [u8],
+    ) -> Result<Step<Driving>, Failure> {
+        let mut here = self.driver;
+        let mut rest = bytes;
+        while !rest.is_empty() || here.owed != 0 {
+            let driven = here.feed(rest, out);
+            system.show(b"mbox: standard output", &out[..driven.written])?;
+            rest = &rest[driven.taken..];
+            here = driven.next;
+        }
+        let next = Driving { driver: here };
+        Ok(if here.ended {
+            Step::Over(next)
+        } else {
+            Step::More(next)
+        })
     }
-    Went {
-        next: here,
-        on: well & !here.ended,
-        well: well,
+
+    // The end of the input, which only a recording has whose reads and writes all went well; its lines too may stop for room.
+    fn finish(self, system: &mut System, out: &mut [u8]) -> Result<(), Failure> {
+        let mut here = self.driver;
+        while !here.ended {
+            let driven = here.finish(out);
+            system.show(b"mbox: standard output", &out[..driven.written])?;
+            here = driven.next;
+        }
+        Ok(())
     }
 }
 
-// A block of the input: what a read brought is fed, and where it brought nothing the input is over or cannot be read.
-fn block(streams: Streams, turn: &mut u64, driver: Driver, input: &mut [u8], out: &mut [u8]) -> Went
-    requires kept { Kept driver × (enough ≤ length out.old) × (0 < length input.old) }
-    requires on { On turn.old (all_of driver) }
-    ensures left { Left turn.new result }
-    ensures next_bound { result.on ≡ true → most_bytes - passed result.next < most_bytes - passed driver }
-{
-    let got = shell::more(streams, turn, b"mbox: standard input", input);
-    let n = got.count;
-    if n == 0 {
-        return Went {
-            next: driver,
-            on: false,
-            well: got.well,
-        };
-    }
-    drive(streams, turn, driver, &input[..n], out)
-}
-
-// The blocks, one after the other, until the input is over or the recording has ended: nothing is read after its end.
-fn blocks(streams: Streams, turn: &mut u64, input: &mut [u8], out: &mut [u8]) -> Went
-    requires trace { Trace turn.old [] [] [] }
+// WHAT IS HANDED OUT IS THE RECORDING OF THE SCRIPT.
+fn whole(system: &mut System, input: &mut [u8], out: &mut [u8]) -> Result<(), Failure>
+    requires trace { Trace system.old.turn [] [] [] }
     requires enough_in_bounds { (enough ≤ length out.old) × (0 < length input.old) }
-    ensures { Left turn.new result × (result.on ≡ false) }
+    ensures { Ends mbox system.new.turn (is_ok result) }
 {
-    let mut went = Went {
-        next: Driver::fresh(),
-        on: true,
-        well: true,
+    let driving = Driving {
+        driver: Driver::fresh(),
     };
-    while went.on {
-        went = block(streams, turn, went.next, input, out);
-    }
-    went
-}
-
-// The end of the input, which only a recording has whose reads and writes all went well; its lines too may stop for room.
-fn end(streams: Streams, turn: &mut u64, went: Went, out: &mut [u8]) -> bool
-    requires { Left turn.old went × (went.on ≡ false) × (went.well ≡ true) × (enough ≤ length out.old) }
-    ensures { Ends mbox turn.new result }
-{
-    let mut here = went.next;
-    let mut well = true;
-    while well & !here.ended {
-        let driven = here.finish(out);
-        let n = driven.written;
-        well = shell::show(streams, turn, b"mbox: standard output", &out[..n]);
-        here = driven.next;
-    }
-    well
-}
-
-// All of it: WHAT IS HANDED OUT IS THE RECORDING OF THE SCRIPT.
-fn whole(streams: Streams, turn: &mut u64, input: &mut [u8], out: &mut [u8]) -> bool
-    requires trace { Trace turn.old [] [] [] }
-    requires enough_in_bounds { (enough ≤ length out.old) × (0 < length input.old) }
-    ensures { Ends mbox turn.new result }
-{
-    let went = blocks(streams, turn, input, out);
-    if went.well {
-        return end(streams, turn, went, out);
-    }
-    false
+    shell::run(driving, system, b"mbox: standard input", input, out)
 }
 
 fn main(rt: HostRuntime) {
-    let streams = Streams::of(rt.stdin(), rt.stdout(), rt.stderr());
-    let mut turn = shell::start();
+    let mut system = System::of(rt.stdin(), rt.stdout(), rt.stderr());
     let mut input = [0u8; 4096];
     let mut out = [0u8; 65536];
-    whole(streams, &mut turn, &mut input, &mut out);
+    let _ = whole(&mut system, &mut input, &mut out);
 }

@@ -1,6 +1,6 @@
--- What a byte or a wait puts on the tape.
+-- What a word puts on the tape.
 use Prim.Native.Nat.{ℕ, ◌-◌, ◌<◌, ◌≤◌}
-use mathlib.Core.Path.{◌≡◌, refl, sym, ◌∙◌, ap}
+use mathlib.Core.Path.{◌≡◌, refl, sym, ◌∙◌}
 use mathlib.Core.List.{List, [], ◌∷◌, ◌++◌}
 use native.Mathlib.Omega.{arith}
 use lib.Dec.{eqb}
@@ -12,13 +12,8 @@ use Rattle.text.specs.Growth.{slice, filled_by}
 use Rattle.text.specs.Decimals.{plain, decimal_of}
 use Rattle.text.proofs.Digits.{decimal_few}
 use Rattle.frames.specs.Words.{break, silence}
-use Rattle.port.specs.Line.{words_in}
-use Rattle.port.specs.Sessions.{step_of, words_over}
-use Rattle.port.specs.declared.Heard.{Heard}
-use Rattle.std.proofs.Common.{Option, None, Some}
-use Rattle.hearing.specs.Events.{event_of, events_of}
 use Rattle.hearing.specs.Steps.{Step}
-use Rattle.mrecord.specs.Recording.{line_of, behind_line, lines_of, full_behind, end_of, rest, told}
+use Rattle.mrecord.specs.Recording.{line_of, behind_line, lines_of, full_behind, end_of, text, tells}
 use Rattle.mrecord.specs.declared.Tape.{Tape}
 
 -- the line of a break, of a silence, and of a byte
@@ -53,43 +48,27 @@ unfolding end_of
 full_end last left [] e = rw e
 full_end last left (w ∷ words) e = rw e
 
--- the words of what is heard are those of the first, and then the others
-module _ (tape : Tape) (heard : Heard) (h : ℕ) (is : heard ≡ step_of tape.port (event_of h)) where
-  begin : (g : Option ℕ) → heard.given ≡ g → (q : List ℕ) → words_over tape.port (events_of (h ∷ q)) ≡ words_in g ++ words_over heard.next (events_of q)
-  unfolding words_over
-  begin g e q = ap (λ (s : Heard). words_in s.given ++ words_over s.next (events_of q)) (sym is) ∙ ap (λ (x : Option ℕ). words_in x ++ words_over heard.next (events_of q)) e
+-- the line of a word, where one is left
+module _ (tape : Tape) (w : ℕ) (before : List ℕ) (at : ℕ) where
+  pub full : tape.left ≡ 0 → Step text tells 9 tape w before at tape before at
+  full e =
+      record {
+        text = [];
+        so = refl;
+        few = omega arith;
+        goes = λ q. full_lines tape.left (w ∷ q) e ∙ sym (full_lines tape.left q e);
+        says = λ q. full_end tape.last tape.left (w ∷ q) e ∙ sym (full_end tape.last tape.left q e);
+      }
 
-  module _ (before : List ℕ) (at : ℕ) where
-    pub full : tape.left ≡ 0 → Step rest told 9 tape h before at tape before at
-    full e =
-        record {
-          text = [];
-          so = refl;
-          few = omega arith;
-          goes = λ q. full_lines tape.left _ e ∙ sym (full_lines tape.left _ e);
-          says = λ q. full_end tape.last tape.left _ e ∙ sym (full_end tape.last tape.left _ e);
-        }
-
-    pub nothing : heard.given ≡ None
-        → Step rest told 9 tape h before at (record { port = heard.next; left = tape.left; last = tape.last }) before at
-    nothing e =
-        record {
-          text = [];
-          so = refl;
-          few = omega arith;
-          goes = λ q. ap (lines_of tape.left) (begin None e q);
-          says = λ q. ap (end_of tape.last tape.left) (begin None e q);
-        }
-
-    pub word : (w left behind : ℕ) (after : List ℕ) → heard.given ≡ Some w → (tape.left ≡ 0 → ⊥) → w < 65536 → left ≡ behind_line (tape.left - 1) w
-        → slice after behind ≡ filled_by (slice before at) (line_of w)
-        → Step rest told 9 tape h before at (record { port = heard.next; left = left; last = w }) after behind
-    unfolding lines_of end_of
-    word w left behind after e n small l so =
-        record {
-          text = line_of w;
-          so = so;
-          few = few_line w small;
-          goes = λ q. ap (lines_of tape.left) (begin (Some w) e q) ∙ rw (ne_eqb tape.left 0 n, l);
-          says = λ q. ap (end_of tape.last tape.left) (begin (Some w) e q) ∙ rw (ne_eqb tape.left 0 n, l);
-        }
+  pub one_line : (left behind : ℕ) (after : List ℕ) → (tape.left ≡ 0 → ⊥) → w < 65536 → left ≡ behind_line (tape.left - 1) w
+      → slice after behind ≡ filled_by (slice before at) (line_of w)
+      → Step text tells 9 tape w before at (record { left = left; last = w }) after behind
+  unfolding lines_of end_of
+  one_line left behind after n small l so =
+      record {
+        text = line_of w;
+        so = so;
+        few = few_line w small;
+        goes = λ q. rw (ne_eqb tape.left 0 n, l);
+        says = λ q. rw (ne_eqb tape.left 0 n, l);
+      }

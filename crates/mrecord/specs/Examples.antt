@@ -1,17 +1,17 @@
 -- Small recordings.
-use Rattle.std.specs.Prelude.{◌≡◌, refl, [], ◌∷◌}
+use Rattle.std.specs.Prelude.{◌≡◌, refl, false, [], ◌∷◌}
 use Rattle.text.specs.Decimals.{digits_of, size_in, places_of, decimal_of}
 use Rattle.port.specs.Marks.{cleared, plain, behind_mark, byte_of, quiet_of}
 use Rattle.port.specs.Sessions.{words_over}
 use Rattle.mrecord.specs.Recording.{line_of, behind_line, lines_of, full_at_silence, full, gone, end_of, mrecord}
 
 -- U, and a silence is two tenths: a byte, the byte FF, a break, one wait, a byte, and three waits
-pub small : (mrecord 85 2 0).writes (7 ∷ 255 ∷ 255 ∷ 255 ∷ 0 ∷ 0 ∷ 256 ∷ 8 ∷ 256 ∷ 256 ∷ 256 ∷ [])
+pub small : (mrecord 85 2 false).writes (7 ∷ 255 ∷ 255 ∷ 255 ∷ 0 ∷ 0 ∷ 256 ∷ 8 ∷ 256 ∷ 256 ∷ 256 ∷ [])
     ≡ 70 ∷ 9 ∷ 85 ∷ 10 ∷ 66 ∷ 9 ∷ 55 ∷ 10 ∷ 66 ∷ 9 ∷ 50 ∷ 53 ∷ 53 ∷ 10 ∷ 88 ∷ 10 ∷ 66 ∷ 9 ∷ 56 ∷ 10 ∷ 81 ∷ 10 ∷ []
 unfolding cleared plain behind_mark byte_of quiet_of words_over line_of behind_line lines_of digits_of size_in places_of decimal_of
 small = refl
 
-pub small_gone : (mrecord 85 2 0).says (7 ∷ 256 ∷ []) ≡ gone
+pub small_gone : (mrecord 85 2 false).says (7 ∷ 256 ∷ []) ≡ gone
 unfolding cleared plain byte_of quiet_of words_over behind_line end_of
 small_gone = refl
 

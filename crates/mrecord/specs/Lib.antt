@@ -1,6 +1,4 @@
--- The recording (Recording), where the program stands between turns (Turns), how it ends
--- (Refusals), and small recordings (Examples).
+-- The recording (Recording), how the program ends (Refusals), and small recordings (Examples).
 pub mod Recording
-pub mod Turns
 pub mod Refusals
 pub mod Examples

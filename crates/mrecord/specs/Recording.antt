@@ -1,12 +1,12 @@
 -- The recording of what was heard: the lines of the words that the port tells, up to where it is full.
-use Rattle.std.specs.Prelude.{ℕ, ◌-◌, cond, ◌&&◌, List, [], ◌∷◌, ◌++◌, eqb, ltb, pos}
+use Rattle.std.specs.Prelude.{ℕ, ◌-◌, Bool, cond, ◌&&◌, List, [], ◌∷◌, ◌++◌, eqb, ltb, pos}
 use Rattle.frames.specs.Words.{break, silence}
 use Rattle.text.specs.Decimals.{plain, decimal_of}
 use Rattle.port.specs.Marks.{opened}
-use Rattle.port.specs.Sessions.{words_over}
 use Rattle.shell.specs.Standing.{Program, program}
-use Rattle.hearing.specs.Events.{events_of}
 use Rattle.hearing.specs.Words.{line_gone}
+use Rattle.hearing.specs.Turns.{over}
+use Rattle.hearing.specs.declared.session.Session.{Session}
 use Rattle.mrecord.specs.declared.Tape.{Tape}
 
 -- "`B` decimal byte, `X` (256), `Q` (257)"
@@ -52,28 +52,35 @@ unfoldable pub end_of : ℕ → ℕ → List ℕ → List ℕ
 end_of last left [] = cond (eqb left 0) (full_behind last) gone
 end_of last left (w ∷ words) = cond (eqb left 0) (full_behind last) (end_of w (behind_line (left - 1) w) words)
 
--- what a tape is still to write of what is heard next, and to tell where it ends behind that
-abbrev pub rest : Tape → List ℕ → List ℕ
-rest tape heard = lines_of tape.left (words_over tape.port (events_of heard))
+-- what a tape is still to write of words, and to tell where it ends behind them
+abbrev pub text : Tape → List ℕ → List ℕ
+text tape words = lines_of tape.left words
 
-abbrev pub told : Tape → List ℕ → List ℕ
-told tape heard = end_of tape.last tape.left (words_over tape.port (events_of heard))
+abbrev pub tells : Tape → List ℕ → List ℕ
+tells tape words = end_of tape.last tape.left words
+
+-- and of what is heard next
+abbrev pub rest : Session Tape → List ℕ → List ℕ
+rest = over text
+
+abbrev pub told : Session Tape → List ℕ → List ℕ
+told = over tells
 
 -- the first line, and a second where it goes on behind a silence
 abbrev pub first_line : ℕ → List ℕ
 first_line letter = 70 ∷ 9 ∷ letter ∷ 10 ∷ []
 
-abbrev pub first_lines : ℕ → ℕ → List ℕ
-first_lines letter begins = first_line letter ++ cond (eqb begins 0) [] (line_of silence)
+abbrev pub first_lines : ℕ → Bool → List ℕ
+first_lines letter begins = first_line letter ++ cond begins (line_of silence) []
 
 -- a tape of 999,999 lines on which those stand
-abbrev pub fresh : ℕ → ℕ → Tape
-fresh tenths begins = record { port = opened 0 tenths; left = cond (eqb begins 0) 999998 999997; last = 0 }
+abbrev pub fresh : ℕ → Bool → Session Tape
+fresh tenths begins = record { port = opened 0 tenths; teller = record { left = cond begins 999997 999998; last = 0 } }
 
 -- a program of this name
 abbrev pub named : (List ℕ → List ℕ) → (List ℕ → List ℕ) → Program
 named = program name
 
--- THE RECORDING OF WHAT IT HEARS. A silence is so many tenths of a second; the recording begins with a silence where `begins` is not 0
-abbrev pub mrecord : ℕ → ℕ → ℕ → Program
+-- THE RECORDING OF WHAT IT HEARS. A silence is so many tenths of a second; the recording begins with a silence where `begins` is true
+abbrev pub mrecord : ℕ → ℕ → Bool → Program
 mrecord letter tenths begins = named (λ heard. first_lines letter begins ++ rest (fresh tenths begins) heard) (told (fresh tenths begins))

@@ -1,5 +1,5 @@
 -- A wrong call, and how the program ends.
-use Rattle.std.specs.Prelude.{ℕ, ◌≡◌, Bool, true, false, cond, ◌||◌, not, List, [], ◌∷◌, ◌++◌, eqb, take}
+use Rattle.std.specs.Prelude.{ℕ, ◌≡◌, Bool, List, [], ◌∷◌, ◌++◌, take, Option, Some, None}
 use Rattle.shell.specs.Outside.{Trace}
 use Rattle.shell.specs.Standing.{Leaves}
 use Rattle.hearing.specs.Words.{wrong_letter, wrong_tenths}
@@ -12,14 +12,14 @@ behind_tenths = 98 ∷ 101 ∷ 104 ∷ 105 ∷ 110 ∷ 100 ∷ 32 ∷ 84 ∷ 69 
 abbrev stands_q : List ℕ
 stands_q = 115 ∷ 116 ∷ 97 ∷ 110 ∷ 100 ∷ 115 ∷ 32 ∷ 81 ∷ 32 ∷ 111 ∷ 114 ∷ 32 ∷ 110 ∷ 111 ∷ 116 ∷ 104 ∷ 105 ∷ 110 ∷ 103 ∷ 10 ∷ []
 
--- a letter or a number of tenths that is 0, or a third word that is 2, is wrong
-abbrev pub is_right : ℕ → ℕ → ℕ → Bool
-is_right letter tenths begins = not ((eqb letter 0 || eqb tenths 0) || eqb begins 2)
-
-unfoldable pub refusal_of : ℕ → ℕ → List ℕ
-refusal_of letter tenths = speaks (cond (eqb letter 0) wrong_letter (cond (eqb tenths 0) wrong_tenths (behind_tenths ++ stands_q)))
+-- what a wrong call is told: a letter, a number of tenths or a third word is none where it is wrong
+abbrev pub refusal_of : Option ℕ → Option ℕ → Option Bool → Option (List ℕ)
+refusal_of None tenths begins = Some (speaks wrong_letter)
+refusal_of (Some letter) None begins = Some (speaks wrong_tenths)
+refusal_of (Some letter) (Some tenths) None = Some (speaks (behind_tenths ++ stands_q))
+refusal_of (Some letter) (Some tenths) (Some begins) = None
 
 -- HOW IT ENDS: the recording; or, where it was called wrongly, nothing but what is wrong, on standard error
-pub record Ended (letter tenths begins t : ℕ) (well : Bool) : Type 0 where
-  pub recorded : is_right letter tenths begins ≡ true → Leaves (mrecord letter tenths begins) t well
-  pub refused : is_right letter tenths begins ≡ false → (n : ℕ) × Trace t [] [] (take n (refusal_of letter tenths))
+pub record Ended (letter tenths : Option ℕ) (begins : Option Bool) (t : ℕ) (well : Bool) : Type 0 where
+  pub recorded : (l n : ℕ) (b : Bool) → letter ≡ Some l → tenths ≡ Some n → begins ≡ Some b → Leaves (mrecord l n b) t well
+  pub refused : (words : List ℕ) → refusal_of letter tenths begins ≡ Some words → (n : ℕ) × Trace t [] [] (take n words)

@@ -20,22 +20,17 @@ fn is_leap(year: u32) -> bool {
 fn year_days(year: u32) -> u32
     ensures { 365 ≤ result }
 {
-    if is_leap(year) {
-        return 366;
-    }
-    365
+    if is_leap(year) { 366 } else { 365 }
 }
 
 fn month_days(year: u32, month: u32) -> u32
     ensures { 1 ≤ result }
 {
-    if month == 2 {
-        return year_days(year) - 337;
+    match month {
+        2 => year_days(year) - 337,
+        4 | 6 | 9 | 11 => 30,
+        _ => 31,
     }
-    if (month == 4) | (month == 6) | (month == 9) | (month == 11) {
-        return 30;
-    }
-    31
 }
 
 // The year of a day since 1970 began, and which of its days that is, from 0 on.
@@ -45,29 +40,34 @@ fn year_of(since: u32) -> Day
 {
     let mut year: u32 = 1970;
     let mut day = since;
-    let mut length = year_days(year);
-    while day >= length {
-        day = day - length;
-        year = year + 1;
-        length = year_days(year);
+    // It goes by the days that are left, and no year is the last one: no range counts the years.
+    'years: loop {
+        let length = year_days(year);
+        if day < length {
+            return Day { of: year, day };
+        }
+        day -= length;
+        year += 1;
     }
-    Day { of: year, day: day }
 }
 
 // The month of a day of a year, and which of its days that is, from 1 on.
 fn month_of(year: u32, since: u32) -> Day
     requires { since < 3002001 }
 {
-    let mut month: u32 = 1;
     let mut day = since;
-    let mut length = month_days(year, month);
-    while day >= length {
-        day = day - length;
-        month = month + 1;
-        length = month_days(year, month);
+    for month in 1..12 {
+        let length = month_days(year, month);
+        if day < length {
+            return Day {
+                of: month,
+                day: day + 1,
+            };
+        }
+        day -= length;
     }
     Day {
-        of: month,
+        of: 12,
         day: day + 1,
     }
 }
@@ -98,21 +98,16 @@ fn note_to(out: &mut [u8], line: u32, days: u32, seconds: u32) -> usize
 fn second_of(now: i64) -> u64
     ensures { result < 253402300800 }
 {
-    if now < 0 {
-        return 0;
+    if 0 <= now && now <= LAST {
+        now as u64
+    } else {
+        0
     }
-    if LAST < now {
-        return 0;
-    }
-    now as u64
 }
 
 // A turn at a second: a note, where it is not that of the last one. The second of the last note is given back.
 pub(crate) fn noted(left: u32, last: i64, now: i64) -> i64 {
-    if now == last {
-        return last;
-    }
-    if left > 999_999 {
+    if now == last || left > 999_999 {
         return last;
     }
     let second = second_of(now);

@@ -1,2 +1,2 @@
--- What the functions' proofs share.
+-- What a read leaves, and the end.
 pub mod Turns

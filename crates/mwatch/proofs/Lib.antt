@@ -1,3 +1,2 @@
--- What a word tells (Looking), and what a turn hands out (Handing).
+-- What a word tells, and what is told at the end (Looking).
 pub mod Looking
-pub mod Handing

@@ -1,4 +1,4 @@
--- What a word tells.
+-- What a word tells, and what is told at the end.
 use Prim.Native.Nat.{ℕ, ◌+◌, ◌<◌, ◌≤◌}
 use mathlib.Core.Path.{◌≡◌, refl, sym, ◌∙◌, ap, subst}
 use mathlib.Core.List.{List, [], ◌∷◌, ◌++◌}
@@ -11,11 +11,7 @@ use Rattle.numbers.proofs.Held as held
 use Rattle.text.specs.Growth.{slice, filled}
 use Rattle.text.specs.Decimals.{plain, decimal_of}
 use Rattle.text.proofs.Digits.{decimal_few, small}
-use Rattle.port.specs.Line.{words_in}
-use Rattle.port.specs.Sessions.{step_of, words_over}
-use Rattle.port.specs.declared.Heard.{Heard}
-use Rattle.std.proofs.Common.{Option, None, Some}
-use Rattle.hearing.specs.Events.{event_of, events_of}
+use Rattle.port.specs.Sessions.{words_over}
 use Rattle.hearing.specs.Steps.{Step}
 use Rattle.hearing.proofs.Steps.{then_more}
 use Rattle.reader.specs.Promises as reader
@@ -24,10 +20,15 @@ use Rattle.reader.specs.declared.Read.{Read}
 use Rattle.reader.specs.declared.Answer.{Answer}
 use Rattle.reader.proofs.Permitted.{step_is}
 use Rattle.mwatch.specs.declared.Look.{Look}
-use Rattle.mwatch.specs.Watching.{gone_words, gone1, gone2, gone3, part, text_by, look_by, field_of, text_of, look_of, rest, told}
-use Rattle.mwatch.specs.Turns.{Put, Looks}
-use Rattle.mwatch.specs.declared.Sight.{Sight}
-use Rattle.mwatch.specs.declared.Looked.{Looked}
+use Rattle.mwatch.specs.Watching.{gone_words, gone1, gone2, gone3, part, text_by, look_by, field_of, text_of, look_of, tells, rest, told}
+use Rattle.mwatch.specs.Turns.{Put}
+use Rattle.mwatch.specs.Refusals.{refusal_of, Ended}
+use Rattle.hearing.specs.declared.session.Session.{Session}
+use Rattle.hearing.proofs.Turns.{refused}
+use Rattle.shell.specs.Outside.{Trace, Said}
+use Rattle.shell.specs.Standing.{Program, Stands, Left}
+use Rattle.shell.proofs.Laws as standing
+use Rattle.std.proofs.Common.{Bool, Option, Some, take}
 
 -- 16 bits in 64, and the sum of two
 pub wider : {z : ℤ} → SFits w16 z → SFits w64 z
@@ -57,17 +58,22 @@ put_more most more at behind last before between after text next p q =
       few = omega (arith, p.few, q.few, length-append text next);
     }
 
--- what an answer is to a look
-pub by_answer : (l : Look) (w : ℕ) (before : List ℕ) (at : ℕ) (s : Read) (r : Looked) (after : List ℕ) (a : Answer) → StepPromise l.reader w s → s.answer ≡ a
-    → r.look ≡ look_by l s.next a
-    → Put 144 before at (text_by l a) after r.at
-    → Looks l w before at r after
-by_answer l w before at s r after a p e n t =
+-- a word by the reader's answer to it
+pub by_answer : (l : Look) (w : ℕ) (before : List ℕ) (at : ℕ) (s : Read) (next : Look) (after : List ℕ) (behind : ℕ) (a : Answer) → StepPromise l.reader w s → s.answer ≡ a
+    → Put 144 before at (text_by l a) after behind × (next ≡ look_by l s.next a)
+    → Step text_of tells 144 l w before at next after behind
+unfolding text_of look_of
+by_answer l w before at s next after behind a p e t =
     let is = step_is l.reader w s p in
     let same = ap (λ (x : Read). x.answer) (sym is) ∙ e in
+    let then = t.1 ∙ ap (look_by l s.next) (sym e) ∙ ap (λ (x : Read). look_by l x.next x.answer) is in
+    let put = subst (λ (x : Answer). Put 144 before at (text_by l x) after behind) (sym same) t.0 in
     record {
-      next = n ∙ ap (look_by l s.next) (sym e) ∙ ap (λ (x : Read). look_by l x.next x.answer) is;
-      text = subst (λ (x : Answer). Put 144 before at (text_by l x) after r.at) (sym same) t;
+      text = text_by l (reader.step_of l.reader w).answer;
+      so = put.so;
+      few = put.few;
+      goes = λ q. rw then;
+      says = λ q. rw then;
     }
 
 -- the last words are few
@@ -94,35 +100,20 @@ few_words l a b c =
     )
 
 -- nothing more is heard
-pub gone_told : (sight : Sight) → gone_words sight.look ≡ told sight []
+pub gone_told : (s : Session Look) → gone_words s.teller ≡ told s []
 unfolding words_over look_of
-gone_told sight = refl
+gone_told s = refl
 
--- the words of what is heard are those of the first, and then the others
-module _ (sight : Sight) (heard : Heard) (h : ℕ) (is : heard ≡ step_of sight.port (event_of h)) where
-  begin : (g : Option ℕ) → heard.given ≡ g → (q : List ℕ) → words_over sight.port (events_of (h ∷ q)) ≡ words_in g ++ words_over heard.next (events_of q)
-  unfolding words_over
-  begin g e q = ap (λ (s : Heard). words_in s.given ++ words_over s.next (events_of q)) (sym is) ∙ ap (λ (x : Option ℕ). words_in x ++ words_over heard.next (events_of q)) e
+pub ends : (t t' : ℕ) (s : Session Look) (well : Bool) (words : List ℕ) → words ≡ told s [] → Said t t' well words
+    → (p : Program) → Stands p t (rest s) (told s) → Left p t'
+unfolding words_over text_of
+ends t t' s well words e h p k = standing.leaves p t t' (rest s) (told s) well k refl (subst (Said t t' well) e h)
 
-  module _ (before : List ℕ) (at : ℕ) where
-    pub nothing : heard.given ≡ None → Step rest told 144 sight h before at (record { port = heard.next; look = sight.look }) before at
-    nothing e =
-        record {
-          text = [];
-          so = refl;
-          few = omega arith;
-          goes = λ q. ap (text_of sight.look) (begin None e q);
-          says = λ q. ap (λ (l : List ℕ). gone_words (look_of sight.look l)) (begin None e q);
-        }
-
-    pub word : (w : ℕ) (r : Looked) (after : List ℕ) → heard.given ≡ Some w → Looks sight.look w before at r after
-        → Step rest told 144 sight h before at (record { port = heard.next; look = r.look }) after r.at
-    unfolding text_of look_of
-    word w r after e l =
-        record {
-          text = text_by sight.look (reader.step_of sight.look.reader w).answer;
-          so = l.text.so;
-          few = l.text.few;
-          goes = λ q. ap (text_of sight.look) (begin (Some w) e q) ∙ rw l.next;
-          says = λ q. ap (λ (ws : List ℕ). gone_words (look_of sight.look ws)) (begin (Some w) e q) ∙ rw l.next;
-        }
+-- a wrong call
+pub wrong : (letter tenths : Option ℕ) (t t' : ℕ) (well : Bool) (words : List ℕ) → refusal_of letter tenths ≡ Some words → Trace t [] [] []
+    → Said t t' well words → Ended letter tenths t' well
+wrong letter tenths t t' well words e traced h =
+    record {
+      watched = λ l n p q. let none = rw (p, q) at e in absurd (cc);
+      refused = λ other f. let same : words ≡ other = cc in subst (λ (w : List ℕ). (n : ℕ) × Trace t' [] [] (take n w)) same (refused t t' well words traced h);
+    }

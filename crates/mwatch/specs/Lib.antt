@@ -1,5 +1,4 @@
--- What a line tells (Watching), where the program stands between turns (Turns), how it ends (Refusals), and
--- examples of its lines (Examples).
+-- What a line tells (Watching), its text in a slice (Turns), how the program ends (Refusals), and examples of its lines (Examples).
 pub mod Watching
 pub mod Turns
 pub mod Refusals

@@ -2,20 +2,19 @@
 use Rattle.std.specs.Prelude.{ℕ, ◌+◌, ◌/◌, ◌%◌, Bool, cond, List, [], ◌∷◌, ◌++◌, eqb, ltb, ℤ, pos, ◌+ℤ◌}
 use Rattle.text.specs.Decimals.{plain, decimal_of}
 use Rattle.port.specs.Marks.{opened}
-use Rattle.port.specs.Sessions.{words_over}
 use Rattle.reader.specs.Promises.{fresh_of, step_of}
 use Rattle.reader.specs.declared.Reader.{Reader}
-use Rattle.reader.specs.declared.Read.{Read}
+use Rattle.reader.specs.State.{Read}
 use Rattle.reader.specs.declared.Answer.{Answer}
 use Rattle.reader.specs.declared.Answer.TheVariants as answer
 use Rattle.saves.specs.State.{unaware}
 use Rattle.saves.specs.Rules.{heard_of}
 use Rattle.saves.specs.declared.Watch.{Watch}
 use Rattle.shell.specs.Standing.{Program, program}
-use Rattle.hearing.specs.Events.{events_of}
+use Rattle.hearing.specs.Turns.{over}
+use Rattle.hearing.specs.declared.session.Session.{Session}
 use Rattle.hearing.specs.Words.{line_gone}
 use Rattle.mwatch.specs.declared.Look.{Look}
-use Rattle.mwatch.specs.declared.Sight.{Sight}
 
 -- so many more; a count stays at four thousand million
 unfoldable pub counted : ℕ → ℕ → ℕ
@@ -124,16 +123,20 @@ part words count = words ++ decimal_of plain (pos count)
 unfoldable pub gone_words : Look → List ℕ
 gone_words l = ((part gone1 l.reports ++ part gone2 l.presses) ++ part gone3 l.dropped) ++ 10 ∷ []
 
--- what is still to be written of what is heard next, and to be told where the line is gone behind that
-abbrev pub rest : Sight → List ℕ → List ℕ
-rest s heard = text_of s.look (words_over s.port (events_of heard))
+-- what is to be told where the line is gone behind words
+abbrev pub tells : Look → List ℕ → List ℕ
+tells l words = gone_words (look_of l words)
 
-abbrev pub told : Sight → List ℕ → List ℕ
-told s heard = gone_words (look_of s.look (words_over s.port (events_of heard)))
+-- what is still to be written of what is heard next, and to be told where the line is gone behind that
+abbrev pub rest : Session Look → List ℕ → List ℕ
+rest = over text_of
+
+abbrev pub told : Session Look → List ℕ → List ℕ
+told = over tells
 
 -- nothing has come
-abbrev pub fresh : ℕ → ℕ → Sight
-fresh letter tenths = record { port = opened 0 tenths; look = look (fresh_of letter).reader unaware 0 0 0 }
+abbrev pub fresh : ℕ → ℕ → Session Look
+fresh letter tenths = record { port = opened 0 tenths; teller = look (fresh_of letter).reader unaware 0 0 0 }
 
 -- a program of this name
 abbrev pub named : (List ℕ → List ℕ) → (List ℕ → List ℕ) → Program

@@ -29,8 +29,7 @@ use Rattle.readback.proofs.Other.{refused_line}
 use Rattle.readback.proofs.OverLines.{over_piece, told_line}
 use Rattle.readback.proofs.Rewrites.{rewrites_lawful}
 use Rattle.mwidth.specs.Told.{of_line, is_too_wide, is_faulty, is_missing, tell_of, why_of, told_from}
-use Rattle.mwidth.specs.Blocks.{tells, at_end, last_words}
-use Rattle.mwidth.specs.declared.Went.{Went}
+use Rattle.mwidth.specs.Blocks.{tells, at_end}
 
 -- a line that is taken, and one that is refused
 module _ (r : Readback) (l : List ℕ) (ls : List (List ℕ)) where
@@ -86,22 +85,22 @@ told_end r (c ∷ l) k =
     and_no false = refl
 
 -- the last words, by what was refused
-module _ (w : Went) where
-  pub last_wide : w.refusal ≡ 15 → last_words w ≡ tell_of w.line is_too_wide
-  last_wide e = rw e
+pub why_wide : (n : ℕ) → n ≡ 15 → why_of n ≡ is_too_wide
+why_wide n e = rw e
 
-  pub last_faulty : (w.refusal ≡ 15 → ⊥) → (w.refusal ≡ 0 → ⊥) → last_words w ≡ tell_of w.line is_faulty
-  last_faulty other some = rw (ne_eqb w.refusal 0 some, ne_eqb w.refusal 15 other)
+pub why_faulty : (n : ℕ) → (n ≡ 15 → ⊥) → why_of n ≡ is_faulty
+why_faulty n other = rw (ne_eqb n 15 other)
 
-  module _ (none : w.refusal ≡ 0) (e : Back) (p : FinishPromise w.next w.held e) where
-    last_is : last_words w ≡ cond (eqb e.refusal 0) [] (tell_of e.line is_missing)
-    last_is = rw (none, p)
+-- or an end that is missing
+module _ (r : Readback) (held : ℕ) (e : Back) (p : FinishPromise r held e) where
+  end_is : at_end r held ≡ cond (eqb e.refusal 0) [] (tell_of e.line is_missing)
+  end_is = ap (λ (b : Back). cond (eqb b.refusal 0) [] (tell_of b.line is_missing)) (sym p)
 
-    pub last_missing : (e.refusal ≡ 0 → ⊥) → last_words w ≡ tell_of e.line is_missing
-    last_missing some = last_is ∙ rw (ne_eqb e.refusal 0 some)
+  pub end_missing : (e.refusal ≡ 0 → ⊥) → at_end r held ≡ tell_of e.line is_missing
+  end_missing some = end_is ∙ rw (ne_eqb e.refusal 0 some)
 
-    pub last_none : e.refusal ≡ 0 → last_words w ≡ []
-    last_none z = last_is ∙ rw (eq-eqb e.refusal 0 z)
+  pub end_none : e.refusal ≡ 0 → at_end r held ≡ []
+  end_none z = end_is ∙ rw (eq-eqb e.refusal 0 z)
 
 -- the words in a buffer: the line behind "mwidth: line ", and why
 module _ (a b c d : List ℕ) (k m n line : ℕ) (x : ℤ) (why : List ℕ) (wide : length a ≡ 80) (is : x ≡ pos line) (small : line < 4294967296) (short : length why ≤ 50)

@@ -21,7 +21,7 @@ use Rattle.puckreader.specs.Good as readers
 use Rattle.puckreader.specs.Line.{reports_in, reads_line, whole, Bounds}
 use Rattle.puckreader.specs.Promises as reader
 use Rattle.puckreader.specs.declared.PuckReader.{PuckReader}
-use Rattle.puckreader.specs.declared.PuckRead.{PuckRead}
+use Rattle.puckreader.specs.State.{PuckRead}
 use Rattle.puckreader.specs.declared.PuckReading.{PuckReading}
 use Rattle.puckreader.proofs.Permitted as permitted
 use Rattle.puckreader.proofs.Refusals as refusals

@@ -37,7 +37,7 @@ use Rattle.puckreader.specs.Promises.{FreshPromise}
 use Rattle.puckreader.specs.Runs as reading
 use Rattle.puckreader.specs.HandedOut.{TrueBy, HandsOutBy, HandsOutAt, finished_reports, Within}
 use Rattle.puckreader.specs.declared.PuckReader.{PuckReader}
-use Rattle.puckreader.specs.declared.PuckRead.{PuckRead}
+use Rattle.puckreader.specs.State.{PuckRead}
 use Rattle.puckreader.proofs.Handed.{followed}
 use Rattle.puckreader.proofs.Shown as shown
 use Rattle.puckreader.proofs.Scars as scars

@@ -24,13 +24,12 @@ use Rattle.vsxxx.specs.declared.SelfTest.{SelfTest}
 use Rattle.puck.specs.Device.{made}
 use Rattle.puck.specs.Rules.{mode_r, letter_t}
 use Rattle.puck.specs.declared.Puck.{Puck}
-use Rattle.puckreader.specs.State.{fresh, holding}
+use Rattle.puckreader.specs.State.{PuckRead, fresh, holding}
 use Rattle.puckreader.specs.Line.{handed_out, reads}
 use Rattle.puckreader.specs.Promises.{FreshPromise}
 use Rattle.puckreader.specs.Runs as reading
 use Rattle.puckreader.specs.HandedOut.{TrueBy, HandsOutAt, finished_reports}
 use Rattle.puckreader.specs.declared.PuckReader.{PuckReader}
-use Rattle.puckreader.specs.declared.PuckRead.{PuckRead}
 use Rattle.puckreader.specs.declared.PuckAnswer.TheVariants.{Nothing, Movement, Test, Dropped}
 use Rattle.puckhistory.specs.Runs.{puck_after, puck_words, answer_to, answers_to}
 use Rattle.puckhistory.specs.History.{passages_of}

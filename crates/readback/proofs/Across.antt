@@ -19,12 +19,11 @@ use Rattle.listing.specs.Printing.{form_of, line_of, opening_of, line_at}
 use Rattle.listing.specs.declared.Item.{Item}
 use Rattle.listing.specs.declared.Item.TheVariants as item
 use Rattle.readback.specs.Items.{Numbered, Proper, item_in, width_in, salvage_in}
-use Rattle.readback.specs.Steps.{width_known, fresh, opened_at, passed_by, above, faulty, said, step_of, good, has_ended, of_salvage}
+use Rattle.readback.specs.Steps.{width_known, fresh, opened_at, passed_by, above, faulty, said, step_of, good, has_ended, of_salvage, Step}
 use Rattle.readback.specs.Pieces.{cut_in, is_whole, body_of, faulty_line, reads}
 use Rattle.readback.specs.Rewriting.{other_width, too_wide, fits_at, given_fits, rewrites}
 use Rattle.readback.specs.Whole.{reading_from}
 use Rattle.readback.specs.declared.Readback.{Readback}
-use Rattle.readback.specs.declared.Step.{Step}
 use Rattle.readback.proofs.Goodness.{mark_is, unread, known_is, step_ended, step_first, step_item, step_leaves}
 use Rattle.readback.proofs.Grammar.{Reads, item_read}
 use Rattle.readback.proofs.AsItWas.{cut_first, line_whole, letter_plain, first_plain, item_step, first_step}

@@ -18,11 +18,10 @@ use Rattle.listing.specs.Printing.{form_of, head_of, line_of, opening_of, all_by
 use Rattle.listing.specs.declared.Item.{Item}
 use Rattle.listing.specs.declared.Item.TheVariants as item
 use Rattle.readback.specs.Items.{Proper, item_in, width_in, salvage_in}
-use Rattle.readback.specs.Steps.{width_known, fresh, opened_at, passed_by, last_behind, above, closes, faulty, opens, said, step_of, has_ended, of_salvage}
+use Rattle.readback.specs.Steps.{width_known, fresh, opened_at, passed_by, last_behind, above, closes, faulty, opens, said, step_of, has_ended, of_salvage, Step}
 use Rattle.readback.specs.Pieces.{cut_in, bytes_in, is_whole, body_of, faulty_line, reads}
 use Rattle.readback.specs.Whole.{Reading, reading, reading_from, reading_of, printed, Listed}
 use Rattle.readback.specs.declared.Readback.{Readback}
-use Rattle.readback.specs.declared.Step.{Step}
 use Rattle.readback.proofs.Cuts.{bytes_cut}
 use Rattle.readback.proofs.Goodness.{known_some, step_ended, step_first, step_item, mark_is}
 use Rattle.readback.proofs.Grammar.{Reads, item_read, width_read}

@@ -15,9 +15,8 @@ use Rattle.listing.specs.Scanning.{most_at, width, most_lines}
 use Rattle.listing.specs.declared.Item.{Item}
 use Rattle.listing.specs.declared.Item.TheVariants as item
 use Rattle.readback.specs.Items.{Proper, item_in, width_in, salvage_in}
-use Rattle.readback.specs.Steps.{old_width, width_known, mark, has_ended, opened_at, passed_by, above, faulty, opens, said, step_of, besides, fresh, good}
+use Rattle.readback.specs.Steps.{old_width, width_known, mark, has_ended, opened_at, passed_by, above, faulty, opens, said, step_of, besides, fresh, good, Step}
 use Rattle.readback.specs.declared.Readback.{Readback}
-use Rattle.readback.specs.declared.Step.{Step}
 use Rattle.readback.proofs.Values.{SmallGiven, small_item}
 use Rattle.readback.proofs.Grammar.{Reads, item_read}
 

@@ -31,11 +31,10 @@ use Rattle.listing.specs.declared.Item.{Item}
 use Rattle.listing.specs.declared.Item.TheVariants as item
 use Rattle.listing.specs.declared.Field.{Field}
 use Rattle.listing.specs.declared.Field.TheVariants as field
-use Rattle.readback.specs.Fields.{low, high, within, three_of, pressed_in, over_in, value_in, field_in, fields_in}
+use Rattle.readback.specs.Fields.{low, high, within, three_of, pressed_in, over_in, value_in, field_in, fields_in, Value}
 use Rattle.readback.specs.Items.{pressed_number, buttons_at, Sixteen, Numbered, Proper, value_at, number_at, dropped_in, report_in, kept_in, bad_in, item_in, width_in, salvage_in}
 use Rattle.readback.specs.declared.Kind.{Kind}
 use Rattle.readback.specs.declared.Kind.TheVariants as kind
-use Rattle.readback.specs.declared.Value.{Value}
 
 -- a field of a kind, within its bounds; and its value
 pub data Of (w : ℕ) : Kind → Field → Type 0 where

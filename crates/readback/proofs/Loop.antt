@@ -18,11 +18,10 @@ use Rattle.text.specs.Lengths.{length_to}
 use Rattle.listing.specs.Lines.{newline}
 use Rattle.listing.specs.Items.{items_in}
 use Rattle.readback.specs.Items.{all_numbers}
-use Rattle.readback.specs.Steps.{step_of, good}
+use Rattle.readback.specs.Steps.{step_of, good, Step}
 use Rattle.readback.specs.Pieces.{cut_in, bytes_in, body_of, faulty_line, reads, longest, lines_of, items_among, back, fault_at, whole, read_lines, pieces_of}
 use Rattle.readback.specs.Parts.{Stands, Begin, Begins}
 use Rattle.readback.specs.declared.Readback.{Readback}
-use Rattle.readback.specs.declared.Step.{Step}
 use Rattle.readback.specs.declared.Back.{Back}
 use Rattle.readback.proofs.Cuts.{first_long, first_whole, first_body, lines_line, not_whole, lines_short, lines_long, bytes_append, lines_few}
 use Rattle.readback.proofs.Goodness.{step_leaves}

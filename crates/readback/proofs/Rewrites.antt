@@ -32,13 +32,12 @@ use Rattle.listing.specs.declared.Item.TheVariants as item
 use Rattle.listing.proofs.Feeds.{size, put_room, put_wrote, put_short}
 use Rattle.readback.specs.Fields.{low, high}
 use Rattle.readback.specs.Items.{Sixteen}
-use Rattle.readback.specs.Steps.{old_width, width_known, step_of, good, of_salvage}
+use Rattle.readback.specs.Steps.{old_width, width_known, step_of, good, of_salvage, Step}
 use Rattle.readback.specs.Pieces.{is_whole, body_of, faulty_line, reads, lines_of, fault_at, pieces_of}
 use Rattle.readback.specs.Other.{TooWide}
 use Rattle.readback.specs.Rewriting.{other_width, too_wide, given_fits, width_behind, rewrites, rewrite_lines, rewriting, rewritten}
 use Rattle.readback.specs.Parts.{Stands, Begin, Rewrites}
 use Rattle.readback.specs.declared.Readback.{Readback}
-use Rattle.readback.specs.declared.Step.{Step}
 use Rattle.readback.specs.declared.Rewritten.{Rewritten}
 use Rattle.readback.proofs.Values.{SmallGiven}
 use Rattle.readback.proofs.OverLines.{Lawful}

@@ -17,10 +17,9 @@ use Rattle.listing.specs.Printing.{form_of, head_of, opening_of}
 use Rattle.listing.specs.declared.Item.{Item}
 use Rattle.listing.specs.declared.Item.TheVariants as item
 use Rattle.readback.specs.Items.{Proper, width_in, salvage_in}
-use Rattle.readback.specs.Steps.{width_known, opened_at, faulty, opens, step_of, good, has_ended}
+use Rattle.readback.specs.Steps.{width_known, opened_at, faulty, opens, step_of, good, has_ended, Step}
 use Rattle.readback.specs.Pieces.{longest}
 use Rattle.readback.specs.declared.Readback.{Readback}
-use Rattle.readback.specs.declared.Step.{Step}
 use Rattle.readback.proofs.Goodness.{known_is, known_few, known_some, begun, step_ended, step_first}
 use Rattle.readback.proofs.Grammar.{sixteen_most, width_read}
 use Rattle.readback.proofs.Again.{step_went}

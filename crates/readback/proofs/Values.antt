@@ -2,7 +2,7 @@
 use Rattle.listing.specs.declared.Item.{Item}
 use Rattle.std.proofs.Common.{Option}
 use Prim.Native.Nat.{ℕ, ◌+◌, ◌-◌, ◌<◌, ◌≤◌}
-use mathlib.Core.Path.{◌≡◌, refl, sym, ◌∙◌}
+use mathlib.Core.Path.{◌≡◌, refl, sym}
 use mathlib.Core.Bool.{Bool, true, false, cond, ◌&&◌, ◌||◌, true≢false}
 use mathlib.Core.List.{List, [], ◌∷◌}
 use native.Mathlib.Omega.{arith}
@@ -28,13 +28,11 @@ use Rattle.listing.specs.Printing.{letter_d, letter_r, letter_h, letter_e}
 use Rattle.listing.specs.declared.Middle.{Middle}
 use Rattle.listing.specs.declared.Middle.TheVariants.{Up, Down, Unknown}
 use Rattle.listing.specs.declared.Item.TheVariants as item
-use Rattle.readback.specs.Fields.{low, high, within, counts, pressed_in, value_in, Part, field_in, took, Fields, fields_in}
-use Rattle.readback.specs.Items.{Sixteen, Small, value_at, middle_number, counted, buttons_at, five, dropped_in, report_in, kept_in, bad_in, item_in, width_in, salvage_in}
+use Rattle.readback.specs.Fields.{low, high, within, counts, pressed_in, value_in, Part, field_in, took, Fields, fields_in, Value, Takes, Says, alone_in}
+use Rattle.readback.specs.Items.{Sixteen, Small, value_at, middle_number, counted, buttons_at, dropped_in, report_in, kept_in, bad_in, item_in, width_in, salvage_in}
+use Rattle.readback.specs.declared.Field.{Field}
 use Rattle.readback.specs.declared.Kind.{Kind}
 use Rattle.readback.specs.declared.Kind.TheVariants as kind
-use Rattle.readback.specs.declared.Value.{Value}
-use Rattle.readback.specs.declared.Took.{Took}
-use Rattle.readback.specs.declared.Five.{Five}
 
 -- bounds of values
 abbrev pub UpTo : ℕ → ℤ → Type 0
@@ -79,8 +77,8 @@ field_bound w k [] h = absurd (true≢false (sym h))
 field_bound w k (c ∷ cs) h =
     cases (λ (p : Part). p.good ≡ true → Bound k p.value) (eqb c tab) (λ _ g. value_bound w k (take (length_to tab cs) cs) g) (λ _ g. absurd (true≢false (sym g))) h
 
-pub took_bound : (w : ℕ) (k : Kind) (line : List ℕ) (at : ℕ) {t : Took} → t ≡ took at (field_in w k (drop at line)) → t.good ≡ true → Bound k t.value
-took_bound w k line at e g = rw e (field_bound w k (drop at line) (rw e at g))
+pub takes_bound : (w : ℕ) (k : Kind) (line : List ℕ) (at : ℕ) {f : Field} → Takes (took at (field_in w k (drop at line))) (option.Some f) → Bound k f.value
+takes_bound w k line at h = rw h.1 (field_bound w k (drop at line) h.0)
 
 -- the field from a place on
 module _ (w : ℕ) (k : Kind) (line : List ℕ) (at : ℕ) where
@@ -120,84 +118,125 @@ unfolding fields_in fields_at
 fields_at_lem w [] line at = rw (length-drop at line, none_left (length line) at)
 fields_at_lem w (k ∷ ks) line at = let f = field_in w k (drop at line) in rw (drop-drop f.size at line, fields_at_lem w ks line (at + f.size))
 
+-- a field that is not there, and one that is
+module _ (w : ℕ) (k : Kind) (ks : List Kind) (line : List ℕ) (at : ℕ) where
+  none_here : (took at (field_in w k (drop at line))).good ≡ false → (fields_at w (k ∷ ks) line at).good ≡ false
+  unfolding fields_at
+  none_here e = rw e
+
+  some_here : {f : Field} → Takes (took at (field_in w k (drop at line))) (option.Some f)
+      → fields_at w (k ∷ ks) line at ≡ record { good = (fields_at w ks line f.end).good; values = f.value ∷ (fields_at w ks line f.end).values }
+  unfolding fields_at
+  some_here h = rw (h.0, h.1, h.2)
+
+end_here : (w : ℕ) (line : List ℕ) (at : ℕ) → fields_at w [] line at ≡ record { good = leb (length line) at; values = [] }
+unfolding fields_at
+end_here w line at = refl
+
 -- the lines by their letters, as the code reads them
 module _ (w : ℕ) (line : List ℕ) where
-  abbrev first : Kind → Took
-  first k = took 1 (field_in w k (drop 1 line))
+  abbrev Reads : Kind → ℕ → Option Field → Type 0
+  Reads k at = Takes (took at (field_in w k (drop at line)))
 
-  abbrev behind : Kind → Took → Took
-  behind k t = took t.end (field_in w k (drop t.end line))
+  pub dropped_one : Reads kind.Line 1 option.None → option.None ≡ dropped_in w (drop 1 line)
+  unfolding dropped_in
+  dropped_one e = rw (fields_at_lem w (kind.Line ∷ kind.Count ∷ []) line 1, none_here w kind.Line (kind.Count ∷ []) line 1 e)
 
-  module _ (n k : Took) (en : n ≡ first kind.Line) (ek : k ≡ behind kind.Count n) where
-    abbrev whole_d : Bool
-    whole_d = (n.good && (k.good && leb (length line) k.end)) && lt_z (pos 0) k.value
+  module _ (n : Field) (en : Reads kind.Line 1 (option.Some n)) where
+    pub dropped_two : Reads kind.Count n.end option.None → option.None ≡ dropped_in w (drop 1 line)
+    unfolding dropped_in
+    dropped_two e = rw (fields_at_lem w (kind.Line ∷ kind.Count ∷ []) line 1, some_here w kind.Line (kind.Count ∷ []) line 1 en, none_here w kind.Count [] line n.end e)
 
-    pub dropped_yes : whole_d ≡ true → option.Some (item.D (nat_abs n.value) (nat_abs k.value)) ≡ dropped_in w (drop 1 line)
-    unfolding dropped_in fields_at
-    dropped_yes t = rw (fields_at_lem w (kind.Line ∷ kind.Count ∷ []) line 1, ek, en, rw (ek, en) at t)
+    pub dropped_is : (k : Field) → Reads kind.Count n.end (option.Some k)
+        → dropped_in w (drop 1 line) ≡ cond (leb (length line) k.end && lt_z (pos 0) k.value) (option.Some (item.D (nat_abs n.value) (nat_abs k.value))) option.None
+    unfolding dropped_in
+    dropped_is k ek = rw (fields_at_lem w (kind.Line ∷ kind.Count ∷ []) line 1, some_here w kind.Line (kind.Count ∷ []) line 1 en, some_here w kind.Count [] line n.end ek, end_here w line k.end)
 
-    pub dropped_no : whole_d ≡ false → option.None ≡ dropped_in w (drop 1 line)
-    unfolding dropped_in fields_at
-    dropped_no t = rw (fields_at_lem w (kind.Line ∷ kind.Count ∷ []) line 1, rw (ek, en) at t)
+  abbrev four : List Kind
+  four = kind.Line ∷ kind.Pressed ∷ kind.Number ∷ kind.Number ∷ []
 
-  module _ (n b x y : Took) (en : n ≡ first kind.Line) (eb : b ≡ behind kind.Pressed n) (ex : x ≡ behind kind.Number b) (ey : y ≡ behind kind.Number x) where
-    abbrev whole_r : Bool
-    whole_r = n.good && (b.good && (x.good && (y.good && leb (length line) y.end)))
+  pub report_one : Reads kind.Line 1 option.None → option.None ≡ report_in w (drop 1 line)
+  unfolding report_in
+  report_one e = rw (fields_at_lem w four line 1, none_here w kind.Line (kind.Pressed ∷ kind.Number ∷ kind.Number ∷ []) line 1 e)
 
-    pub report_yes : whole_r ≡ true → option.Some (item.R (nat_abs n.value) (buttons_at (nat_abs b.value)) x.value y.value) ≡ report_in w (drop 1 line)
-    unfolding report_in fields_at
-    report_yes t = rw (fields_at_lem w (kind.Line ∷ kind.Pressed ∷ kind.Number ∷ kind.Number ∷ []) line 1, ey, ex, eb, en, rw (ey, ex, eb, en) at t)
+  module _ (n : Field) (en : Reads kind.Line 1 (option.Some n)) where
+    report_n : fields_at w four line 1 ≡ record { good = (fields_at w (kind.Pressed ∷ kind.Number ∷ kind.Number ∷ []) line n.end).good; values = n.value ∷ (fields_at w (kind.Pressed ∷ kind.Number ∷ kind.Number ∷ []) line n.end).values }
+    report_n = some_here w kind.Line (kind.Pressed ∷ kind.Number ∷ kind.Number ∷ []) line 1 en
 
-    pub report_no : whole_r ≡ false → option.None ≡ report_in w (drop 1 line)
-    unfolding report_in fields_at
-    report_no t = rw (fields_at_lem w (kind.Line ∷ kind.Pressed ∷ kind.Number ∷ kind.Number ∷ []) line 1, rw (ey, ex, eb, en) at t)
+    pub report_two : Reads kind.Pressed n.end option.None → option.None ≡ report_in w (drop 1 line)
+    unfolding report_in
+    report_two e = rw (fields_at_lem w four line 1, report_n, none_here w kind.Pressed (kind.Number ∷ kind.Number ∷ []) line n.end e)
 
-  pub kept_yes : (k : Took) → k ≡ first kind.Count → k.good && leb (length line) k.end ≡ true → option.Some (item.H (nat_abs k.value)) ≡ kept_in w (drop 1 line)
-  unfolding kept_in fields_at
-  kept_yes k ek t = rw (fields_at_lem w (kind.Count ∷ []) line 1, ek, rw ek at t)
+    module _ (b : Field) (eb : Reads kind.Pressed n.end (option.Some b)) where
+      report_b : fields_at w (kind.Pressed ∷ kind.Number ∷ kind.Number ∷ []) line n.end ≡ record { good = (fields_at w (kind.Number ∷ kind.Number ∷ []) line b.end).good; values = b.value ∷ (fields_at w (kind.Number ∷ kind.Number ∷ []) line b.end).values }
+      report_b = some_here w kind.Pressed (kind.Number ∷ kind.Number ∷ []) line n.end eb
 
-  pub kept_no : (k : Took) → k ≡ first kind.Count → k.good && leb (length line) k.end ≡ false → option.None ≡ kept_in w (drop 1 line)
-  unfolding kept_in fields_at
-  kept_no k ek t = rw (fields_at_lem w (kind.Count ∷ []) line 1, rw ek at t)
+      pub report_three : Reads kind.Number b.end option.None → option.None ≡ report_in w (drop 1 line)
+      unfolding report_in
+      report_three e = rw (fields_at_lem w four line 1, report_n, report_b, none_here w kind.Number (kind.Number ∷ []) line b.end e)
 
-  pub over_yes : (o : Took) → o ≡ first kind.Over → o.good && leb (length line) o.end ≡ true → option.Some item.Over ≡ bad_in w (drop 1 line)
-  unfolding bad_in fields_at
-  over_yes o eo t = rw (fields_at_lem w (kind.Over ∷ []) line 1, rw eo at t)
+      module _ (x : Field) (ex : Reads kind.Number b.end (option.Some x)) where
+        report_x : fields_at w (kind.Number ∷ kind.Number ∷ []) line b.end ≡ record { good = (fields_at w (kind.Number ∷ []) line x.end).good; values = x.value ∷ (fields_at w (kind.Number ∷ []) line x.end).values }
+        report_x = some_here w kind.Number (kind.Number ∷ []) line b.end ex
 
-  module _ (o n : Took) (eo : o ≡ first kind.Over) (en : n ≡ first kind.Line) (no : o.good && leb (length line) o.end ≡ false) where
-    pub bad_yes : n.good && leb (length line) n.end ≡ true → option.Some (item.E (nat_abs n.value)) ≡ bad_in w (drop 1 line)
-    unfolding bad_in fields_at
-    bad_yes t = rw (fields_at_lem w (kind.Over ∷ []) line 1, fields_at_lem w (kind.Line ∷ []) line 1, rw eo at no, en, rw en at t)
+        pub report_four : Reads kind.Number x.end option.None → option.None ≡ report_in w (drop 1 line)
+        unfolding report_in
+        report_four e = rw (fields_at_lem w four line 1, report_n, report_b, report_x, none_here w kind.Number [] line x.end e)
 
-    pub bad_no : n.good && leb (length line) n.end ≡ false → option.None ≡ bad_in w (drop 1 line)
-    unfolding bad_in fields_at
-    bad_no t = rw (fields_at_lem w (kind.Over ∷ []) line 1, fields_at_lem w (kind.Line ∷ []) line 1, rw eo at no, rw en at t)
+        pub report_is : (y : Field) → Reads kind.Number x.end (option.Some y)
+            → report_in w (drop 1 line) ≡ cond (leb (length line) y.end) (option.Some (item.R (nat_abs n.value) (buttons_at (nat_abs b.value)) x.value y.value)) option.None
+        unfolding report_in
+        report_is y ey = rw (fields_at_lem w four line 1, report_n, report_b, report_x, some_here w kind.Number [] line x.end ey, end_here w line y.end)
+
+-- the one field of a line
+alone_all : (w : ℕ) (k : Kind) (line : List ℕ) {f : Field} → Takes (took 1 (field_in w k (drop 1 line))) (option.Some f)
+    → fields_in w (k ∷ []) (drop 1 line) ≡ record { good = leb (length line) f.end; values = f.value ∷ [] }
+alone_all w k line {f} e = rw (fields_at_lem w (k ∷ []) line 1, some_here w k [] line 1 e, end_here w line f.end)
+
+module _ (w : ℕ) (k : Kind) (line : List ℕ) where
+  pub alone_none : (took 1 (field_in w k (drop 1 line))).good ≡ false → (alone_in w k (drop 1 line)).good ≡ false
+  alone_none e = rw (fields_at_lem w (k ∷ []) line 1, none_here w k [] line 1 e)
+
+  module _ (f : Field) (e : Takes (took 1 (field_in w k (drop 1 line))) (option.Some f)) where
+    pub alone_some : leb (length line) f.end ≡ true → Says (alone_in w k (drop 1 line)) (option.Some f.value)
+    alone_some t = let all = alone_all w k line e in (rw (all, t), rw all)
+
+    pub alone_more : leb (length line) f.end ≡ false → (alone_in w k (drop 1 line)).good ≡ false
+    alone_more t = rw (alone_all w k line e, t)
+
+module _ (w : ℕ) (line : List ℕ) where
+  pub kept_none : (alone_in w kind.Count line).good ≡ false → option.None ≡ kept_in w line
+  unfolding kept_in
+  kept_none e = rw e
+
+  pub kept_some : {k : ℤ} → Says (alone_in w kind.Count line) (option.Some k) → option.Some (item.H (nat_abs k)) ≡ kept_in w line
+  unfolding kept_in
+  kept_some h = rw (h.0, h.1)
+
+  pub bad_over : (alone_in w kind.Over line).good ≡ true → option.Some item.Over ≡ bad_in w line
+  unfolding bad_in
+  bad_over e = rw e
+
+  module _ (over : (alone_in w kind.Over line).good ≡ false) where
+    pub bad_none : (alone_in w kind.Line line).good ≡ false → option.None ≡ bad_in w line
+    unfolding bad_in
+    bad_none e = rw (over, e)
+
+    pub bad_some : {n : ℤ} → Says (alone_in w kind.Line line) (option.Some n) → option.Some (item.E (nat_abs n)) ≡ bad_in w line
+    unfolding bad_in
+    bad_some h = rw (over, h.0, h.1)
 
 -- the first line
-pub no_width : (line : List ℕ) → length line ≡ 0 → 0 ≡ width_in line
+pub no_width : (line : List ℕ) → length line ≡ 0 → width_in line ≡ 0
 unfolding width_in
 no_width [] h = refl
 no_width (c ∷ l) h = absurd (omega arith)
 
-module _ (line : List ℕ) (t : Took) (is : t ≡ took 1 (field_in plain kind.Count (drop 1 line))) (some : length line ≡ 0 → ⊥) where
-  abbrev opening : Bool
-  opening = (eqb (get_or line 0 0) 0x4C || eqb (get_or line 0 0) 0x53) && (t.good && leb (length line) t.end)
-
-  width_is : width_in line ≡ (let f = fields_at plain (kind.Count ∷ []) line 1 in cond ((eqb (get_or line 0 0) 0x4C || eqb (get_or line 0 0) 0x53) && f.good) (nat_abs (get_or f.values 0 (pos 0))) 0)
-  unfolding width_in
-  width_is = go line some
-    where
-      go : (l : List ℕ) → (length l ≡ 0 → ⊥) → width_in l ≡ (let f = fields_at plain (kind.Count ∷ []) l 1 in cond ((eqb (get_or l 0 0) 0x4C || eqb (get_or l 0 0) 0x53) && f.good) (nat_abs (get_or f.values 0 (pos 0))) 0)
-      go [] h = absurd (h refl)
-      go (c ∷ l) h = rw (← fields_at_lem plain (kind.Count ∷ []) (c ∷ l) 1)
-
-  pub a_width : opening ≡ true → nat_abs t.value ≡ width_in line
-  unfolding fields_at
-  a_width h = rw (width_is, is, rw is at h)
-
-  pub other_width_lem : opening ≡ false → 0 ≡ width_in line
-  unfolding fields_at
-  other_width_lem h = rw (width_is, rw is at h)
+pub width_is : (line : List ℕ) → (length line ≡ 0 → ⊥)
+    → width_in line ≡ (let v = alone_in plain kind.Count (drop 1 line) in cond ((eqb (get_or line 0 0) 0x4C || eqb (get_or line 0 0) 0x53) && v.good) (nat_abs v.value) 0)
+unfolding width_in
+width_is [] h = absurd (h refl)
+width_is (c ∷ l) h = refl
 
 -- and whether it is a salvage's
 pub no_kind : (line : List ℕ) → length line ≡ 0 → false ≡ salvage_in line
@@ -256,9 +295,6 @@ pub sixteen_fits : (x : ℤ) → Sixteen x → SFits w32 x
 sixteen_fits (pos n) h = record { sfits = omega (arith, ltb-false 32767 n (neither (lt_z (pos n) low) (ltb 32767 n) h).1) }
 sixteen_fits (negsuc n) h = record { sfits = omega (arith, ltb-false 32767 n (neither (lt_z (negsuc n) low) (lt_z (pos 32767) (negsuc n)) h).0) }
 
-pub fives : {r : Five} {k a b c d a' b' c' d' : ℤ} → r ≡ five k a b c d → a ≡ a' → b ≡ b' → c ≡ c' → d ≡ d' → r ≡ five k a' b' c' d'
-fives e ea eb ec ed = e ∙ rw (ea, eb, ec, ed)
-
 -- what is read is small
 abbrev Bounds : List Kind → List ℤ → Type 0
 Bounds [] vs = Unit {0}
@@ -272,6 +308,10 @@ fields_bound w (k ∷ ks) line h =
     let f = field_in w k line in
     let more = fields_in w ks (drop f.size line) in
     (field_bound w k line (left f.good more.good h), fields_bound w ks (drop f.size line) (right f.good more.good h))
+
+pub alone_bound : (w : ℕ) (k : Kind) (line : List ℕ) {x : ℤ} → Says (alone_in w k line) (option.Some x) → Bound k x
+unfolding fields_in
+alone_bound w k line h = rw h.1 (fields_bound w (k ∷ []) line h.0).0
 
 abbrev pub SmallGiven : Option Item → Type 0
 SmallGiven option.None = Unit {0}

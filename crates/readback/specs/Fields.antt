@@ -1,6 +1,8 @@
 -- The fields of a line, read by their kinds: what Printing writes, the other way.
-use Rattle.std.specs.Prelude.{ℕ, ◌+◌, Bool, false, not, cond, ◌&&◌, ◌||◌, List, [], ◌∷◌, eqb, ℤ, pos, negsuc, length, get_or, take, drop}
+use Rattle.std.specs.Prelude.{ℕ, ◌+◌, ◌≡◌, Bool, true, false, not, cond, ◌&&◌, ◌||◌, List, [], ◌∷◌, eqb, ℤ, pos, negsuc, length, get_or, take, drop}
 use Rattle.std.specs.Int.Signed.{lt_z}
+use Rattle.std.specs.declared.option.Option.TheVariants as option
+use Rattle.std.specs.Prelude.{Option}
 use Rattle.text.specs.Decimals.{plain, number_in}
 use Rattle.text.specs.declared.Number.{Number}
 use Rattle.text.specs.declared.Number.TheVariants.{None, Is}
@@ -9,8 +11,7 @@ use Rattle.listing.specs.Lines.{tab}
 use Rattle.listing.specs.Scanning.{most_lines}
 use Rattle.readback.specs.declared.Kind.{Kind}
 use Rattle.readback.specs.declared.Kind.TheVariants as kind
-use Rattle.readback.specs.declared.Value.{Value}
-use Rattle.readback.specs.declared.Took.{Took}
+use Rattle.readback.specs.declared.Field.{Field}
 
 -- the bounds of "16 bits signed"
 abbrev pub high : ℕ
@@ -18,6 +19,16 @@ high = 32767
 
 abbrev pub low : ℤ
 low = negsuc high
+
+-- what the bytes of a field say: whether they are of its kind, and their value
+pub record Value : Type 0 where
+  pub good : Bool
+  pub value : ℤ
+
+-- what is answered of it: its value where it is good
+abbrev pub Says : Value → Option ℤ → Type 0
+Says v option.None = v.good ≡ false
+Says v (option.Some x) = (v.good ≡ true) × (x ≡ v.value)
 
 -- no field of its kind
 abbrev pub none : Value
@@ -76,7 +87,16 @@ unfoldable pub field_in : ℕ → Kind → List ℕ → Part
 field_in w k [] = part none 0
 field_in w k (c ∷ cs) = cond (eqb c tab) (part (value_in w k (take (length_to tab cs) cs)) (length_to tab cs + 1)) (part none 0)
 
--- from a place of the line on
+-- from a place of the line on, with the place behind it
+pub record Took : Type 0 where
+  pub good : Bool
+  pub value : ℤ
+  pub end : ℕ
+
+abbrev pub Takes : Took → Option Field → Type 0
+Takes t option.None = t.good ≡ false
+Takes t (option.Some f) = (t.good ≡ true) × (f.value ≡ t.value) × (f.end ≡ t.end)
+
 abbrev pub took : ℕ → Part → Took
 took at p = record { good = p.good; value = p.value; end = at + p.size }
 
@@ -91,3 +111,7 @@ fields_in w (k ∷ ks) line =
     let f = field_in w k line in
     let more = fields_in w ks (drop f.size line) in
     record { good = f.good && more.good; values = f.value ∷ more.values }
+
+-- one field, and no more
+abbrev pub alone_in : ℕ → Kind → List ℕ → Value
+alone_in w k line = let f = fields_in w (k ∷ []) line in record { good = f.good; value = get_or f.values 0 (pos 0) }

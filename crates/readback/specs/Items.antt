@@ -11,7 +11,6 @@ use Rattle.listing.specs.declared.Item.{Item}
 use Rattle.listing.specs.declared.Item.TheVariants as item
 use Rattle.readback.specs.Fields.{low, high, Fields, fields_in}
 use Rattle.readback.specs.declared.Kind.TheVariants as kind
-use Rattle.readback.specs.declared.Five.{Five}
 
 -- buttons as a number: 4L + 2M + R, and 8 where the middle is not known
 abbrev pub middle_number : Middle → ℕ
@@ -33,6 +32,13 @@ abbrev pub buttons_at : ℕ → Buttons
 buttons_at n = record { left = eqb (n / 4 % 2) 1; middle = middle_at n; right = eqb (n % 2) 1 }
 
 -- an item as five numbers: its kind, its line and three values, 0 where it has none
+pub record Five : Type 0 where
+  pub kind : ℤ
+  pub line : ℤ
+  pub a : ℤ
+  pub b : ℤ
+  pub c : ℤ
+
 abbrev pub five : ℤ → ℤ → ℤ → ℤ → ℤ → Five
 five kind line a b c = record { kind = kind; line = line; a = a; b = b; c = c }
 
@@ -119,6 +125,11 @@ width_in [] = 0
 width_in (letter ∷ fields) =
     let f = fields_in plain (kind.Count ∷ []) fields in
     cond ((eqb letter letter_l || eqb letter letter_s) && f.good) (number_at 0 f) 0
+
+-- what is answered of it: none where the line says none
+abbrev pub WidthIs : ℕ → Option ℕ → Type 0
+WidthIs w None = w ≡ 0
+WidthIs w (Some n) = n ≡ w
 
 -- "§2's reader accepts both and says which it read": whether it is a salvage's
 unfoldable pub salvage_in : List ℕ → Bool

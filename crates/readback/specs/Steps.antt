@@ -5,7 +5,7 @@ use Rattle.listing.specs.declared.Item.{Item}
 use Rattle.listing.specs.declared.Item.TheVariants as item
 use Rattle.readback.specs.Items.{item_in, width_in, salvage_in}
 use Rattle.readback.specs.declared.Readback.{Readback}
-use Rattle.readback.specs.declared.Step.{Step}
+use Rattle.readback.specs.declared.Passed.{Passed}
 
 -- "Width 4 is still read, by the same rule over the width; any other is a faulty line"
 abbrev pub old_width : ℕ
@@ -58,8 +58,19 @@ closes (item.H k) = true
 closes (item.E n) = true
 closes item.Over = true
 
+-- what a line does: whether it may stand there, the next reader, and its item, if it has one
+pub record Step : Type 0 where
+  pub good : Bool
+  pub next : Readback
+  pub given : Option Item
+
 abbrev pub faulty : Readback → Step
 faulty r = record { good = false; next = r; given = None }
+
+-- what is answered of it: none where it may not stand there
+abbrev pub told : Readback → Option Passed → Step
+told r None = faulty r
+told r (Some p) = record { good = true; next = p.next; given = p.given }
 
 abbrev pub passed_by : Readback → Item → Readback
 passed_by r i = record { width = r.width; ended = mark (closes i); salvage = r.salvage; last = last_behind r.last i; lines = r.lines + 1 }

@@ -1,9 +1,10 @@
 // A line, to its item; and an item, to its five numbers.
 ghost use Rattle.std.specs.Prelude.{◌≡◌, drop};
-ghost use Rattle.readback.specs.Items.{middle_at, buttons_at, middle_number, pressed_number, five, five_of, Small, dropped_in, report_in, kept_in, bad_in, item_in, width_in, salvage_in};
+ghost use Rattle.readback.specs.Fields.{Says, alone_in};
+ghost use Rattle.readback.specs.Items.{middle_at, buttons_at, middle_number, pressed_number, numbers_of, Small, dropped_in, report_in, kept_in, bad_in, item_in, width_in, WidthIs, salvage_in};
 
+use crate::Kind;
 use crate::fields::field;
-use crate::{Five, Kind};
 use listing::{Buttons, Item, Middle};
 
 // The middle button of a number of buttons.
@@ -11,12 +12,12 @@ fn middle_at(n: u8) -> Middle
     ensures { result ≡ middle_at n }
 {
     if n >= 8 {
-        return Middle::Unknown;
+        Middle::Unknown
+    } else if n / 2 % 2 == 1 {
+        Middle::Down
+    } else {
+        Middle::Up
     }
-    if n / 2 % 2 == 1 {
-        return Middle::Down;
-    }
-    Middle::Up
 }
 
 // The buttons of their number.
@@ -50,39 +51,26 @@ fn counted(down: bool, value: u8) -> u8
 fn pressed_number(buttons: Buttons) -> u8
     ensures { result ≡ pressed_number buttons }
 {
-    let middle = buttons.middle;
-    counted(buttons.left, 4) + middle_number(middle) + counted(buttons.right, 1)
+    counted(buttons.left, 4) + middle_number(buttons.middle) + counted(buttons.right, 1)
 }
 
-fn five(kind: i32, line: i32, a: i32, b: i32, c: i32) -> Five
-    ensures { result ≡ five kind line a b c }
-{
-    Five {
-        kind: kind,
-        line: line,
-        a: a,
-        b: b,
-        c: c,
-    }
-}
-
-// The five numbers of an item.
-pub(crate) fn numbers(item: Item) -> Five
+// The five numbers of an item: its kind (1 R, 2 D, 3 H, 4 E, 5 E over), its line, and three values.
+pub(crate) fn numbers(item: Item) -> [i32; 5]
     requires { Small item }
-    ensures { result ≡ five_of item }
+    ensures { result ≡ numbers_of item }
 {
     match item {
-        Item::R(n, buttons, x, y) => five(
+        Item::R(n, buttons, x, y) => [
             1,
             n as i32,
-            pressed_number(buttons) as i32,
+            i32::from(pressed_number(buttons)),
             x as i32,
             y as i32,
-        ),
-        Item::D(n, k) => five(2, n as i32, k as i32, 0, 0),
-        Item::H(k) => five(3, 0, k as i32, 0, 0),
-        Item::E(n) => five(4, n as i32, 0, 0, 0),
-        Item::Over => five(5, 0, 0, 0, 0),
+        ],
+        Item::D(n, k) => [2, n as i32, i32::from(k), 0, 0],
+        Item::H(k) => [3, 0, i32::from(k), 0, 0],
+        Item::E(n) => [4, n as i32, 0, 0, 0],
+        Item::Over => [5, 0, 0, 0, 0],
     }
 }
 
@@ -90,52 +78,61 @@ pub(crate) fn numbers(item: Item) -> Five
 fn dropped(width: usize, line: &[u8]) -> Option<Item>
     ensures { result ≡ dropped_in width (drop 1 line.now) }
 {
-    let n = field(Kind::Line, width, line, 1);
-    let k = field(Kind::Count, width, line, n.end);
-    if (n.good & (k.good & (line.len() <= k.end))) & (0 < k.value) {
-        return Some(Item::D(n.value as u32, k.value as u16));
+    let n = field(Kind::Line, width, line, 1)?;
+    let k = field(Kind::Count, width, line, n.end)?;
+    if (line.len() <= k.end) & (0 < k.value) {
+        Some(Item::D(n.value as u32, k.value as u16))
+    } else {
+        None
     }
-    None
 }
 
 // The fields of `R`.
 fn report(width: usize, line: &[u8]) -> Option<Item>
     ensures { result ≡ report_in width (drop 1 line.now) }
 {
-    let n = field(Kind::Line, width, line, 1);
-    let b = field(Kind::Pressed, width, line, n.end);
-    let x = field(Kind::Number, width, line, b.end);
-    let y = field(Kind::Number, width, line, x.end);
-    if n.good & (b.good & (x.good & (y.good & (line.len() <= y.end)))) {
-        return Some(Item::R(n.value as u32, buttons_at(b.value as u8), x.value, y.value));
+    let n = field(Kind::Line, width, line, 1)?;
+    let b = field(Kind::Pressed, width, line, n.end)?;
+    let x = field(Kind::Number, width, line, b.end)?;
+    let y = field(Kind::Number, width, line, x.end)?;
+    if line.len() <= y.end {
+        Some(Item::R(n.value as u32, buttons_at(b.value as u8), x.value, y.value))
+    } else {
+        None
     }
-    None
+}
+
+// The field of a line that has no other.
+fn alone(kind: Kind, width: usize, line: &[u8]) -> Option<i64>
+    ensures { Says (alone_in width kind (drop 1 line.now)) result }
+{
+    let f = field(kind, width, line, 1)?;
+    if line.len() <= f.end {
+        Some(f.value)
+    } else {
+        None
+    }
 }
 
 // The field of `H`.
 fn kept(width: usize, line: &[u8]) -> Option<Item>
     ensures { result ≡ kept_in width (drop 1 line.now) }
 {
-    let k = field(Kind::Count, width, line, 1);
-    if k.good & (line.len() <= k.end) {
-        return Some(Item::H(k.value as u16));
-    }
-    None
+    let k = alone(Kind::Count, width, line)?;
+    Some(Item::H(k as u16))
 }
 
 // The field of `E`.
 fn bad(width: usize, line: &[u8]) -> Option<Item>
     ensures { result ≡ bad_in width (drop 1 line.now) }
 {
-    let over = field(Kind::Over, width, line, 1);
-    if over.good & (line.len() <= over.end) {
-        return Some(Item::Over);
+    match alone(Kind::Over, width, line) {
+        Some(_) => Some(Item::Over),
+        None => {
+            let n = alone(Kind::Line, width, line)?;
+            Some(Item::E(n as u32))
+        }
     }
-    let n = field(Kind::Line, width, line, 1);
-    if n.good & (line.len() <= n.end) {
-        return Some(Item::E(n.value as u32));
-    }
-    None
 }
 
 // The item of a line.
@@ -154,27 +151,25 @@ pub(crate) fn item(width: usize, line: &[u8]) -> Option<Item>
     }
 }
 
-// The width that the first line of a listing tells, or 0.
-pub(crate) fn width(line: &[u8]) -> u16
-    ensures { result ≡ width_in line.now }
+// The width that the first line of a listing tells.
+pub(crate) fn width(line: &[u8]) -> Option<u16>
+    ensures { WidthIs (width_in line.now) result }
 {
     if line.len() == 0 {
-        return 0;
+        return None;
     }
     let letter = line[0];
-    let w = field(Kind::Count, 1, line, 1);
-    if ((letter == b'L') | (letter == b'S')) & (w.good & (line.len() <= w.end)) {
-        return w.value as u16;
+    if (letter == b'L') | (letter == b'S') {
+        let w = alone(Kind::Count, 1, line)?;
+        Some(w as u16)
+    } else {
+        None
     }
-    0
 }
 
 // Whether the first line of a listing is a salvage's.
 pub(crate) fn salvage(line: &[u8]) -> bool
     ensures { result ≡ salvage_in line.now }
 {
-    if line.len() == 0 {
-        return false;
-    }
-    line[0] == b'S'
+    line.len() > 0 && line[0] == b'S'
 }

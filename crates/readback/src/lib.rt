@@ -20,29 +20,11 @@ pub(crate) enum Kind {
     Over,
 }
 
-// What the bytes of a field say: whether they are of its kind, and their value.
+// The value of a field of a line, behind its tab, and the place behind it.
 #[derive(Clone, Copy, Drop)]
-pub(crate) struct Value {
-    pub good: bool,
-    pub value: i64,
-}
-
-// A field of a line, behind its tab, and the place behind it.
-#[derive(Clone, Copy, Drop)]
-pub(crate) struct Took {
-    pub good: bool,
+pub(crate) struct Field {
     pub value: i64,
     pub end: usize,
-}
-
-// An item as five numbers: its kind (1 R, 2 D, 3 H, 4 E, 5 E over), its line, and three values.
-#[derive(Clone, Copy, Drop)]
-pub(crate) struct Five {
-    pub kind: i32,
-    pub line: i32,
-    pub a: i32,
-    pub b: i32,
-    pub c: i32,
 }
 
 // How far a listing has been read: the width of its line numbers, 0 before its first line; whether its last line has
@@ -57,10 +39,9 @@ pub struct Readback {
     pub lines: u32,
 }
 
-// What a line does: whether it may stand there, the next reader, and its item, if it has one.
+// What a line does that may stand there: the next reader, and its item, if it has one.
 #[derive(Clone, Copy, Drop)]
-pub(crate) struct Step {
-    pub good: bool,
+pub(crate) struct Passed {
     pub next: Readback,
     pub given: Option<Item>,
 }

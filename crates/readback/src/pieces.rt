@@ -18,17 +18,7 @@ fn put(out: &mut [i32], item: Item)
     requires { Small item × (5 ≤ length out.old) }
     ensures { out.new ≡ numbers_of item ++ drop 5 out.old }
 {
-    let five = numbers(item);
-    let kind = five.kind;
-    let line = five.line;
-    let a = five.a;
-    let b = five.b;
-    let c = five.c;
-    out[0] = kind;
-    out[1] = line;
-    out[2] = a;
-    out[3] = b;
-    out[4] = c;
+    out[..5].copy_from_slice(&numbers(item));
 }
 
 fn back(refusal: u8, next: Readback, taken: usize, items: usize, line: u32) -> Back
@@ -92,20 +82,17 @@ impl Readback {
             }
             return back(7, self, 0, 0, self.lines + 1);
         }
-        let s = self.step(&input[..n]);
-        if !s.good {
+        let Some(s) = self.step(&input[..n]) else {
             return back(7, self, 0, 0, self.lines + 1);
-        }
-        let next = s.next;
-        let given = s.given;
-        match given {
-            None => back(0, next, n + 1, 0, 0),
+        };
+        match s.given {
+            None => back(0, s.next, n + 1, 0, 0),
             Some(item) => {
                 if out.len() < 5 {
                     return back(0, self, 0, 0, 0);
                 }
                 put(out, item);
-                back(0, next, n + 1, 1, 0)
+                back(0, s.next, n + 1, 1, 0)
             }
         }
     }
@@ -124,11 +111,10 @@ impl Readback {
             if t.taken == 0 {
                 return back(t.refusal, r, at, items, t.line);
             }
-            let next = t.next;
-            r = next;
-            at = at + t.taken;
-            used = used + 5 * t.items;
-            items = items + t.items;
+            r = t.next;
+            at += t.taken;
+            used += 5 * t.items;
+            items += t.items;
         }
         back(0, r, at, items, 0)
     }

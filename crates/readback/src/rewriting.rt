@@ -31,13 +31,9 @@ fn fits(width: u8, item: Item) -> bool
     requires { width_known width ≡ true }
     ensures { result ≡ fits_at width item }
 {
-    let most = most(width);
-    match item {
-        Item::R(n, _, _, _) => n <= most,
-        Item::D(n, _) => n <= most,
-        Item::H(_) => true,
-        Item::E(n) => n <= most,
-        Item::Over => true,
+    match item.line_number() {
+        Some(n) => n <= most(width),
+        None => true,
     }
 }
 
@@ -87,21 +83,18 @@ impl Readback {
             }
             return rewritten(7, self, 0, 0, self.lines + 1);
         }
-        let s = self.step(&input[..n]);
-        if !s.good {
+        let Some(s) = self.step(&input[..n]) else {
             return rewritten(7, self, 0, 0, self.lines + 1);
-        }
-        let next = s.next;
-        let given = s.given;
-        let width = other_width(next.width);
-        if !given_fits(width, given) {
+        };
+        let width = other_width(s.next.width);
+        if !given_fits(width, s.given) {
             return rewritten(15, self, 0, 0, self.lines + 1);
         }
-        let text = listing::line_at(given, next.salvage == 1, width);
+        let text = listing::line_at(s.given, s.next.salvage == 1, width);
         if !text.put(out, 0) {
             return rewritten(0, self, 0, 0, 0);
         }
-        rewritten(0, next, n + 1, text.len, 0)
+        rewritten(0, s.next, n + 1, text.len, 0)
     }
 
     // The lines, one after the other.
@@ -117,10 +110,9 @@ impl Readback {
             if t.taken == 0 {
                 return rewritten(t.refusal, r, at, used, t.line);
             }
-            let next = t.next;
-            r = next;
-            at = at + t.taken;
-            used = used + t.written;
+            r = t.next;
+            at += t.taken;
+            used += t.written;
         }
         rewritten(0, r, at, used, 0)
     }

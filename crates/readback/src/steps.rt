@@ -1,28 +1,25 @@
 // A line in its place: what it does to a reader of listings.
 ghost use Rattle.std.specs.Prelude.{◌≡◌, true};
-ghost use Rattle.readback.specs.Steps.{width_known, last_behind, above, closes, faulty, opens, passes, step_of, besides, good};
+ghost use Rattle.readback.specs.Steps.{width_known, last_behind, above, closes, told, opens, passes, step_of, besides, good};
 
 use crate::rewriting::most;
-use crate::{Readback, Step, items};
+use crate::{Passed, Readback, items};
 use listing::Item;
 
 // Whether listings of this width are read.
 fn width_known(width: u16) -> bool
     ensures { result ≡ width_known width }
 {
-    (width == 4) | (width == 6)
+    matches!(width, 4 | 6)
 }
 
 // The last line number behind an item.
 fn last_behind(last: u32, item: Item) -> u32
     ensures { result ≡ last_behind last item }
 {
-    match item {
-        Item::R(n, _, _, _) => n,
-        Item::D(n, _) => n,
-        Item::H(_) => last,
-        Item::E(n) => n,
-        Item::Over => last,
+    match item.line_number() {
+        Some(n) => n,
+        None => last,
     }
 }
 
@@ -30,12 +27,9 @@ fn last_behind(last: u32, item: Item) -> u32
 fn above(last: u32, item: Item) -> bool
     ensures { result ≡ above last item }
 {
-    match item {
-        Item::R(n, _, _, _) => last < n,
-        Item::D(n, _) => last < n,
-        Item::H(_) => true,
-        Item::E(n) => last < n,
-        Item::Over => true,
+    match item.line_number() {
+        Some(n) => last < n,
+        None => true,
     }
 }
 
@@ -43,13 +37,7 @@ fn above(last: u32, item: Item) -> bool
 fn closes(item: Item) -> bool
     ensures { result ≡ closes item }
 {
-    match item {
-        Item::R(_, _, _, _) => false,
-        Item::D(_, _) => false,
-        Item::H(_) => true,
-        Item::E(_) => true,
-        Item::Over => true,
-    }
+    !matches!(item, Item::R(..) | Item::D(..))
 }
 
 // The lines besides those that have numbers of their own.
@@ -78,73 +66,58 @@ impl Readback {
             & ((self.ended <= 1) & (self.salvage <= 1))
     }
 
-    // A faulty line.
-    fn faulty(self) -> Step
-        ensures { result ≡ faulty self }
-    {
-        Step {
-            good: false,
-            next: self,
-            given: None,
-        }
-    }
-
     // The first line.
-    fn opens(self, salvage: bool, width: u16) -> Step
-        ensures { result ≡ opens self salvage width }
+    fn opens(self, salvage: bool, width: u16) -> Option<Passed>
+        ensures { told self result ≡ opens self salvage width }
     {
         if !width_known(width) {
-            return self.faulty();
+            return None;
         }
-        Step {
-            good: true,
+        Some(Passed {
             next: Readback {
                 width: width as u8,
                 ended: 0,
-                salvage: salvage as u8,
+                salvage: u8::from(salvage),
                 last: 0,
                 lines: 1,
             },
             given: None,
-        }
+        })
     }
 
     // A line behind the first, of which an item was read.
-    fn passes(self, item: Item) -> Step
+    fn passes(self, item: Item) -> Option<Passed>
         requires { good self ≡ true }
-        ensures { result ≡ passes self item }
+        ensures { told self result ≡ passes self item }
     {
         if !above(self.last, item) {
-            return self.faulty();
+            return None;
         }
-        Step {
-            good: true,
+        Some(Passed {
             next: Readback {
                 width: self.width,
-                ended: closes(item) as u8,
+                ended: u8::from(closes(item)),
                 salvage: self.salvage,
                 last: last_behind(self.last, item),
                 lines: self.lines + 1,
             },
             given: Some(item),
-        }
+        })
     }
 
-    // A line without its newline.
-    pub(crate) fn step(self, line: &[u8]) -> Step
+    // A line without its newline; none where it may not stand there.
+    pub(crate) fn step(self, line: &[u8]) -> Option<Passed>
         requires { good self ≡ true }
-        ensures { result ≡ step_of self line.now }
+        ensures { told self result ≡ step_of self line.now }
     {
         if self.ended == 1 {
-            return self.faulty();
+            return None;
         }
         if self.lines == 0 {
-            return self.opens(items::salvage(line), items::width(line));
+            let width = items::width(line)?;
+            return self.opens(items::salvage(line), width);
         }
-        let given = items::item(self.width as usize, line);
-        match given {
-            None => self.faulty(),
-            Some(item) => self.passes(item),
-        }
+        let item = items::item(usize::from(self.width), line)?;
+        self.passes(item)
     }
 }

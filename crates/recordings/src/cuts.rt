@@ -2,7 +2,6 @@
 ghost use Rattle.std.specs.Prelude.{◌≤◌, length};
 ghost use Rattle.io.specs.Counts.{IsPrefixLen};
 
-use crate::least;
 use listing::{Listed, Lister};
 use std::io::Stdout;
 
@@ -16,8 +15,8 @@ const FEW: usize = 26;
 fn feed(lister: Lister, input: &[u8], cut: usize, out: &mut [u8], places: usize) -> Listed
     ensures { (result.taken ≤ length input.now) × (result.written ≤ length out.old) }
 {
-    let bytes = least(cut, input.len());
-    let free = least(places, out.len());
+    let bytes = cut.min(input.len());
+    let free = places.min(out.len());
     lister.feed(&input[..bytes], &mut out[..free])
 }
 
@@ -27,9 +26,7 @@ fn finish(lister: Lister, out: &mut [u8]) -> usize
 {
     let mut short = [0u8; 3];
     let tried = lister.finish(&mut short);
-    let next = tried.next;
-    let listed = next.finish(out);
-    listed.written
+    tried.next.finish(out).written
 }
 
 // The listing of a recording in such calls, each handed what the one before left, and its length. A call that takes nothing ends it.
@@ -37,22 +34,15 @@ fn list(first: Lister, recording: &[u8], cut: usize, out: &mut [u8], places: usi
     ensures { IsPrefixLen result out.new }
 {
     let mut lister = first;
-    let mut taken: usize = 0;
-    let mut written: usize = 0;
-    while taken < recording.len() {
-        let listed = feed(
-            lister,
-            &recording[taken..],
-            cut,
-            &mut out[written..],
-            places,
-        );
+    let mut rest = recording;
+    let mut written = 0;
+    while !rest.is_empty() {
+        let listed = feed(lister, rest, cut, &mut out[written..], places);
         if listed.taken == 0 {
             return written;
         }
-        let next = listed.next;
-        lister = next;
-        taken += listed.taken;
+        lister = listed.next;
+        rest = &rest[listed.taken..];
         written += listed.written;
     }
     written + finish(lister, &mut out[written..])

@@ -22,17 +22,15 @@ fn states(out: &mut [u8], letter: u8, x1: i16, y1: i16, x2: i16, y2: i16) -> usi
     ensures { IsPrefixLen result out.new }
 {
     let mut n = opening(out, letter);
-    let mut buttons: u8 = 0;
-    while buttons < 8 {
+    for buttons in 0..8 {
         let moved = Report {
-            buttons: buttons,
-            x1: x1,
-            y1: y1,
-            x2: x2,
-            y2: y2,
+            buttons,
+            x1,
+            y1,
+            x2,
+            y2,
         };
         n = report(out, n, letter, moved);
-        buttons += 1;
     }
     n
 }

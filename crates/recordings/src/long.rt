@@ -12,18 +12,15 @@ const BLOCK: usize = 1321;
 // A block of silences.
 fn silences(out: &mut [u8]) {
     let mut n = 0;
-    let mut i: usize = 0;
-    while i < BLOCK {
+    for _ in 0..BLOCK {
         n = append(out, n, b"Q\n");
-        i += 1;
     }
 }
 
 // The lister behind a piece.
 fn fed(lister: Lister, piece: &[u8]) -> Lister {
     let mut out = [0u8; 40];
-    let listed = lister.feed(piece, &mut out);
-    listed.next
+    lister.feed(piece, &mut out).next
 }
 
 // The lister behind a format and silences up to the last line but one.
@@ -31,10 +28,8 @@ fn up_to_last() -> Lister {
     let mut block = [0u8; 2 * BLOCK];
     silences(&mut block);
     let mut lister = fed(Lister::fresh(), b"F\tS\n");
-    let mut i: usize = 0;
-    while i < BLOCKS {
+    for _ in 0..BLOCKS {
         lister = fed(lister, &block);
-        i += 1;
     }
     lister
 }

@@ -2,7 +2,6 @@
 ghost use Rattle.std.specs.Prelude.{◌≤◌, length};
 ghost use Rattle.io.specs.Counts.{IsPrefixLen};
 
-use crate::least;
 use wire::Report;
 
 // As many bytes as there is room for, behind the first n, and how many there are then.
@@ -10,12 +9,8 @@ pub(crate) fn append(out: &mut [u8], n: usize, bytes: &[u8]) -> usize
     requires { n ≤ length out.old }
     ensures { IsPrefixLen result out.new }
 {
-    let more = least(bytes.len(), out.len() - n);
-    let mut i = 0;
-    while i < more {
-        out[n + i] = bytes[i];
-        i += 1;
-    }
+    let more = bytes.len().min(out.len() - n);
+    out[n..n + more].copy_from_slice(&bytes[..more]);
     n + more
 }
 
@@ -39,10 +34,8 @@ pub(crate) fn report(out: &mut [u8], n: usize, letter: u8, report: Report) -> us
     let mut bytes = [0u8; 5];
     let size = wire::encode(letter, report, &mut bytes).length();
     let mut end = n;
-    let mut i = 0;
-    while i < size {
-        end = byte(out, end, bytes[i]);
-        i += 1;
+    for b in bytes.iter().take(size) {
+        end = byte(out, end, *b);
     }
     end
 }

@@ -13,14 +13,12 @@ use Rattle.ballbox.specs.Commands.{letterf, lettert}
 use Rattle.replies.specs.Replying.{came, none, awaiting, letter_of_code, letter_fits, fits, more, broken}
 use Rattle.replies.specs.Accepted.{seven_bytes, seven_letters, mode_letters}
 use Rattle.replies.specs.Good.{good}
-use Rattle.replies.specs.Rules.{told_reader, reply_to, continues, word_of}
-use Rattle.replies.specs.Promises.{TellPromise, StepPromise, tell_of}
+use Rattle.replies.specs.Rules.{Heard, told_reader, reply_to, continues, word_of}
+use Rattle.replies.specs.Promises.{Telling, TellPromise, StepPromise, tell_of}
 use Rattle.replies.specs.declared.Kind.TheVariants as kind
 use Rattle.replies.specs.declared.Asked.TheVariants.{Command}
 use Rattle.replies.specs.declared.Reply.TheVariants as reply
 use Rattle.replies.specs.declared.ToldReader.{ToldReader}
-use Rattle.replies.specs.declared.Telling.{Telling}
-use Rattle.replies.specs.declared.Heard.{Heard}
 use Rattle.replies.proofs.Word.{by_word, good_reader}
 use Rattle.replies.proofs.Permitted.{step_is}
 use Rattle.replies.proofs.Goodness.{step_word, tell_stays_good, step_stays_good}

@@ -17,14 +17,11 @@ use Rattle.reader.proofs.Counted.{five_in}
 use Rattle.reader.proofs.Goodness as report
 use Rattle.replies.specs.Replying.{is_none}
 use Rattle.replies.specs.Good.{good}
-use Rattle.replies.specs.Rules.{kind_of, word_of}
+use Rattle.replies.specs.Rules.{Heard, kind_of, word_of}
 use Rattle.replies.specs.Line.{Long, hears, hears_line}
-use Rattle.replies.specs.Promises.{FreshPromise, TellPromise, StepPromise, ReadPromise, tell_of, step_of, read_of}
+use Rattle.replies.specs.Promises.{Telling, NewToldReader, FreshPromise, TellPromise, StepPromise, ReadPromise, tell_of, step_of, read_of}
 use Rattle.replies.specs.declared.Asked.{Asked}
 use Rattle.replies.specs.declared.ToldReader.{ToldReader}
-use Rattle.replies.specs.declared.NewToldReader.{NewToldReader}
-use Rattle.replies.specs.declared.Telling.{Telling}
-use Rattle.replies.specs.declared.Heard.{Heard}
 use Rattle.replies.specs.declared.HeardLine.{HeardLine}
 use Rattle.replies.proofs.Counted.{or_nothing, or_assoc}
 use Rattle.replies.proofs.Word.{made, awaiting_good, told_fine, word_fine}

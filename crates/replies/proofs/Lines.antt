@@ -22,7 +22,7 @@ use Rattle.reader.specs.Rules as readers
 use Rattle.reader.specs.Line as report
 use Rattle.reader.specs.Counts.{written_in}
 use Rattle.reader.specs.declared.Reader.{Reader}
-use Rattle.reader.specs.declared.Read.{Read}
+use Rattle.reader.specs.State.{Read}
 use Rattle.reader.specs.declared.Answer.{Answer}
 use Rattle.reader.specs.declared.Answer.TheVariants as answer
 use Rattle.reader.proofs.Keeps.{word_good}

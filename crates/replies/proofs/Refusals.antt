@@ -16,18 +16,16 @@ use borrow.Author.Tests.{leb-true}
 use Rattle.numbers.proofs.Choices.{cases}
 use Rattle.numbers.proofs.Tested.{left}
 use Rattle.reader.specs.Promises as reader
-use Rattle.reader.specs.declared.Read.{Read}
+use Rattle.reader.specs.State.{Read}
 use Rattle.reader.proofs.Goodness as report
 use Rattle.reader.proofs.Refusals as refusals
 use Rattle.replies.specs.Replying.{is_none, fitting}
 use Rattle.replies.specs.Good.{good}
-use Rattle.replies.specs.Rules.{kind_of, refusing, word_of}
+use Rattle.replies.specs.Rules.{Heard, kind_of, refusing, word_of}
 use Rattle.replies.specs.Line.{Long, whole, heard_line, hears_line}
-use Rattle.replies.specs.Promises.{TellPromise, StepPromise, ReadPromise, TellRefusal, StepRefusal, ReadRefusal, no_reply, telling_of, tell_of, step_of}
+use Rattle.replies.specs.Promises.{Telling, TellPromise, StepPromise, ReadPromise, TellRefusal, StepRefusal, ReadRefusal, no_reply, telling_of, tell_of, step_of}
 use Rattle.replies.specs.declared.Asked.{Asked}
 use Rattle.replies.specs.declared.ToldReader.{ToldReader}
-use Rattle.replies.specs.declared.Telling.{Telling}
-use Rattle.replies.specs.declared.Heard.{Heard}
 use Rattle.replies.specs.declared.HeardLine.{HeardLine}
 use Rattle.replies.proofs.Word.{good_reader, by_word, word_number}
 use Rattle.replies.proofs.Permitted.{step_is, read_is}

@@ -17,7 +17,7 @@ use Rattle.replies.specs.Good.{good}
 use Rattle.replies.specs.Line.{Long, whole, hears_line, Bounds}
 use Rattle.replies.specs.Promises.{StepPromise, ReadPromise}
 use Rattle.replies.specs.declared.ToldReader.{ToldReader}
-use Rattle.replies.specs.declared.Heard.{Heard}
+use Rattle.replies.specs.Rules.{Heard}
 use Rattle.replies.specs.declared.HeardLine.{HeardLine}
 use Rattle.replies.proofs.Permitted.{step_is, read_is}
 use Rattle.replies.proofs.Goodness.{lawful, step_word}

@@ -13,7 +13,7 @@ use Rattle.frames.specs.Words.{is_byte, silence}
 use Rattle.wire.specs.Numbers.{success, bad_word}
 use Rattle.reader.specs.Good as readers
 use Rattle.reader.specs.Rules as report
-use Rattle.reader.specs.declared.Read.{Read}
+use Rattle.reader.specs.State.{Read}
 use Rattle.reader.specs.declared.Answer.TheVariants as answer
 use Rattle.reader.specs.Counts.{byte_in, reports_in, dropped_in}
 use Rattle.reader.proofs.Word.{word_format}
@@ -23,14 +23,13 @@ use Rattle.wire.specs.Line.{size_by}
 use Rattle.replies.specs.Replying.{came, none, awaiting, nothing, size_of, fits, fitting, finishes, more, told, broken, below_size, placed}
 use Rattle.replies.specs.Replying as replying
 use Rattle.replies.specs.Good.{good}
-use Rattle.replies.specs.Rules.{told_reader, heard, refusing, continues, word_of}
+use Rattle.replies.specs.Rules.{Heard, told_reader, heard, refusing, continues, word_of}
 use Rattle.replies.specs.Counts.{whole_bytes, broken_bytes}
 use Rattle.replies.specs.declared.Kind.{Kind}
 use Rattle.replies.specs.declared.Kind.TheVariants as kind
 use Rattle.replies.specs.declared.Came.{Came}
 use Rattle.replies.specs.declared.Awaited.{Awaited}
 use Rattle.replies.specs.declared.ToldReader.{ToldReader}
-use Rattle.replies.specs.declared.Heard.{Heard}
 use Rattle.replies.proofs.Lines.{word_kept, keep_last, keep_more, word_passes}
 
 -- a good reader has a good report reader, and a good reply

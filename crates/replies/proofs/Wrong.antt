@@ -11,13 +11,11 @@ use Rattle.reader.specs.declared.Answer.TheVariants as answer
 use Rattle.ballbox.specs.Commands.{letterf, letter_p}
 use Rattle.replies.specs.Replying.{came, none, awaiting, nothing}
 use Rattle.replies.specs.Rules.{told_reader, heard}
-use Rattle.replies.specs.Promises.{Step, Left, FreshPromise, GoodPromise, TellPromise, StepPromise, ReadPromise, new_told, telling_of}
+use Rattle.replies.specs.Promises.{Telling, NewToldReader, Step, Left, FreshPromise, GoodPromise, TellPromise, StepPromise, ReadPromise, new_told, telling_of}
 use Rattle.replies.specs.declared.Kind.TheVariants as kind
 use Rattle.replies.specs.declared.Asked.TheVariants.{Command}
 use Rattle.replies.specs.declared.Reply.TheVariants as reply
 use Rattle.replies.specs.declared.ToldReader.{ToldReader}
-use Rattle.replies.specs.declared.NewToldReader.{NewToldReader}
-use Rattle.replies.specs.declared.Telling.{Telling}
 use Rattle.replies.proofs.Computing.{computing}
 
 abbrev ready_u : ToldReader

@@ -1,29 +1,51 @@
 -- What is promised of `ToldReader::fresh`, `good`, `tell`, `step` and `read`. "Refusals: 12 for a command that has no reply, tested after 6."
-use Rattle.std.specs.Prelude.{ℕ, ◌≡◌, Bool, not, cond, List, [], ◌∷◌, take, ℤ, Option, None, Some}
+use Rattle.std.specs.Prelude.{ℕ, ◌≡◌, Bool, not, cond, List, [], ◌∷◌, take, ℤ, Option, None, Some, Result, Ok, Err}
 use Rattle.fold.specs.Calls.{stopped, with_refusal, call}
+use Rattle.wire.specs.Line.{letter_of}
 use Rattle.wire.specs.Numbers.{success, bad_state, bad_word, RefusesRightly}
+use Rattle.wire.specs.Refusals.{number_of}
+use Rattle.wire.specs.declared.Format.TheVariants.{FiveByte}
+use Rattle.wire.specs.declared.refusal.Refusal.{Refusal}
 use Rattle.reader.specs.State.{numbers_of}
+use Rattle.reader.specs.State as readers
 use Rattle.reader.specs.Promises as reader
 use Rattle.replies.specs.Replying.{nothing, is_none}
 use Rattle.replies.specs.Good.{good}
-use Rattle.replies.specs.Rules.{told_reader, kind_of, telling, refusing, word_of}
+use Rattle.replies.specs.Rules.{Heard, told_reader, kind_of, telling, refusing, word_of}
 use Rattle.replies.specs.Line.{Long, whole, hears_line}
 use Rattle.replies.specs.declared.Asked.{Asked}
 use Rattle.replies.specs.declared.Reply.{Reply}
 use Rattle.replies.specs.declared.Reply.TheVariants as reply
 use Rattle.replies.specs.declared.ToldReader.{ToldReader}
-use Rattle.replies.specs.declared.NewToldReader.{NewToldReader}
-use Rattle.replies.specs.declared.Telling.{Telling}
-use Rattle.replies.specs.declared.Heard.{Heard}
+use Rattle.replies.specs.declared.Told.{Told}
 use Rattle.replies.specs.declared.HeardLine.{HeardLine}
 
 -- "12 for a command that has no reply"
 abbrev pub no_reply : ℕ
 no_reply = 12
 
+-- a new reader: a number, and the reader
+pub record NewToldReader : Type 0 where
+  pub refusal : ℕ
+  pub reader : ToldReader
+
+-- what a telling gives back: a number, the reader, and how many bytes of an unfinished reply it discards
+pub record Telling : Type 0 where
+  pub refusal : ℕ
+  pub next : ToldReader
+  pub discarded : ℕ
+
 -- a fresh report reader, or the refusal 1 with a fresh one of U; no reply is awaited
 abbrev pub new_told : ℕ → ToldReader → NewToldReader
 new_told n s = record { refusal = n; reader = s }
+
+-- a fresh one of U, where there is none of a letter
+abbrev pub fresh_u : ToldReader
+fresh_u = told_reader (readers.fresh (letter_of FiveByte)) nothing
+
+abbrev pub new_in : Result ToldReader Refusal → NewToldReader
+new_in (Ok s) = new_told success s
+new_in (Err e) = new_told (number_of e) fresh_u
 
 abbrev pub fresh_of : ℕ → NewToldReader
 fresh_of letter = new_told (reader.fresh_of letter).refusal (told_reader (reader.fresh_of letter).reader nothing)
@@ -37,6 +59,10 @@ GoodPromise s answer = answer ≡ good s
 -- a telling: "a state that breaks the rules", 6, before "a command that has no reply", 12
 abbrev pub telling_of : ℕ → ToldReader → ℕ → Telling
 telling_of n s discarded = record { refusal = n; next = s; discarded = discarded }
+
+abbrev pub telling_in : ToldReader → Result Told Refusal → Telling
+telling_in s (Ok t) = telling_of success t.next t.discarded
+telling_in s (Err e) = telling_of (number_of e) s 0
 
 unfoldable pub tell_of : ToldReader → Asked → Telling
 tell_of s asked =

@@ -1,10 +1,12 @@
 -- What a telling and a word do: "It is told the command just sent [..] and reads exactly that reply, then hands over to the report reader."
-use Rattle.std.specs.Prelude.{ℕ, Bool, cond, ◌&&◌, eqb, Option, None, Some}
+use Rattle.std.specs.Prelude.{ℕ, Bool, cond, ◌&&◌, eqb, Option, None, Some, Result, Ok, Err}
 use Rattle.frames.specs.Words.{is_byte}
 use Rattle.wire.specs.Numbers.{success}
+use Rattle.wire.specs.Refusals.{number_of}
+use Rattle.wire.specs.declared.refusal.Refusal.{Refusal}
 use Rattle.reader.specs.Promises as reader
 use Rattle.reader.specs.declared.Reader.{Reader}
-use Rattle.reader.specs.declared.Read.{Read}
+use Rattle.reader.specs.State.{Read}
 use Rattle.reader.specs.declared.Answer.{Answer}
 use Rattle.reader.specs.declared.Answer.TheVariants as answer
 use Rattle.ballbox.specs.Commands.{space, letterf, lettert, byte05}
@@ -16,7 +18,7 @@ use Rattle.replies.specs.declared.Asked.TheVariants.{Command, Waking}
 use Rattle.replies.specs.declared.Awaited.{Awaited}
 use Rattle.replies.specs.declared.Reply.{Reply}
 use Rattle.replies.specs.declared.ToldReader.{ToldReader}
-use Rattle.replies.specs.declared.Heard.{Heard}
+use Rattle.replies.specs.declared.ToldStep.{ToldStep}
 
 abbrev pub told_reader : Reader → Awaited → ToldReader
 told_reader r a = record { reader = r; awaited = a }
@@ -38,12 +40,27 @@ kind_of Waking = (Some kind.Ack)
 abbrev pub telling : Asked → ToldReader → ToldReader
 telling asked s = told_reader s.reader (awaiting (kind_of asked) none)
 
+-- what a word gives back: a number, the reader, what became of the reply, where anything did, and the report reader's own answer
+pub record Heard : Type 0 where
+  pub refusal : ℕ
+  pub next : ToldReader
+  pub reply : Option Reply
+  pub answer : Answer
+
 abbrev pub heard : ToldReader → Option Reply → Answer → Heard
 heard next reply answer = record { refusal = success; next = next; reply = reply; answer = answer }
 
 -- "A refusal returns the old state", and answers nothing
 abbrev pub refusing : ℕ → ToldReader → Heard
 refusing n s = record { refusal = n; next = s; reply = None; answer = answer.Nothing }
+
+-- a word that is not refused, and what a step's result comes to
+abbrev pub heard_by : ToldStep → Heard
+heard_by s = heard s.next s.reply s.answer
+
+abbrev pub heard_in : ToldReader → Result ToldStep Refusal → Heard
+heard_in s (Ok h) = heard_by h
+heard_in s (Err e) = refusing (number_of e) s
 
 -- the next byte of the reply; the last tells it. The report reader stays as it was.
 unfoldable pub keep : ToldReader → ℕ → Heard

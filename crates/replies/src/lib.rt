@@ -2,19 +2,18 @@
 // what a user calls.
 #![tactic(auto)]
 
-ghost use Rattle.replies.specs.Promises.{FreshPromise, GoodPromise, TellPromise, StepPromise, ReadPromise};
+ghost use Rattle.std.specs.Prelude.{◌≡◌};
+ghost use Rattle.replies.specs.Rules.{heard_in};
+ghost use Rattle.replies.specs.Promises.{fresh_u, new_in, telling_in, FreshPromise, GoodPromise, TellPromise, StepPromise, ReadPromise};
 
 use crate::replying::{awaiting, nothing};
-use crate::rules::{kind_of, refusing};
+use crate::rules::kind_of;
 use reader::{Answer, Reader};
-use wire::{BAD_STATE, SUCCESS};
+use wire::{BAD_STATE, Refusal};
 
 mod line;
 mod replying;
 mod rules;
-
-// The numbers given back.
-pub(crate) const NO_REPLY: u8 = 12;
 
 // What was just sent: a command, by its byte, or a byte of any kind that woke a dormant box.
 #[derive(Clone, Copy, Drop)]
@@ -65,25 +64,16 @@ pub enum Reply {
     Broken(Came),
 }
 
-// A new reader, or why there is none of this letter.
+// What a telling that is not refused gives: the reader that awaits the reply, and how many bytes of an unfinished one it discards.
 #[derive(Clone, Copy, Drop)]
-pub struct NewToldReader {
-    pub refusal: u8,
-    pub reader: ToldReader,
-}
-
-// What a telling gives back: also how many bytes of an unfinished reply it discards.
-#[derive(Clone, Copy, Drop)]
-pub struct Telling {
-    pub refusal: u8,
+pub struct Told {
     pub next: ToldReader,
     pub discarded: u8,
 }
 
-// What a word gives back: what became of the reply, where anything did, and the report reader's own answer.
+// What a word that is not refused gives: the reader behind it, what became of the reply, where anything did, and the report reader's own answer.
 #[derive(Clone, Copy, Drop)]
-pub struct Heard {
-    pub refusal: u8,
+pub struct ToldStep {
     pub next: ToldReader,
     pub reply: Option<Reply>,
     pub answer: Answer,
@@ -108,20 +98,28 @@ pub(crate) struct Front {
     pub reply: Option<Reply>,
 }
 
-impl ToldReader {
-    // A fresh report reader, and no reply is awaited. A letter that is not in the table is refused with 1 and a fresh one of U.
-    pub fn fresh(letter: u8) -> NewToldReader
-        ensures { FreshPromise letter result }
-    {
-        let new = Reader::fresh(letter);
-        let reader = new.reader;
-        NewToldReader {
-            refusal: new.refusal,
-            reader: ToldReader {
-                reader: reader,
-                awaited: nothing(),
-            },
+// A fresh one of U, where there is none of a letter.
+impl Default for ToldReader {
+    ghost is_default = { λ s. s ≡ fresh_u };
+
+    fn default() -> ToldReader {
+        ToldReader {
+            reader: Reader::default(),
+            awaited: nothing(),
         }
+    }
+}
+
+impl ToldReader {
+    // A fresh report reader, and no reply is awaited. A letter that is not in the table is refused.
+    pub fn fresh(letter: u8) -> Result<ToldReader, Refusal>
+        ensures { FreshPromise letter (new_in result) }
+    {
+        let reader = Reader::fresh(letter)?;
+        Ok(ToldReader {
+            reader,
+            awaited: nothing(),
+        })
     }
 
     // Whether it is good: a telling, a step and a long read of any other is refused with 6.
@@ -131,43 +129,31 @@ impl ToldReader {
         self.reader.good() & self.awaited.good()
     }
 
-    // The command just sent is told, after any 256 that the command itself caused; an unfinished reply is replaced.
-    pub fn tell(self, asked: Asked) -> Telling
-        ensures { TellPromise self asked result }
+    // The command just sent is told, after any 256 that the command itself caused; an unfinished reply is replaced. A refusal leaves the reader as it was.
+    pub fn tell(self, asked: Asked) -> Result<Told, Refusal>
+        ensures { TellPromise self asked (telling_in self result) }
     {
-        let reader = self.reader;
-        let old = self.awaited;
-        let next = awaiting(kind_of(asked));
         if !self.good() {
-            return Telling {
-                refusal: BAD_STATE,
-                next: self,
-                discarded: 0,
-            };
+            return Err(Refusal::BadState);
         }
-        if next.kind.is_none() {
-            return Telling {
-                refusal: NO_REPLY,
-                next: self,
-                discarded: 0,
-            };
-        }
-        Telling {
-            refusal: SUCCESS,
+        let Some(kind) = kind_of(asked) else {
+            return Err(Refusal::NoReply);
+        };
+        Ok(Told {
             next: ToldReader {
-                reader: reader,
-                awaited: next,
+                reader: self.reader,
+                awaited: awaiting(Some(kind)),
             },
-            discarded: old.came.count,
-        }
+            discarded: self.awaited.came.count,
+        })
     }
 
-    // One word.
-    pub fn step(self, word: u16) -> Heard
-        ensures { StepPromise self word result }
+    // One word. A refusal leaves the reader as it was.
+    pub fn step(self, word: u16) -> Result<ToldStep, Refusal>
+        ensures { StepPromise self word (heard_in self result) }
     {
         if !self.good() {
-            return refusing(BAD_STATE, self);
+            return Err(Refusal::BadState);
         }
         self.word(word)
     }

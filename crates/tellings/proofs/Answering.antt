@@ -1,4 +1,5 @@
 -- The replies of a good box, read by a reader that was told: "Only the seven `f` bytes and the `t` pairs of a known format and mode are accepted".
+use Rattle.std.proofs.Common.{Some}
 use Prim.Native.Nat.{ℕ, ◌≤◌}
 use mathlib.Core.Path.{◌≡◌, refl, sym, ◌∙◌, ap}
 use mathlib.Core.Bool.{Bool, true, false}
@@ -186,7 +187,7 @@ letter_again FiveByte = refl
 letter_again ThreeByte = refl
 letter_again Hexadecimal = refl
 
-pub asks_told : (b : BallBox) (byte : ℕ) → good b ≡ true → Asks byte → reply_told (box.reply_to b (command_of byte)) ≡ answer_of b byte
+pub asks_told : (b : BallBox) (byte : ℕ) → good b ≡ true → Asks byte → reply_told (box.reply_to b (command_of byte)) ≡ Some (answer_of b byte)
 unfolding command_of known named_by
 asks_told b byte g (a_space e) = rw e
 asks_told b byte g (an_f e) =
@@ -195,7 +196,7 @@ asks_told b byte g (an_f e) =
 asks_told b byte g (a_t e) = rw e
 asks_told b byte g (a_05 e) =
     let small : b.settings.buttons ≤ 7 = leb-true b.settings.buttons 7 (few b.settings (parts b g).settings) in
-    rw e (ap reply.Buttons (mod-eq_of_lt (omega arith)))
+    rw e (ap (λ (n : ℕ). Some (reply.Buttons n)) (mod-eq_of_lt (omega arith)))
 
 -- the host bytes of a run with replies
 pub with_replies : Hosts IsReply asks_or_tells

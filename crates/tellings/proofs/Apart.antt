@@ -1,4 +1,5 @@
 -- The two halves apart: which reply is awaited goes by the items alone, and the report reader is given the words that are no reply's.
+use Rattle.std.proofs.Common.{Option, None}
 use Prim.Native.Nat.{ℕ, suc, ◌+◌, ◌≤◌, ◌<◌}
 use mathlib.Core.Path.{◌≡◌, refl, sym, ◌∙◌, ap}
 use mathlib.Core.Bool.{Bool, true, false, not, cond}
@@ -16,14 +17,14 @@ use Rattle.reader.specs.Counts.{handed_out}
 use Rattle.reader.specs.Promises as reader
 use Rattle.reader.specs.Runs.{steps_of, answers, reader_after}
 use Rattle.reader.specs.declared.Reader.{Reader}
-use Rattle.reader.specs.declared.Read.{Read}
+use Rattle.reader.specs.State.{Read}
 use Rattle.reader.specs.declared.Answer.{Answer}
 use Rattle.reader.specs.declared.Answer.TheVariants as answer
 use Rattle.reader.proofs.Goodness as goodness
 use Rattle.reader.proofs.Refusals as refusals
 use Rattle.replies.specs.Replying.{none, awaiting, nothing, is_none, finishes, told, broken}
 use Rattle.replies.specs.Good.{good}
-use Rattle.replies.specs.Rules.{told_reader, kind_of, continues, word_of}
+use Rattle.replies.specs.Rules.{Heard, told_reader, kind_of, continues, word_of}
 use Rattle.replies.specs.Line.{told_in}
 use Rattle.replies.specs.Promises.{tell_of, step_of, telling_of}
 use Rattle.tellings.specs.Items.{Item, word, telling, as_items, words_in, legal_items, Done, after_done, ItemsPromise, own_answers_of, replies_of}
@@ -32,9 +33,7 @@ use Rattle.tellings.specs.Clear.{awaited_then, awaited_behind}
 use Rattle.replies.specs.declared.Asked.{Asked}
 use Rattle.replies.specs.declared.Awaited.{Awaited}
 use Rattle.replies.specs.declared.Reply.{Reply}
-use Rattle.replies.specs.declared.Reply.TheVariants as reply
 use Rattle.replies.specs.declared.ToldReader.{ToldReader}
-use Rattle.replies.specs.declared.Heard.{Heard}
 use Rattle.replies.proofs.Lines.{word_kept, keep_last, keep_more, word_passes, none_continues}
 use Rattle.replies.proofs.Word.{good_reader, word_fine, told_fine}
 use Rattle.replies.proofs.Permitted.{step_is}
@@ -66,8 +65,8 @@ given a (word w ∷ is) = given_of a w ++ given (awaited_then a (word w)) is
 given a (telling asked ∷ is) = given (awaited_then a (telling asked)) is
 
 -- the replies told
-abbrev pub reply_of : Awaited → ℕ → Reply
-reply_of a w = cond (continues a w) (cond (finishes a) (told a w) reply.Nothing) (broken a)
+abbrev pub reply_of : Awaited → ℕ → Option Reply
+reply_of a w = cond (continues a w) (cond (finishes a) (told a w) None) (broken a)
 
 unfoldable pub replies_over : Awaited → List Item → List Reply
 replies_over a [] = []

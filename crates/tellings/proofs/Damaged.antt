@@ -38,13 +38,12 @@ use Rattle.replies.specs.Replying as replying
 use Rattle.replies.specs.Replying.{more, fitting}
 use Rattle.replies.specs.Good.{good}
 use Rattle.replies.specs.Rules.{told_reader, continues}
-use Rattle.replies.specs.Promises.{FreshPromise}
+use Rattle.replies.specs.Promises.{NewToldReader, FreshPromise}
 use Rattle.tellings.specs.Items.{Item, word, telling, as_items, words_in, is_legal, legal_items, Done, ItemsPromise, own_answers_of, replies_of, Call, items_of, Called, CallsPromise, TookAll}
 use Rattle.tellings.specs.Clear.{awaited_behind, Clear}
 use Rattle.tellings.specs.Lines.{asked_for, passage_items, line_items, part_items, replies_sent, HandsOutAt, HandsOut, TellsReplies, InReport, in_finished_lem, in_broken_lem, in_going_lem}
 use Rattle.replies.specs.declared.Awaited.{Awaited}
 use Rattle.replies.specs.declared.Reply.{Reply}
-use Rattle.replies.specs.declared.NewToldReader.{NewToldReader}
 use Rattle.replies.proofs.Goodness.{fresh_is_good}
 use Rattle.tellings.proofs.Apart.{done_of, done_are, given, replies_over, own_over, decomposed, handed_given, behind_append, given_append, replies_append, words_behind, words_given, words_replies, same_place}
 use Rattle.tellings.proofs.Calls.{took_all_lem, legal_left}

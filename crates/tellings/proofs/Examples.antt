@@ -1,4 +1,5 @@
 -- Worked lines with tellings, each answer computed.
+use Rattle.std.proofs.Common.{None, Some}
 use mathlib.Core.Path.{◌≡◌, refl, ap, ◌∙◌}
 use mathlib.Core.Bool.{true, false}
 use mathlib.Core.List.{List, [], ◌∷◌, ◌++◌}
@@ -20,7 +21,7 @@ use Rattle.ballbox.specs.Commands.{letterf, lettert, byte05}
 use Rattle.replies.specs.Replying.{came, none, awaiting, nothing}
 use Rattle.replies.specs.Rules.{told_reader}
 use Rattle.replies.specs.Line.{whole}
-use Rattle.replies.specs.Promises.{TellPromise, ReadPromise, telling_of}
+use Rattle.replies.specs.Promises.{Telling, TellPromise, ReadPromise, telling_of}
 use Rattle.tellings.specs.Items.{Item, word, telling, Done, ItemsPromise, own_answers_of, replies_of}
 use Rattle.tellings.specs.Lines.{line_items}
 use Rattle.tellings.specs.Damage.{ShownItems, stays, scar, TrueOf}
@@ -30,7 +31,6 @@ use Rattle.replies.specs.declared.Asked.TheVariants.{Command, Waking}
 use Rattle.replies.specs.declared.Reply.{Reply}
 use Rattle.replies.specs.declared.Reply.TheVariants as reply
 use Rattle.replies.specs.declared.ToldReader.{ToldReader}
-use Rattle.replies.specs.declared.Telling.{Telling}
 use Rattle.replies.specs.declared.HeardLine.{HeardLine}
 use Rattle.tellings.proofs.Computing.{computing}
 use Rattle.replies.proofs.Permitted.{read_is}
@@ -82,8 +82,8 @@ pub told_again : Answers ready_u
 unfolding computing
 told_again = answers refl refl
 
-pub one_discarded : (t : Telling) → TellPromise (told_reader (ready 0x55) (awaiting kind.Letters (came 1 0x55 0))) (Command letterf) t
-    → t ≡ telling_of 0 (told_reader (ready 0x55) (awaiting kind.Code none)) 1
+pub one_discarded : (t : Telling) → TellPromise (told_reader (ready 0x55) (awaiting (Some kind.Letters) (came 1 0x55 0))) (Command letterf) t
+    → t ≡ telling_of 0 (told_reader (ready 0x55) (awaiting (Some kind.Code) none)) 1
 unfolding computing
 one_discarded t e = e
 
@@ -116,16 +116,16 @@ woken = answers refl refl
 -- A long read stops before a word that would finish a report without room, the reply still pending; with room the word
 -- breaks it.
 abbrev kept_s : ToldReader
-kept_s = told_reader (reader 0x53 (0x94 ∷ 0x05 ∷ 0 ∷ 0 ∷ 0 ∷ []) 2 false) (awaiting kind.Letters (came 1 0x55 0))
+kept_s = told_reader (reader 0x53 (0x94 ∷ 0x05 ∷ 0 ∷ 0 ∷ 0 ∷ []) 2 false) (awaiting (Some kind.Letters) (came 1 0x55 0))
 
 pub pending : (a : HeardLine) (after : List ℤ) → ReadPromise kept_s (0x03 ∷ []) (replicate 4 (pos 9)) a after
-    → whole a after ≡ whole (record { refusal = 0; next = kept_s; taken = 0; reports = 0; dropped = 0; reply = reply.Nothing }) (replicate 4 (pos 9))
+    → whole a after ≡ whole (record { refusal = 0; next = kept_s; taken = 0; reports = 0; dropped = 0; reply = None }) (replicate 4 (pos 9))
 unfolding computing
 pending a after p = read_is kept_s (0x03 ∷ []) (replicate 4 (pos 9)) a after p
 
 pub with_room : (a : HeardLine) (after : List ℤ) → ReadPromise kept_s (0x03 ∷ []) (replicate 5 (pos 9)) a after
     → whole a after
-    ≡ whole (record { refusal = 0; next = told_reader (ready 0x53) nothing; taken = 1; reports = 1; dropped = 0; reply = reply.Broken (came 1 0x55 0) })
+    ≡ whole (record { refusal = 0; next = told_reader (ready 0x53) nothing; taken = 1; reports = 1; dropped = 0; reply = Some (reply.Broken (came 1 0x55 0)) })
     (pos 4 ∷ pos 5 ∷ minus 3 ∷ pos 0 ∷ pos 0 ∷ [])
 unfolding computing
 with_room a after p = read_is kept_s (0x03 ∷ []) (replicate 5 (pos 9)) a after p

@@ -1,4 +1,5 @@
 -- Where the reader is told of each reply, the report reader is given the line without them, a broken one leaving a lone 256.
+use Rattle.std.proofs.Common.{Option, None}
 use Prim.Native.Nat.{ℕ, zero, suc, ◌+◌, ◌<◌, ◌≤◌}
 use mathlib.Core.Path.{◌≡◌, refl, ◌∙◌, ap}
 use mathlib.Core.Bool.{Bool, true, false}
@@ -54,8 +55,8 @@ WholeFrom a [] = ⊥
 WholeFrom a (b ∷ []) = (continues a b ≡ true) × (finishes a ≡ true)
 WholeFrom a (b ∷ c ∷ bytes) = (continues a b ≡ true) × (finishes a ≡ false) × WholeFrom (more a b) (c ∷ bytes)
 
-abbrev pub value_from : Awaited → List ℕ → Reply
-value_from a [] = replies.Nothing
+abbrev pub value_from : Awaited → List ℕ → Option Reply
+value_from a [] = None
 value_from a (b ∷ []) = told a b
 value_from a (b ∷ c ∷ bytes) = value_from (more a b) (c ∷ bytes)
 
@@ -111,13 +112,13 @@ AllOfSort letters (b ∷ bytes) = OfSort letters b × AllOfSort letters bytes
 -- the bytes of a reply as the box sends it; all are of one sort
 pub record IsReply (bytes : List ℕ) : Type 0 where
   pub whole : WholeFrom (awaited_for bytes) bytes
-  pub value : told_in (value_from (awaited_for bytes) bytes) ≡ reply_told bytes ∷ []
+  pub value : told_in (value_from (awaited_for bytes) bytes) ≡ told_in (reply_told bytes)
   pub short : length bytes ≤ 3
   pub some : is_none (kind_of (asked_for bytes)) ≡ false
   pub letters : Bool
   pub alike : AllOfSort letters bytes
 
-came_from : (n : ℕ) (bytes : List ℕ) (k : Kind) → n < length bytes → length bytes ≤ 3 → state_from n (awaiting k none) bytes ≡ awaiting k (came_of (take n bytes))
+came_from : (n : ℕ) (bytes : List ℕ) (k : Option Kind) → n < length bytes → length bytes ≤ 3 → state_from n (awaiting k none) bytes ≡ awaiting k (came_of (take n bytes))
 unfolding more
 came_from zero bytes k h l = refl
 came_from (suc zero) [] k h l = absurd (omega arith)
@@ -173,7 +174,7 @@ module _ (f : Format) where
   over_passage : (p : Passage Message) → SoundOf message_bytes HeldOrReply p → Over replying.nothing (passage_items p) (passage_words message_bytes (without p)) replying.nothing (replies_in p)
   over_passage silent s = over_words (silence ∷ [])
   over_passage (finished (report l)) s = rw append-nil (over_words (message_bytes (report l)))
-  over_passage (finished (reply bytes)) s = over_telling bytes (rw s.value at (over_whole bytes (awaited_for bytes) s.whole))
+  over_passage (finished (reply bytes)) s = over_telling bytes (rw (s.value, append-nil) at (over_whole bytes (awaited_for bytes) s.whole))
   over_passage (broken n (report l)) s = rw append-nil (over_words (take n (message_bytes (report l)) ++ (break ∷ [])))
   over_passage (broken n (reply bytes)) s =
       let a = awaited_for bytes in

@@ -6,15 +6,13 @@ use Rattle.wire.specs.declared.Report.{Report}
 use Rattle.reader.specs.Counts.{numbers}
 use Rattle.reader.specs.declared.Answer.{Answer}
 use Rattle.replies.specs.Replying.{is_none}
-use Rattle.replies.specs.Rules.{kind_of}
+use Rattle.replies.specs.Rules.{Heard, kind_of}
 use Rattle.fold.specs.Calls.{unused}
 use Rattle.replies.specs.Line.{told_in, whole, hears_line}
-use Rattle.replies.specs.Promises.{TellPromise, StepPromise, ReadPromise}
+use Rattle.replies.specs.Promises.{Telling, TellPromise, StepPromise, ReadPromise}
 use Rattle.replies.specs.declared.Asked.{Asked}
 use Rattle.replies.specs.declared.Reply.{Reply}
 use Rattle.replies.specs.declared.ToldReader.{ToldReader}
-use Rattle.replies.specs.declared.Telling.{Telling}
-use Rattle.replies.specs.declared.Heard.{Heard}
 use Rattle.replies.specs.declared.HeardLine.{HeardLine}
 
 pub data Item : Type 0 where

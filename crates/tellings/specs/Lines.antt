@@ -1,5 +1,5 @@
 -- What the theorems on lines with tellings speak of: the replies as they were sent, and what is handed out.
-use Rattle.std.specs.Prelude.{ℕ, ◌+◌, ◌*◌, ◌%◌, ◌≤◌, ◌≡◌, cond, List, [], ◌∷◌, ◌++◌, length, take, drop, get_or, replicate, eqb, ℤ}
+use Rattle.std.specs.Prelude.{ℕ, ◌+◌, ◌*◌, ◌%◌, ◌≤◌, ◌≡◌, cond, List, [], ◌∷◌, ◌++◌, length, take, drop, get_or, replicate, eqb, ℤ, Option, None, Some}
 use Rattle.frames.specs.Words.{break, silence}
 use Rattle.frames.specs.Passages.{Passage, silent, finished, broken, UnderWay, nothing as nothing_going, first, passage_words}
 use Rattle.wire.specs.Line.{letter_of}
@@ -11,17 +11,17 @@ use Rattle.reader.specs.Counts.{handed_out}
 use Rattle.reader.specs.declared.Answer.TheVariants as answer
 use Rattle.replies.specs.Replying.{came, none, nothing, letter_of_code}
 use Rattle.replies.specs.Rules.{told_reader}
-use Rattle.replies.specs.Promises.{FreshPromise}
+use Rattle.replies.specs.Promises.{NewToldReader, FreshPromise}
 use Rattle.tellings.specs.Items.{Item, telling, as_items, Done, after_done, ItemsPromise, own_answers_of, replies_of, Call, items_of}
 use Rattle.tellings.specs.Items.{Called, CallsPromise, slice_after, TookAll}
 use Rattle.ballbox.specs.Commands.{space, letterf, lettert, byte05}
+use Rattle.replies.specs.Line.{told_in}
 use Rattle.replies.specs.declared.Asked.{Asked}
 use Rattle.replies.specs.declared.Asked.TheVariants.{Command}
 use Rattle.replies.specs.declared.Came.{Came}
 use Rattle.replies.specs.declared.Reply.{Reply}
 use Rattle.replies.specs.declared.Reply.TheVariants as replies
 use Rattle.replies.specs.declared.ToldReader.{ToldReader}
-use Rattle.replies.specs.declared.NewToldReader.{NewToldReader}
 
 -- The items of a line: "the reader is told of each" reply behind the 256 that its command caused, so in front of its
 -- bytes. Whose reply it is: by how many bytes it has, and of one byte by whether it is ACK.
@@ -49,11 +49,11 @@ part_items (first n (report l)) = as_items (take n (message_bytes (report l)))
 part_items (first n (reply bytes)) = telling (asked_for bytes) ∷ as_items (take n bytes)
 
 -- a reply by its bytes: ACK, the byte of a format, the letters of format and mode, or "buttons, 0, 0"
-abbrev pub reply_told : List ℕ → Reply
-reply_told [] = replies.Nothing
-reply_told (b ∷ []) = cond (eqb b 0x06) replies.Ack (replies.Format (letter_of_code b))
-reply_told (f ∷ m ∷ []) = replies.Letters f m
-reply_told (n ∷ p ∷ q ∷ bytes) = replies.Buttons (n % 8)
+abbrev pub reply_told : List ℕ → Option Reply
+reply_told [] = None
+reply_told (b ∷ []) = Some (cond (eqb b 0x06) replies.Ack (replies.Format (letter_of_code b)))
+reply_told (f ∷ m ∷ []) = Some (replies.Letters f m)
+reply_told (n ∷ p ∷ q ∷ bytes) = Some (replies.Buttons (n % 8))
 
 abbrev pub came_of : List ℕ → Came
 came_of [] = none
@@ -64,7 +64,7 @@ came_of (b ∷ c ∷ bytes) = came 2 b c
 abbrev pub replies_in : Passage Message → List Reply
 replies_in silent = []
 replies_in (finished (report l)) = []
-replies_in (finished (reply bytes)) = reply_told bytes ∷ []
+replies_in (finished (reply bytes)) = told_in (reply_told bytes)
 replies_in (broken n (report l)) = []
 replies_in (broken n (reply bytes)) = replies.Broken (came_of (take n bytes)) ∷ []
 

@@ -24,6 +24,7 @@ pub(crate) fn write(f: Format, report: Report, buffer: &mut [u8]) -> Result<usiz
 }
 
 // A report in the format of a letter: each refusal in its turn, and then the bytes.
+#[tactic(auto, unfolding(crate::specs::Encoder::encode_in, crate::specs::Holds::holds, crate::specs::Holds::accepted))]
 #[inline(always)]
 pub(crate) fn by_letter(letter: u8, report: Report, buffer: &mut [u8]) -> Result<usize, Refusal>
     ensures { outcome result buffer.new ≡ encode_of letter report buffer.old }

@@ -11,6 +11,7 @@ pub(crate) fn is_even(b: u8) -> bool
 }
 
 // Seven bits, and above them the bit that makes the count of ones even.
+#[tactic(auto, unfolding(numbers::specs::Parity::evened))]
 #[inline(always)]
 pub(crate) fn with_parity(b: u8) -> u8
     requires { b < 128 }

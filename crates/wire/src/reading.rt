@@ -26,16 +26,17 @@ pub(crate) fn report(buttons: u8, x: i16, y: i16) -> Report
 fn unwrapped_byte(b: u8) -> i16
     ensures { result ≡ untwos 128 b }
 {
-    unwrapped(b as u16, 128)
+    unwrapped(u16::from(b), 128)
 }
 
 // S: a sign bit and a magnitude for each axis.
+#[tactic(auto, unfolding(crate::specs::Reading::read_s, numbers::specs::Bits::bit), using(numbers::proofs::Rows::number_low))]
 #[inline(always)]
 fn read_mm(b1: u8, b2: u8, b3: u8) -> Report
     ensures { result ≡ read_s b1 b2 b3 }
 {
-    let x = joined(b1 / 16 % 2 == 1, (b2 % 128) as u16);
-    let y = joined(b1 / 8 % 2 == 1, (b3 % 128) as u16);
+    let x = joined(b1 / 16 % 2 == 1, u16::from(b2 % 128));
+    let y = joined(b1 / 8 % 2 == 1, u16::from(b3 % 128));
     report(b1 % 8, x, y)
 }
 
@@ -50,16 +51,16 @@ fn read_microsoft(b1: u8, b2: u8, b3: u8) -> Report
 }
 
 // A, B: twelve bits of two bytes, six in each.
+#[tactic(auto, using(crate::proofs::Fields::twelve_of))]
 #[inline(always)]
 fn twelve(low: u8, high: u8) -> u16
     ensures { result ≡ twelve low high }
 {
-    let h = (high % 64) as u16;
-    let l = (low % 64) as u16;
-    (h << 6) + l
+    (u16::from(high % 64) << 6) + u16::from(low % 64)
 }
 
 // A: two positions.
+#[tactic(auto, unfolding(crate::specs::Reading::read_a), using(crate::proofs::Fields::buttons_a, crate::proofs::Fields::twelve_below))]
 #[inline(always)]
 fn read_absolute(b1: u8, b2: u8, b3: u8, b4: u8, b5: u8) -> Report
     ensures { result ≡ read_a b1 b2 b3 b4 b5 }
@@ -68,6 +69,7 @@ fn read_absolute(b1: u8, b2: u8, b3: u8, b4: u8, b5: u8) -> Report
 }
 
 // B: as A, two's complement.
+#[tactic(auto, unfolding(crate::specs::Reading::read_b), using(crate::proofs::Fields::buttons_a, crate::proofs::Fields::twelve_below))]
 #[inline(always)]
 fn read_relative(b1: u8, b2: u8, b3: u8, b4: u8, b5: u8) -> Report
     ensures { result ≡ read_b b1 b2 b3 b4 b5 }
@@ -94,6 +96,7 @@ fn read_five(b1: u8, b2: u8, b3: u8, b4: u8, b5: u8) -> Report
 }
 
 // T: the buttons, and a byte for each axis.
+#[tactic(auto, unfolding(crate::specs::Reading::read_t), using(numbers::proofs::Rows::number_low))]
 #[inline(always)]
 fn read_three(b1: u8, b2: u8, b3: u8) -> Report
     ensures { result ≡ read_t b1 b2 b3 }
@@ -102,6 +105,7 @@ fn read_three(b1: u8, b2: u8, b3: u8) -> Report
 }
 
 // W: a byte of two digits, the low one first.
+#[tactic(auto, using(crate::proofs::Fields::undigit_below, crate::proofs::Fields::pair_of))]
 #[inline(always)]
 fn pair(low: u8, high: u8) -> u8
     ensures { result ≡ pair low high }
@@ -110,6 +114,7 @@ fn pair(low: u8, high: u8) -> u8
 }
 
 // W: a digit for the buttons, and two for each axis.
+#[tactic(auto, unfolding(crate::specs::Reading::read_w))]
 #[inline(always)]
 fn read_hexadecimal(b1: u8, b2: u8, b3: u8, b4: u8, b5: u8) -> Report
     ensures { result ≡ read_w b1 b2 b3 b4 b5 }

@@ -4,6 +4,7 @@ ghost use Rattle.std.specs.Int.Signed.{mag};
 ghost use Rattle.numbers.specs.Signed.{twos, untwos, signed};
 
 // A magnitude under its sign.
+#[tactic(auto, unfolding(numbers::specs::Signed::signed))]
 #[inline(always)]
 pub(crate) fn joined(positive: bool, magnitude: u16) -> i16
     requires { magnitude < 4096 }

@@ -30,6 +30,7 @@ fn wrapped_byte(v: i16) -> u8
 }
 
 // S: a sign bit and a magnitude for each axis.
+#[tactic(auto, unfolding(crate::specs::Table::bytes_s), using(crate::proofs::Sums::sum_s))]
 #[inline(always)]
 fn rows_s(buttons: u8, x: i16, y: i16) -> [u8; 5]
     requires { (buttons ≤ 7) × (nat_abs x ≤ 127) × (nat_abs y ≤ 127) }
@@ -40,6 +41,7 @@ fn rows_s(buttons: u8, x: i16, y: i16) -> [u8; 5]
 }
 
 // V: the top two bits of either byte stand in the first, and M is dropped.
+#[tactic(auto, using(crate::proofs::Sums::rows_v_lem))]
 #[inline(always)]
 fn rows_v(buttons: u8, x: u8, y: u8) -> [u8; 5]
     requires { buttons ≤ 7 }
@@ -55,26 +57,29 @@ fn rows_a(r: Report, x: u16, y: u16) -> [u8; 5]
     requires { (r.buttons ≤ 7) × (x < 4096) × (y < 4096) }
     ensures { result ≡ rows_a r x y }
 {
-    let b1 = with_parity(64 + (r.buttons << 2));
-    let b2 = with_parity((x % 64) as u8);
-    let b3 = with_parity((x >> 6) as u8);
-    let b4 = with_parity((y % 64) as u8);
-    let b5 = with_parity((y >> 6) as u8);
-    [b1, b2, b3, b4, b5]
+    [
+        with_parity(64 + (r.buttons << 2)),
+        with_parity((x % 64) as u8),
+        with_parity((x >> 6) as u8),
+        with_parity((y % 64) as u8),
+        with_parity((y >> 6) as u8),
+    ]
 }
 
 // W: a digit for the buttons, and two for each byte, the low one first.
+#[tactic(auto, using(crate::proofs::Sums::low_four, crate::proofs::Sums::high_four), unfolding(crate::specs::Table::rows_w))]
 #[inline(always)]
 fn rows_w(buttons: u8, x: u8, y: u8) -> [u8; 5]
     requires { buttons ≤ 7 }
     ensures { result ≡ rows_w buttons x y }
 {
-    let b1 = digit_of(buttons);
-    let b2 = digit_of(x % 16);
-    let b3 = digit_of(x / 16);
-    let b4 = digit_of(y % 16);
-    let b5 = digit_of(y / 16);
-    [b1, b2, b3, b4, b5]
+    [
+        digit_of(buttons),
+        digit_of(x % 16),
+        digit_of(x / 16),
+        digit_of(y % 16),
+        digit_of(y / 16),
+    ]
 }
 
 // The bytes of a report, and zeros behind them to make five. V has minus y on the wire; U has 0 for a pressed button.

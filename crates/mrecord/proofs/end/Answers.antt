@@ -4,15 +4,18 @@ use Rattle.mrecord.proofs.end.Goals as goal
 
 pub returns-then-tape-ne0 : goal.returns-then-tape-ne0
 returns-then-tape-ne0 c =
-    let a = c.args in
-    ends a.turn.now c.say.new.turn a.tape c.say.result _ (gone_told a.tape c.if-tape-ne0.true) c.say.ensures
+    let s = c.args.session in
+    let k = c.say in
+    ends c.args.system.now.turn k.new.self.turn s _ _ (gone_told s c.if-tape-ne0.true) k.ensures.said
 
 pub returns-then-tape-eq-SILENCE : goal.returns-then-tape-eq-SILENCE
 returns-then-tape-eq-SILENCE c =
-    let a = c.args in
-    ends a.turn.now c.say-then-tape-eq-SILENCE.new.turn a.tape c.say-then-tape-eq-SILENCE.result _ (silence_told a.tape c.if-tape-ne0.false c.if-tape-eq-SILENCE.true) c.say-then-tape-eq-SILENCE.ensures
+    let s = c.args.session in
+    let k = c.say-then-tape-eq-SILENCE in
+    ends c.args.system.now.turn k.new.self.turn s _ _ (silence_told s c.if-tape-ne0.false c.if-tape-eq-SILENCE.true) k.ensures.said
 
-pub returns : goal.returns
-returns c =
-    let a = c.args in
-    ends a.turn.now c.say-2.new.turn a.tape c.say-2.result _ (full_told a.tape c.if-tape-ne0.false c.if-tape-eq-SILENCE.false) c.say-2.ensures
+pub returns-else-tape-eq-SILENCE : goal.returns-else-tape-eq-SILENCE
+returns-else-tape-eq-SILENCE c =
+    let s = c.args.session in
+    let k = c.say-else-tape-eq-SILENCE in
+    ends c.args.system.now.turn k.new.self.turn s _ _ (full_told s c.if-tape-ne0.false c.if-tape-eq-SILENCE.false) k.ensures.said

@@ -1,20 +1,22 @@
--- A right call, or a wrong one.
-use mathlib.Core.Path.{sym, ap, ◌∙◌}
-use mathlib.Core.Bool.{not, true≢false}
-use Rattle.mrecord.proofs.Handing.{refused}
+-- A wrong call.
+use Rattle.std.proofs.Common.{refl}
+use Rattle.mrecord.proofs.Handing.{wrong}
 use Rattle.mrecord.proofs.whole.Goals as goal
 
-pub returns-then-letter-tenths : goal.returns-then-letter-tenths
-returns-then-letter-tenths g c =
-    let r = c.refuse in
-    record {
-      recorded = λ right. absurd (true≢false (sym right ∙ ap not c.if-letter-tenths.true));
-      refused = λ _. refused c.args.turn.now r.new.turn r.result _ c.requires.2 r.ensures;
-    }
+pub returns-in_default : goal.returns-in_default
+returns-in_default g c =
+    let a = c.args in
+    let s = c.say in
+    wrong a.letter a.tenths a.begins a.system.now.turn s.new.self.turn _ _ (rw c.in_default.is refl) c.requires.2 s.ensures.said
 
-pub returns : goal.returns
-returns g c =
-    record {
-      recorded = λ _. c.recorded.ensures;
-      refused = λ wrong. absurd (true≢false (sym (ap not c.if-letter-tenths.false) ∙ wrong));
-    }
+pub returns-in_default-tenths : goal.returns-in_default-tenths
+returns-in_default-tenths g c =
+    let a = c.args in
+    let s = c.say-in_default-tenths in
+    wrong a.letter a.tenths a.begins a.system.now.turn s.new.self.turn _ _ (rw (c.in-Some.is, c.in_default-tenths.is) refl) c.requires.2 s.ensures.said
+
+pub returns-in_default-begins : goal.returns-in_default-begins
+returns-in_default-begins g c =
+    let a = c.args in
+    let s = c.say-in_default-begins in
+    wrong a.letter a.tenths a.begins a.system.now.turn s.new.self.turn _ _ (rw (c.in-Some.is, c.in-Some-tenths.is, c.in_default-begins.is) refl) c.requires.2 s.ensures.said

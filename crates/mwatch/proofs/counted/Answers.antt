@@ -7,6 +7,6 @@ pub returns-then-n-lt4000000000 : goal.returns-then-n-lt4000000000
 unfolding counted
 returns-then-n-lt4000000000 c = rw (lt-ltb _ _ c.if-n-lt4000000000.true)
 
-pub returns : goal.returns
+pub returns-else-n-lt4000000000 : goal.returns-else-n-lt4000000000
 unfolding counted
-returns c = rw (le-ltb _ _ c.if-n-lt4000000000.false)
+returns-else-n-lt4000000000 c = rw (le-ltb _ _ c.if-n-lt4000000000.false)

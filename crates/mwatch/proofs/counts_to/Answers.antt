@@ -9,7 +9,7 @@ pub returns : goal.returns
 unfolding gone_words
 returns c =
     let a = c.args in
-    let l = a.look in
+    let l = a.look.now in
     let first = c.part_to-first in
     let second = c.part_to-second in
     let third = c.part_to-third in

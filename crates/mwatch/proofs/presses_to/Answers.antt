@@ -11,14 +11,14 @@ returns c =
     let l = c.press_to-left in
     let m = c.press_to-middle in
     let r = c.press_to in
-    let n = a.count in
+    let n = a.count.now in
     let d = a.down in
     let n' = press_count n (is_left d) in
     let n'' = press_count n' (is_middle d) in
     let middle = rw l.ensures.1 at m.ensures.0 in
     let count = m.ensures.1 ∙ ap (λ k. press_count k (is_middle d)) l.ensures.1 in
     let right = rw count at r.ensures.0 in
-    let two = put_more 25 25 a.at l.result.at m.result.at a.out.now l.new.out m.new.out (press_line n (is_left d) 76) (press_line n' (is_middle d) 77) l.ensures.0 middle in (
-      put_more 50 25 a.at m.result.at r.result.at a.out.now m.new.out r.new.out (press_line n (is_left d) 76 ++ press_line n' (is_middle d) 77) (press_line n'' (is_right d) 82) two right,
+    let two = put_more 25 25 a.at l.result m.result a.out.now l.new.out m.new.out (press_line n (is_left d) 76) (press_line n' (is_middle d) 77) l.ensures.0 middle in (
+      put_more 50 25 a.at m.result r.result a.out.now m.new.out r.new.out (press_line n (is_left d) 76 ++ press_line n' (is_middle d) 77) (press_line n'' (is_right d) 82) two right,
       r.ensures.1 ∙ ap (λ k. press_count k (is_right d)) count,
     )

@@ -1,20 +1,16 @@
--- A right call, or a wrong one.
-use mathlib.Core.Path.{sym, ap, ◌∙◌}
-use mathlib.Core.Bool.{not, true≢false}
-use Rattle.mwatch.proofs.Handing.{refused}
+-- A wrong call.
+use Rattle.std.proofs.Common.{refl}
+use Rattle.mwatch.proofs.Looking.{wrong}
 use Rattle.mwatch.proofs.whole.Goals as goal
 
-pub returns-then-letter-tenths : goal.returns-then-letter-tenths
-returns-then-letter-tenths g c =
-    let r = c.refuse in
-    record {
-      watched = λ right. absurd (true≢false (sym right ∙ ap not c.if-letter-tenths.true));
-      refused = λ _. refused c.args.turn.now r.new.turn r.result _ c.requires.2 r.ensures;
-    }
+pub returns-in_default : goal.returns-in_default
+returns-in_default g c =
+    let a = c.args in
+    let s = c.say in
+    wrong a.letter a.tenths a.system.now.turn s.new.self.turn _ _ (rw c.in_default.is refl) c.requires.2 s.ensures.said
 
-pub returns : goal.returns
-returns g c =
-    record {
-      watched = λ _. c.watched.ensures;
-      refused = λ wrong. absurd (true≢false (sym (ap not c.if-letter-tenths.false) ∙ wrong));
-    }
+pub returns-in_default-tenths : goal.returns-in_default-tenths
+returns-in_default-tenths g c =
+    let a = c.args in
+    let s = c.say-in_default-tenths in
+    wrong a.letter a.tenths a.system.now.turn s.new.self.turn _ _ (rw (c.in-Some.is, c.in_default-tenths.is) refl) c.requires.2 s.ensures.said

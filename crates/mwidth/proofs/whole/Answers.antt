@@ -1,9 +1,8 @@
--- All of it, or what stood where something failed.
-use borrow.Author.Rules.{rules}
+use Rattle.std.proofs.Common.{arith}
+use Rattle.mwidth.proofs.Turns.{begins, ready_fresh}
 use Rattle.mwidth.proofs.whole.Goals as goal
 
-pub last-requires : goal.last-requires
-last-requires c = c.blocks-went.ensures.closes c.if-went.true
-
-pub returns : goal.returns
-returns c = c.blocks-went.ensures.ends c.if-went.false
+pub every_block-init : goal.every_block-init
+every_block-init c =
+    let f = c.fresh in
+    (omega arith, ready_fresh f.result f.ensures, begins c.args.system.now.turn c.requires.2 f.result f.ensures)

@@ -1,42 +1,39 @@
 -- Each case of the word's answer.
-use lib.ListN.{get_or}
-use mathlib.Core.Path.{◌≡◌, ◌∙◌}
+use Rattle.std.proofs.Common.{Ok, Err}
+use mathlib.Core.Path.{refl, ◌∙◌}
 use native.Mathlib.Omega.{arith}
-use Rattle.reader.specs.Rules.{word_of}
+use Rattle.wire.proofs.Numbered.{never_success}
+use Rattle.reader.specs.State.{read_in}
 use Rattle.reader.proofs.Permitted.{step_is}
 use Rattle.reader.proofs.Goodness.{step_word}
 use Rattle.bridge.proofs.Keeps.{good_reader}
 use Rattle.bridge.proofs.Loop.{stopping, taking, reporting}
 use Rattle.bridge.proofs.Bridge.first.Goals as goal
 
-pub returns-then-s-ne-SUCCESS : goal.returns-then-s-ne-SUCCESS
-returns-then-s-ne-SUCCESS c =
-    let word : let a = c.args in c.step-s.result ≡ word_of a.self.reader (get_or a.words.now 0 0) = let r = c.args.self.reader in
-    let w = get_or c.args.words.now 0 0 in
-    step_is r w c.step-s.result c.step-s.ensures ∙ step_word r w (good_reader c.args.self c.requires.0) in
-    rw c.converted.ensures (stopping c.args.words.now c.args.out.now c.requires.0 c.requires.1 word (λ z. absurd (c.if-s-ne-SUCCESS.true z)))
+pub returns-in-Err-clause-begins : goal.returns-in-Err-clause-begins
+returns-in-Err-clause-begins c words =
+    let r = c.args.self.reader in
+    let word = step_is r c.args.word (read_in r (Err c.in-Err.refusal)) c.in-Err.ensures ∙ step_word r c.args.word (good_reader c.args.self c.requires) in
+    rw (c.converted.ensures, c.number.ensures) (stopping words c.args.out.now c.requires word (λ z. absurd (never_success c.in-Err.refusal z)))
 
-pub returns-in-Nothing : goal.returns-in-Nothing
-returns-in-Nothing c =
-    let word : let a = c.args in c.step-s.result ≡ word_of a.self.reader (get_or a.words.now 0 0) = let r = c.args.self.reader in
-    let w = get_or c.args.words.now 0 0 in
-    step_is r w c.step-s.result c.step-s.ensures ∙ step_word r w (good_reader c.args.self c.requires.0) in
+pub returns-in-Nothing-clause-begins : goal.returns-in-Nothing-clause-begins
+returns-in-Nothing-clause-begins c words =
+    let r = c.args.self.reader in
+    let word = step_is r c.args.word (read_in r (Ok c.in-Ok.step)) c.in-Ok.ensures ∙ step_word r c.args.word (good_reader c.args.self c.requires) in
     let a = c.in-Nothing.is in
     rw (c.converted-in-Nothing.ensures, c.with.ensures)
-    (rw a at (taking c.args.words.now c.args.out.now c.requires.0 c.requires.1 word c.if-s-ne-SUCCESS.false (rw a (omega arith))))
+    (rw a at (taking words c.args.out.now c.requires word refl (rw a (omega arith))))
 
-pub returns-in-Dropped : goal.returns-in-Dropped
-returns-in-Dropped c =
-    let word : let a = c.args in c.step-s.result ≡ word_of a.self.reader (get_or a.words.now 0 0) = let r = c.args.self.reader in
-    let w = get_or c.args.words.now 0 0 in
-    step_is r w c.step-s.result c.step-s.ensures ∙ step_word r w (good_reader c.args.self c.requires.0) in
+pub returns-in-Dropped-clause-begins : goal.returns-in-Dropped-clause-begins
+returns-in-Dropped-clause-begins c words =
+    let r = c.args.self.reader in
+    let word = step_is r c.args.word (read_in r (Ok c.in-Ok.step)) c.in-Ok.ensures ∙ step_word r c.args.word (good_reader c.args.self c.requires) in
     let a = c.in-Dropped.is in
     rw (c.converted-in-Dropped.ensures, c.with-in-Dropped.ensures)
-    (rw a at (taking c.args.words.now c.args.out.now c.requires.0 c.requires.1 word c.if-s-ne-SUCCESS.false (rw a (omega arith))))
+    (rw a at (taking words c.args.out.now c.requires word refl (rw a (omega arith))))
 
-pub returns-in-Report : goal.returns-in-Report
-returns-in-Report c =
-    let word : let a = c.args in c.step-s.result ≡ word_of a.self.reader (get_or a.words.now 0 0) = let r = c.args.self.reader in
-    let w = get_or c.args.words.now 0 0 in
-    step_is r w c.step-s.result c.step-s.ensures ∙ step_word r w (good_reader c.args.self c.requires.0) in
-    reporting c.args.words.now c.args.out.now c.requires.0 c.requires.1 word _ c.if-s-ne-SUCCESS.false c.in-Report.is c.report.ensures
+pub returns-in-Report-clause-begins : goal.returns-in-Report-clause-begins
+returns-in-Report-clause-begins c words =
+    let r = c.args.self.reader in
+    let word = step_is r c.args.word (read_in r (Ok c.in-Ok.step)) c.in-Ok.ensures ∙ step_word r c.args.word (good_reader c.args.self c.requires) in
+    reporting words c.args.out.now c.requires word _ refl c.in-Report.is c.report.ensures.reported

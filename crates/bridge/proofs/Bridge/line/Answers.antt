@@ -1,99 +1,54 @@
-use Prim.Native.Nat.{◌-◌, ◌+◌, ◌*◌}
-use mathlib.Core.Path.{◌∙◌, ap}
+use Prim.Native.Nat.{◌<◌, ◌≤◌}
+use mathlib.Core.Path.{◌≡◌}
+use mathlib.Core.List.{[]}
 use native.Mathlib.Omega.{arith}
-use lib.ListN.{length, length-drop}
-use borrow.Rule.Slice.PartMut.{put_mid}
-use Rattle.fold.proofs.Parts.{rest_is}
+use lib.ListN.{length}
 use Rattle.fold.proofs.Loops as loops
 use Rattle.wire.proofs.Letters.{at_most_five}
 use Rattle.reader.proofs.Parts.{below_size_lem}
-use Rattle.fold.specs.Calls.{Stands}
-use Rattle.bridge.specs.Line.{whole, counts, converts}
+use Rattle.bridge.specs.Line.{converts}
 use Rattle.bridge.proofs.Keeps.{good_reader}
 use Rattle.bridge.proofs.Counted.{lawful}
-use Rattle.bridge.proofs.Loop.{far}
+use Rattle.bridge.proofs.Loop.{far, more, ends_before}
 use Rattle.bridge.proofs.Bridge.line.Goals as goal
 
 pub loop-at-init : goal.loop-at-init
-loop-at-init c = (loops.stands_none converts lawful c.args.self c.args.words.now c.args.out.now, c.requires)
+loop-at-init c = record { stands = loops.stands_none converts lawful c.args.self c.args.words.now c.args.out.now; sound = c.requires }
 
-pub slice_bounds-first-count-in-loop-at : goal.slice_bounds-first-count-in-loop-at
-slice_bounds-first-count-in-loop-at c = omega (arith, far c.loop-at.invariant.0)
-
-pub first-t-requires : goal.first-t-requires
-first-t-requires c = let l = c.loop-at in (l.invariant.1, rw (rest_is c.args.words.now l.at, length-drop) (omega arith))
+pub slice_bounds-first-count : goal.slice_bounds-first-count
+slice_bounds-first-count c = omega (arith, far c.loop-at.invariant.stands)
 
 pub returns-then-t-eq0 : goal.returns-then-t-eq0
-returns-then-t-eq0 c = let s = c.loop-at.invariant.0 in
-    let f = c.first-t.ensures in
-    rw c.converted.ensures (ap (whole _) (loops.unchanged converts lawful s f c.if-t-eq0.true) ∙ loops.ends_before converts lawful s f c.if-t-eq0.true)
-
-pub overflow_add-at : goal.overflow_add-at
-overflow_add-at c =
-    let turn : let l = c.loop-at in
-    let a = c.args in
-    let t = c.first-t.result in
-    Stands converts a.self a.words.now a.out.now t.next (l.at + t.taken) (l.used + 3 * t.sent) (counts (l.reports + t.reports) (l.sent + t.sent) (l.dropped + t.dropped))
-    (put_mid l.used (length l.out - l.used) l.out c.first-t.new.out) = loops.more converts lawful c.loop-at.invariant.0 c.first-t.ensures in
-    omega (arith, far turn, c.well_formed.1.0.1)
-
-pub overflow_mul-used : goal.overflow_mul-used
-overflow_mul-used c =
-    let turn : let l = c.loop-at in
-    let a = c.args in
-    let t = c.first-t.result in
-    Stands converts a.self a.words.now a.out.now t.next (l.at + t.taken) (l.used + 3 * t.sent) (counts (l.reports + t.reports) (l.sent + t.sent) (l.dropped + t.dropped))
-    (put_mid l.used (length l.out - l.used) l.out c.first-t.new.out) = loops.more converts lawful c.loop-at.invariant.0 c.first-t.ensures in
-    omega (arith, far turn, c.well_formed.1.1.0.1)
-
-pub overflow_add-used : goal.overflow_add-used
-overflow_add-used c =
-    let turn : let l = c.loop-at in
-    let a = c.args in
-    let t = c.first-t.result in
-    Stands converts a.self a.words.now a.out.now t.next (l.at + t.taken) (l.used + 3 * t.sent) (counts (l.reports + t.reports) (l.sent + t.sent) (l.dropped + t.dropped))
-    (put_mid l.used (length l.out - l.used) l.out c.first-t.new.out) = loops.more converts lawful c.loop-at.invariant.0 c.first-t.ensures in
-    omega (arith, far turn, c.well_formed.1.1.0.1)
+returns-then-t-eq0 c =
+    let here : c.loop-at.at < length c.args.words.now = omega arith in
+    rw c.converted.ensures (ends_before c.loop-at.invariant.stands here c.first-t.ensures.begins c.if-t-eq0.true)
 
 pub overflow_add-reports : goal.overflow_add-reports
 overflow_add-reports c =
-    let turn : let l = c.loop-at in
-    let a = c.args in
-    let t = c.first-t.result in
-    Stands converts a.self a.words.now a.out.now t.next (l.at + t.taken) (l.used + 3 * t.sent) (counts (l.reports + t.reports) (l.sent + t.sent) (l.dropped + t.dropped))
-    (put_mid l.used (length l.out - l.used) l.out c.first-t.new.out) = loops.more converts lawful c.loop-at.invariant.0 c.first-t.ensures in
-    omega (arith, far turn, c.well_formed.1.0.1)
+    let here : c.loop-at.at < length c.args.words.now = omega arith in
+    omega (arith, far (more c.loop-at.invariant.stands here c.first-t.ensures.begins c.first-t.ensures.one c.if-t-eq0.false), c.well_formed.1.0.1)
 
 pub overflow_add-sent : goal.overflow_add-sent
 overflow_add-sent c =
-    let turn : let l = c.loop-at in
-    let a = c.args in
-    let t = c.first-t.result in
-    Stands converts a.self a.words.now a.out.now t.next (l.at + t.taken) (l.used + 3 * t.sent) (counts (l.reports + t.reports) (l.sent + t.sent) (l.dropped + t.dropped))
-    (put_mid l.used (length l.out - l.used) l.out c.first-t.new.out) = loops.more converts lawful c.loop-at.invariant.0 c.first-t.ensures in
-    omega (arith, far turn, c.well_formed.1.1.0.1)
+    let here : c.loop-at.at < length c.args.words.now = omega arith in
+    omega (arith, far (more c.loop-at.invariant.stands here c.first-t.ensures.begins c.first-t.ensures.one c.if-t-eq0.false), c.well_formed.1.1.0.1)
 
 pub overflow_add-dropped : goal.overflow_add-dropped
 overflow_add-dropped c =
-    let turn : let l = c.loop-at in
-    let a = c.args in
-    let t = c.first-t.result in
-    Stands converts a.self a.words.now a.out.now t.next (l.at + t.taken) (l.used + 3 * t.sent) (counts (l.reports + t.reports) (l.sent + t.sent) (l.dropped + t.dropped))
-    (put_mid l.used (length l.out - l.used) l.out c.first-t.new.out) = loops.more converts lawful c.loop-at.invariant.0 c.first-t.ensures in
+    let here : c.loop-at.at < length c.args.words.now = omega arith in
     let r = c.args.self.reader in
-    omega (arith, far turn, below_size_lem r (good_reader c.args.self c.requires), at_most_five r.format, c.well_formed.1.0.1)
-
-pub loop-at-smaller : goal.loop-at-smaller
-loop-at-smaller c = omega (arith, c.loop-at-test.true, c.if-t-eq0.false)
+    omega (arith, far (more c.loop-at.invariant.stands here c.first-t.ensures.begins c.first-t.ensures.one c.if-t-eq0.false), below_size_lem r (good_reader c.args.self c.requires), at_most_five r.format, c.well_formed.1.0.1)
 
 pub loop-at-preserved : goal.loop-at-preserved
 loop-at-preserved c =
-    let turn : let l = c.loop-at in
-    let a = c.args in
-    let t = c.first-t.result in
-    Stands converts a.self a.words.now a.out.now t.next (l.at + t.taken) (l.used + 3 * t.sent) (counts (l.reports + t.reports) (l.sent + t.sent) (l.dropped + t.dropped))
-    (put_mid l.used (length l.out - l.used) l.out c.first-t.new.out) = loops.more converts lawful c.loop-at.invariant.0 c.first-t.ensures in
-    (turn, c.first-t.ensures.sound)
+    let here : c.loop-at.at < length c.args.words.now = omega arith in
+    record {
+      stands = more c.loop-at.invariant.stands here c.first-t.ensures.begins c.first-t.ensures.one c.if-t-eq0.false;
+      sound = (c.first-t.ensures.begins []).sound;
+    }
 
 pub returns : goal.returns
-returns c = rw c.converted-2.ensures (loops.ends_all converts lawful c.loop-at.invariant.0 c.loop-at-test.false)
+returns c =
+    let all : length c.args.words.now ≤ c.loop-at.at = omega arith in
+    let here : length c.args.words.now ≡ c.loop-at.at = omega (arith, far c.loop-at.invariant.stands) in
+    rw (c.converted-2.ensures, here) (loops.ends_all converts lawful c.loop-at.invariant.stands all)

@@ -21,8 +21,8 @@ count-n-requires c =
     let near : NearMove (movement c.args.self.reader.format c.args.self.past c.args.report) = near_movement c.args.self.reader.format c.args.self.past c.args.report x_fits y_fits x1_fits y1_fits x2_fits y2_fits in
     rw c.moved-m.ensures near
 
-pub returns-then-out-n : goal.returns-then-out-n
-returns-then-out-n c = let a = c.args in
+pub returns-then-out-n-clause-reported : goal.returns-then-out-n-clause-reported
+returns-then-out-n-clause-reported c = let a = c.args in
     let n = c.count-n.ensures ∙ ap count_of c.moved-m.ensures in
     rw c.converted.ensures (no_room a.self a.next a.report a.out.now (omega (arith, n, c.if-out-n.true)))
 
@@ -37,9 +37,9 @@ put-requires c =
     let near : NearMove (movement c.args.self.reader.format c.args.self.past c.args.report) = near_movement c.args.self.reader.format c.args.self.past c.args.report x_fits y_fits x1_fits y1_fits x2_fits y2_fits in
     (rw c.moved-m.ensures near, omega (arith, c.if-out-n.false))
 
-pub returns : goal.returns
-returns c = let a = c.args in
+pub returns-clause-reported : goal.returns-clause-reported
+returns-clause-reported c = let a = c.args in
     let m = c.moved-m.ensures in
     let n = c.count-n.ensures ∙ ap count_of m in
-    rw (c.converted-2.ensures, c.noted-noted.ensures, c.put.ensures, m, n)
+    rw (c.converted-2.ensures, c.noted.ensures, c.put.ensures, m, n)
     (all_written a.self a.next a.report a.out.now (omega (arith, n, c.if-out-n.false)))

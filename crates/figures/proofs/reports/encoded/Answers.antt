@@ -1,5 +1,4 @@
 -- `encoded`: the encoder tells at most five bytes.
-use borrow.Author.Rules.{rules}
 use Rattle.wire.proofs.Answers.{length_small}
 use Rattle.figures.proofs.reports.encoded.Goals as goal
 

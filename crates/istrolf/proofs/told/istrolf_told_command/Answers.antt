@@ -14,5 +14,5 @@ returns-then-not-stands c = simp (sym c.stands.ensures ∙ not-true _ c.if-not-s
 
 pub returns : goal.returns
 unfolding promises.tell_of
-returns c = let i = c.tell.ensures ∙ ap (λ (r : ToldReader). tell_of r (Command c.args.byte)) c.unpacked.ensures in
+returns c = let i = c.tell.ensures ∙ ap (λ (r : ToldReader). tell_of r (Command c.args.byte)) c.unpacked-told.ensures in
     simp (sym c.stands.ensures ∙ not-false _ c.if-not-stands.false-raw) (c.packed_telling.ensures ∙ ap packed_telling i)

@@ -1,9 +1,6 @@
 -- The days left fall.
-use Prim.Native.Nat.{◌+◌, ◌≤◌}
+use Prim.Native.Nat.{◌≤◌}
 use Rattle.mrecord.proofs.notes.month_of.Given as goal
 
-abbrev pub invariant-loop-length : goal.invariant-loop-length
-invariant-loop-length l = (l.month + l.day ≤ 3002001) × (1 ≤ l.length)
-
-abbrev pub decreases-loop-length : goal.decreases-loop-length
-decreases-loop-length l = l.day
+abbrev pub invariant-loop-month : goal.invariant-loop-month
+invariant-loop-month l = l.day ≤ l.since

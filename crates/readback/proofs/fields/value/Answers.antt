@@ -8,11 +8,11 @@ returns-in-Line c = rw c.in-Line.is c.line.ensures
 
 pub returns-in-Count : goal.returns-in-Count
 unfolding value_in
-returns-in-Count c = rw (c.in-Count.is, c.within.ensures, c.read.ensures)
+returns-in-Count c = rw c.in-Count.is (rw c.read.ensures at c.within.ensures)
 
 pub returns-in-Number : goal.returns-in-Number
 unfolding value_in
-returns-in-Number c = rw (c.in-Number.is, c.within-in-Number.ensures, c.read-in-Number.ensures)
+returns-in-Number c = rw c.in-Number.is (rw c.read-in-Number.ensures at c.within-in-Number.ensures)
 
 pub returns-in-Pressed : goal.returns-in-Pressed
 unfolding value_in

@@ -1,15 +1,10 @@
--- What is taken and written stays within the recording and the slice.
-use Prim.Native.Nat.{◌-◌, ◌≤◌}
-use native.Mathlib.Omega.{arith}
-use mathlib.Core.Path.{◌≡◌}
-use borrow.Author.Rules.{rules}
+-- What is written lies within the slice, and what is left of the recording falls.
+use Prim.Native.Nat.{◌≤◌}
 use lib.ListN.{length}
-use Rattle.io.proofs.Counting.{prefix_len_of_le}
 use Rattle.recordings.proofs.cuts.list.Given as goal
 
-abbrev pub invariant-loop-taken : goal.invariant-loop-taken
-invariant-loop-taken l =
-    (length l.out ≡ length l.initial.out) × (l.taken ≤ length l.recording) × (l.written ≤ length l.out)
+abbrev pub invariant-loop-rest : goal.invariant-loop-rest
+invariant-loop-rest l = l.written ≤ length l.out
 
-abbrev pub decreases-loop-taken : goal.decreases-loop-taken
-decreases-loop-taken l = length l.recording - l.taken
+abbrev pub decreases-loop-rest : goal.decreases-loop-rest
+decreases-loop-rest l = length l.rest

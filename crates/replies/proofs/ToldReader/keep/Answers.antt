@@ -5,8 +5,8 @@ use Rattle.replies.proofs.ToldReader.keep.Goals as goal
 
 pub returns-then-finishes : goal.returns-then-finishes
 unfolding keep
-returns-then-finishes c = simp (sym c.finishes.ensures ∙ c.if-finishes.true) (rw (c.told.ensures, c.nothing.ensures) at c.heard.ensures)
+returns-then-finishes c = simp (sym c.finishes.ensures ∙ c.if-finishes.true) (rw (c.told.ensures, c.nothing.ensures))
 
 pub returns : goal.returns
 unfolding keep
-returns c = simp (sym c.finishes.ensures ∙ c.if-finishes.false) (rw c.more.ensures at c.heard-2.ensures)
+returns c = simp (sym c.finishes.ensures ∙ c.if-finishes.false) (rw c.more.ensures)

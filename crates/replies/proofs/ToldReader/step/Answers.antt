@@ -6,7 +6,7 @@ use Rattle.replies.proofs.ToldReader.step.Goals as goal
 
 pub returns-then-not-good : goal.returns-then-not-good
 unfolding step_of
-returns-then-not-good c = simp (sym c.good.ensures ∙ not-true _ c.if-not-good.true-raw) (ap outcome c.refusing.ensures)
+returns-then-not-good c = simp (sym c.good.ensures ∙ not-true _ c.if-not-good.true-raw)
 
 pub returns : goal.returns
 unfolding step_of

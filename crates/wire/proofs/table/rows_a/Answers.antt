@@ -18,4 +18,4 @@ bits_of row e l = ap evened e ∙ sym (number_parity row l)
 pub returns : goal.returns
 unfolding bits rows_a
 returns c = simp
-    (c.with_parity-b1.ensures ∙ bits_of _ (sum_a c.args.r.buttons c.requires.0) refl, c.with_parity-b2.ensures ∙ bits_of _ (sym (sum_low c.args.x)) refl, c.with_parity-b3.ensures ∙ bits_of _ (sym (sum_high c.args.x c.requires.1)) refl, c.with_parity-b4.ensures ∙ bits_of _ (sym (sum_low c.args.y)) refl, c.with_parity-b5.ensures ∙ bits_of _ (sym (sum_high c.args.y c.requires.2)) refl)
+    (c.with_parity.ensures ∙ bits_of _ (sum_a c.args.r.buttons c.requires.0) refl, c.with_parity-2.ensures ∙ bits_of _ (sym (sum_low c.args.x)) refl, c.with_parity-3.ensures ∙ bits_of _ (sym (sum_high c.args.x c.requires.1)) refl, c.with_parity-4.ensures ∙ bits_of _ (sym (sum_low c.args.y)) refl, c.with_parity-5.ensures ∙ bits_of _ (sym (sum_high c.args.y c.requires.2)) refl)

@@ -9,8 +9,3 @@ pub overflow_cast-result : goal.overflow_cast-result
 overflow_cast-result c =
     let wire : c.wrapped.result ≡ twos 128 c.args.v = rw (to_z-of_z c.ranges.v) at c.wrapped.ensures in
     record { fits = rw wire (twos_below 128 c.args.v c.requires) }
-
-pub returns : goal.returns
-returns c =
-    let wire : c.wrapped.result ≡ twos 128 c.args.v = rw (to_z-of_z c.ranges.v) at c.wrapped.ensures in
-    wire

@@ -1,9 +1,0 @@
--- `on_slots`: the characters left fall.
-use borrow.Author.Rules.{rules}
-use Rattle.figures.proofs.steps.on_slots.Given as goal
-
-abbrev pub invariant-loop-left : goal.invariant-loop-left
-invariant-loop-left l = Unit {0}
-
-abbrev pub decreases-loop-left : goal.decreases-loop-left
-decreases-loop-left l = l.left
