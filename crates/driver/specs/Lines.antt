@@ -1,5 +1,6 @@
 -- What a line of events says: a letter and its fields, "tab between fields, decimals as in a recording".
-use Rattle.std.specs.Prelude.{ℕ, ◌+◌, Bool, cond, ◌||◌, List, [], ◌∷◌, leb, eqb, ℤ, pos, negsuc, take, drop}
+use Rattle.std.specs.Prelude.{ℕ, ◌+◌, ◌≤◌, ◌≡◌, Option, Bool, cond, ◌||◌, List, [], ◌∷◌, leb, eqb, ℤ, pos, negsuc, take, drop}
+use Rattle.std.specs.declared.option.Option.TheVariants as option
 use Rattle.std.specs.Int.Signed.{lt_z}
 use Rattle.numbers.specs.Signed.{least, most}
 use Rattle.wire.specs.Line.{known}
@@ -53,6 +54,11 @@ abbrev pub up_to : ℕ → (ℕ → Order) → Number → Order
 up_to bound says None = order.Bad
 up_to bound says (Is (pos n)) = cond (leb n bound) (says n) order.Bad
 up_to bound says (Is (negsuc n)) = order.Bad
+
+-- what is answered of it: what it says of a number is what up_to says
+abbrev pub UpTo : ℕ → Number → Option ℕ → Type 0
+UpTo bound x option.None = (says : ℕ → Order) → up_to bound says x ≡ order.Bad
+UpTo bound x (option.Some n) = (n ≤ bound) × ((says : ℕ → Order) → up_to bound says x ≡ says n)
 
 -- "`N` buttons; `C` and a host byte": each handed in as a byte
 abbrev pub buttons_in : List ℕ → Order

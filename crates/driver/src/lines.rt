@@ -1,6 +1,7 @@
 // What a line of events says.
 ghost use Rattle.std.specs.Prelude.{◌≡◌};
-ghost use Rattle.driver.specs.Lines.{alone_in, format_in, buttons_in, host_in, slots_in, motion_of, motion_in, with_fields, said_by};
+ghost use Rattle.text.specs.Decimals.{plain, number_in};
+ghost use Rattle.driver.specs.Lines.{alone_in, format_in, UpTo, buttons_in, host_in, slots_in, motion_of, motion_in, with_fields, said_by};
 
 use crate::{MOST_LINES, Order};
 use ballbox::Event;
@@ -36,45 +37,44 @@ fn format(bytes: &[u8]) -> Order
     Order::Bad
 }
 
+// A number that is 0 or more and at most a bound.
+fn up_to(bound: u32, bytes: &[u8]) -> Option<u32>
+    ensures { UpTo bound (number_in plain bytes.now) result }
+{
+    match Number::read(bytes, PLAIN) {
+        Number::None => None,
+        Number::Is(x) => if (x < 0) | (i64::from(bound) < x) {
+            None
+        } else {
+            Some(x as u32)
+        },
+    }
+}
+
 fn buttons(bytes: &[u8]) -> Order
     ensures { result ≡ buttons_in bytes.now }
 {
-    let number = Number::read(bytes, PLAIN);
-    match number {
-        Number::None => Order::Bad,
-        Number::Is(x) => if (x < 0) | (255 < x) {
-            Order::Bad
-        } else {
-            Order::Single(Event::Buttons(x as u8))
-        },
+    match up_to(255, bytes) {
+        None => Order::Bad,
+        Some(n) => Order::Single(Event::Buttons(n as u8)),
     }
 }
 
 fn host(bytes: &[u8]) -> Order
     ensures { result ≡ host_in bytes.now }
 {
-    let number = Number::read(bytes, PLAIN);
-    match number {
-        Number::None => Order::Bad,
-        Number::Is(x) => if (x < 0) | (255 < x) {
-            Order::Bad
-        } else {
-            Order::Single(Event::Host(x as u8))
-        },
+    match up_to(255, bytes) {
+        None => Order::Bad,
+        Some(n) => Order::Single(Event::Host(n as u8)),
     }
 }
 
 fn slots(bytes: &[u8]) -> Order
     ensures { result ≡ slots_in bytes.now }
 {
-    let number = Number::read(bytes, PLAIN);
-    match number {
-        Number::None => Order::Bad,
-        Number::Is(x) => if (x < 0) | ((MOST_LINES as i64) < x) {
-            Order::Bad
-        } else {
-            Order::Slots(x as u32)
-        },
+    match up_to(MOST_LINES, bytes) {
+        None => Order::Bad,
+        Some(n) => Order::Slots(n),
     }
 }
 
