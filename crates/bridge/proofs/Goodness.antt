@@ -4,7 +4,13 @@ use mathlib.Core.Path.{◌≡◌, refl, ◌∙◌, ap}
 use mathlib.Core.Bool.{true}
 use mathlib.Core.List.{List}
 use lib.ListN.{length}
+use Rattle.std.proofs.Common.{Result, Ok, Err}
+use Rattle.std.specs.Result.{ResultUnwrapsOrElse}
 use Rattle.fold.proofs.Laws.{stays}
+use Rattle.wire.specs.Line.{letter_of}
+use Rattle.wire.specs.declared.Format.TheVariants.{FiveByte}
+use Rattle.wire.specs.declared.refusal.Refusal.{Refusal}
+use Rattle.reader.specs.State.{fresh}
 use Rattle.reader.specs.Promises as reader_promises
 use Rattle.reader.proofs.Word.{word_format}
 use Rattle.reader.proofs.Goodness as reader_goodness
@@ -13,7 +19,7 @@ use Rattle.bridge.specs.Good.{good}
 use Rattle.fold.specs.Calls.{line, call}
 use Rattle.fold.proofs.Calls.{call_line}
 use Rattle.bridge.specs.Line.{Long, bridges, converts}
-use Rattle.bridge.specs.Promises.{NewBridge, FreshPromise, ConvertPromise, fresh_of}
+use Rattle.bridge.specs.Promises.{NewBridge, FreshPromise, ConvertPromise, with_none, new_in, fresh_of}
 use Rattle.bridge.specs.declared.Bridge.{Bridge}
 use Rattle.bridge.specs.declared.Converted.{Converted}
 use Rattle.bridge.proofs.Keeps.{word_keeps}
@@ -31,6 +37,11 @@ pub fresh_is_good : (letter : ℕ) (a : NewBridge) → FreshPromise letter a →
 unfolding fresh_of good
 fresh_is_good letter a e =
     rw e (rw (reader_goodness.fresh_is_good letter (reader_promises.fresh_of letter) refl) (none_good (reader_promises.fresh_of letter).reader.format))
+
+-- a fresh one of a letter, or that of U
+pub fresh_or : (r : Result Bridge Refusal) (b : Bridge) → ResultUnwrapsOrElse r (λ (x : Bridge). x ≡ with_none (fresh (letter_of FiveByte))) b → b ≡ (new_in r).bridge
+fresh_or (Ok a) b e = e
+fresh_or (Err x) b e = e
 
 pub convert_stays_good : (b : Bridge) (words out : List ℕ) (a : Converted) (after : List ℕ) → good b ≡ true → ConvertPromise b words out a after
     → (good a.next ≡ true) × (a.next.reader.format ≡ b.reader.format)

@@ -1,5 +1,5 @@
 -- What lines of events do to a box, and what is recorded of them.
-use Rattle.std.specs.Prelude.{ℕ, zero, suc, ◌+◌, Bool, true, false, cond, List, [], ◌∷◌, ◌++◌, map, leb, eqb}
+use Rattle.std.specs.Prelude.{ℕ, zero, suc, ◌+◌, Bool, true, false, cond, List, [], ◌∷◌, ◌++◌, map, leb, eqb, Result, Ok, Err}
 use Rattle.listing.specs.Lines.{lines_in}
 use Rattle.listing.specs.Scanning.{most_lines}
 use Rattle.ballbox.specs.Box.{Step, fresh_box}
@@ -20,14 +20,16 @@ pub record Leaves : Type 0 where
   pub records : List Record
   pub ends : Bool
 
-abbrev pub leaves : Done → Leaves
-leaves d = record { next = d.next; records = records_in d.given; ends = d.ends }
-
 abbrev pub going : BallBox → List ℕ → Leaves
 going b words = record { next = b; records = map Word words; ends = false }
 
 abbrev pub ending : BallBox → Record → Leaves
 ending b r = record { next = b; records = r ∷ []; ends = true }
+
+-- what a line is answered by: the last one by its record alone, and the box is as it was
+abbrev pub leaves : BallBox → Result Done Record → Leaves
+leaves b (Ok d) = record { next = d.next; records = records_in d.given; ends = false }
+leaves b (Err r) = ending b r
 
 -- "`F` and a letter first (the box, fresh, is set to it)"
 abbrev pub set : ℕ → BallBox

@@ -1,18 +1,16 @@
 -- The lines of a recording as they are written: "It writes a recording that `mlist` takes: `F` and the letter, then `B`, `X`, `Q`."
-use Rattle.std.specs.Prelude.{ℕ, cond, List, [], ◌∷◌, ◌++◌, eqb, pos}
+use Rattle.std.specs.Prelude.{ℕ, cond, List, [], ◌∷◌, ◌++◌, eqb, pos, Option, None, Some}
 use Rattle.frames.specs.Words.{break, silence}
 use Rattle.text.specs.Decimals.{plain, decimal_of}
 use Rattle.listing.specs.Lines.{newline, tab}
 use Rattle.listing.specs.Printing.{over}
 use Rattle.driver.specs.declared.Record.{Record}
 use Rattle.driver.specs.declared.Record.TheVariants.{Format, Word, Bad, Over}
-use Rattle.driver.specs.declared.Given.{Given}
-use Rattle.driver.specs.declared.Given.TheVariants.{Nothing, One}
 
 -- what is recorded of a line, in a list
-abbrev pub records_in : Given → List Record
-records_in Nothing = []
-records_in (One r) = r ∷ []
+abbrev pub records_in : Option Record → List Record
+records_in None = []
+records_in (Some r) = r ∷ []
 
 -- "`B` decimal byte, `X` (256), `Q` (257)"
 unfoldable pub word_bytes : ℕ → List ℕ

@@ -3,9 +3,7 @@ ghost use Rattle.std.specs.Prelude.{◌≡◌, true, ◌<◌, ◌≤◌, length}
 ghost use Rattle.driver.specs.Feeding.{owed_by, at_line, Turned, taken_of, byte_of, slot_of, slot_tick, end_of, Due, Ticks, feed_in, lacking, good};
 ghost use Rattle.driver.specs.Promises.{FreshPromise, FeedPromise, FinishPromise, whole, written};
 
-use crate::{
-    Driven, Driver, Given, MOST_LINES, Order, Record, Tick, Turn, driving, lines, recorded,
-};
+use crate::{Driven, Driver, MOST_LINES, Order, Record, Tick, Turn, driving, lines, recorded};
 use ballbox::BallBox;
 use text::Text;
 
@@ -18,11 +16,11 @@ fn at_line(n: u32, ended: bool, owed: u32, ball: BallBox) -> Driver
 {
     Driver {
         line: n,
-        ended: ended,
+        ended,
         held: [0; 15],
         count: 0,
-        owed: owed,
-        ball: ball,
+        owed,
+        ball,
     }
 }
 
@@ -31,10 +29,8 @@ fn owed(order: Order) -> u32
     ensures { result ≡ owed_by order }
 {
     match order {
-        Order::Bad => 0,
-        Order::Format(_) => 0,
-        Order::Single(_) => 0,
         Order::Slots(k) => k,
+        Order::Bad | Order::Format(_) | Order::Single(_) => 0,
     }
 }
 
@@ -43,10 +39,10 @@ fn answer(refusal: u8, next: Driver, taken: usize, written: usize) -> Driven
     ensures { result ≡ record { refusal = refusal; next = next; taken = taken; written = written; ended = next.ended } }
 {
     Driven {
-        refusal: refusal,
-        next: next,
-        taken: taken,
-        written: written,
+        refusal,
+        next,
+        taken,
+        written,
         ended: next.ended,
     }
 }
@@ -88,44 +84,38 @@ impl Driver {
         if !text.put(out, used) {
             return answer(0, last, 0, used);
         }
-        let next = t.next;
-        answer(0, next, 0, used + n)
+        answer(0, t.next, 0, used + n)
     }
 
     // Whether it keeps its rules.
     fn good(self) -> bool
         ensures { result ≡ good self }
     {
-        let ball = self.ball;
         (self.line <= MOST_LINES)
             & (self.count <= LONGEST)
             & (self.owed <= MOST_LINES)
-            & ball.good()
+            & self.ball.good()
     }
 
     // A whole line: nothing is done after the end.
     fn taken(self, order: Order) -> Turn
         ensures { Turned result (taken_of self order) }
     {
-        let ball = self.ball;
         if self.ended {
             return Turn {
-                next: at_line(self.line, true, self.owed, ball),
+                next: at_line(self.line, true, self.owed, self.ball),
                 text: Text::none(),
             };
         }
-        let done = driving::line_done(self.line, ball, order);
-        let next = done.next;
-        let given = done.given;
-        if done.ends {
-            return Turn {
-                next: at_line(self.line, true, 0, next),
-                text: recorded::line(given),
-            };
-        }
-        Turn {
-            next: at_line(self.line + 1, false, owed(order), next),
-            text: recorded::line(given),
+        match driving::line_done(self.line, self.ball, order) {
+            Ok(done) => Turn {
+                next: at_line(self.line + 1, false, owed(order), done.next),
+                text: recorded::line(done.given),
+            },
+            Err(last) => Turn {
+                next: at_line(self.line, true, 0, self.ball),
+                text: recorded::line(Some(last)),
+            },
         }
     }
 
@@ -143,15 +133,11 @@ impl Driver {
             return self.taken(Order::Bad);
         }
         held[n] = b;
-        let ball = self.ball;
         Turn {
             next: Driver {
-                line: self.line,
-                ended: self.ended,
-                held: held,
+                held,
                 count: n + 1,
-                owed: self.owed,
-                ball: ball,
+                ..self
             },
             text: Text::none(),
         }
@@ -163,16 +149,11 @@ impl Driver {
         ensures { Turned result (slot_of self) }
     {
         let step = driving::slot(self.ball);
-        let next = step.next;
-        let held = self.held;
         Turn {
             next: Driver {
-                line: self.line,
-                ended: self.ended,
-                held: held,
-                count: self.count,
                 owed: self.owed - 1,
-                ball: next,
+                ball: step.next,
+                ..self
             },
             text: recorded::line(driving::given(step.sent, step.word)),
         }
@@ -182,12 +163,11 @@ impl Driver {
     fn end(self) -> Turn
         ensures { Turned result (end_of self) }
     {
-        let ball = self.ball;
-        let last = at_line(self.line, true, self.owed, ball);
+        let last = at_line(self.line, true, self.owed, self.ball);
         if !self.ended & (self.line == 0) {
             return Turn {
                 next: last,
-                text: recorded::line(Given::One(Record::Bad(1))),
+                text: recorded::line(Some(Record::Bad(1))),
             };
         }
         Turn {
@@ -229,10 +209,9 @@ impl Driver {
             if !text.put(out, used) {
                 return answer(0, m, at, used);
             }
-            let next = t.next;
-            m = next;
-            at = at + tick.taken;
-            used = used + n;
+            m = t.next;
+            at += tick.taken;
+            used += n;
         }
         answer(0, m, at, used)
     }

@@ -53,18 +53,11 @@ pub(crate) enum Record {
     Over,
 }
 
-#[derive(Clone, Copy, Drop)]
-pub(crate) enum Given {
-    Nothing,
-    One(Record),
-}
-
-// What a line leaves: the box, what is recorded, and whether it is the last.
+// What a line leaves that is not the last: the box, and what is recorded. The last line is told by its record alone.
 #[derive(Clone, Copy, Drop)]
 pub(crate) struct Done {
     pub next: BallBox,
-    pub given: Given,
-    pub ends: bool,
+    pub given: Option<Record>,
 }
 
 // A driver, and the text that it writes.

@@ -1,10 +1,11 @@
 // What a line of events says.
 ghost use Rattle.std.specs.Prelude.{◌≡◌};
-ghost use Rattle.driver.specs.Lines.{alone_in, format_in, buttons_in, host_in, slots_in, motion_of, motion_in, with_fields, said_by};
+ghost use Rattle.text.specs.Decimals.{plain, number_in};
+ghost use Rattle.driver.specs.Lines.{alone_in, format_in, UpTo, buttons_in, host_in, slots_in, motion_of, motion_in, with_fields, said_by};
 
 use crate::{MOST_LINES, Order};
 use ballbox::Event;
-use text::{PLAIN, number};
+use text::{Number, PLAIN};
 
 // The ends of a movement.
 const LEAST: i64 = -32_768;
@@ -36,54 +37,56 @@ fn format(bytes: &[u8]) -> Order
     Order::Bad
 }
 
+// A number that is 0 or more and at most a bound.
+fn up_to(bound: u32, bytes: &[u8]) -> Option<u32>
+    ensures { UpTo bound (number_in plain bytes.now) result }
+{
+    match Number::read(bytes, PLAIN) {
+        Number::None => None,
+        Number::Is(x) => if (x < 0) | (i64::from(bound) < x) {
+            None
+        } else {
+            Some(x as u32)
+        },
+    }
+}
+
 fn buttons(bytes: &[u8]) -> Order
     ensures { result ≡ buttons_in bytes.now }
 {
-    match number(bytes, PLAIN) {
+    match up_to(255, bytes) {
         None => Order::Bad,
-        Some(x) => if (x < 0) | (255 < x) {
-            Order::Bad
-        } else {
-            Order::Single(Event::Buttons(x as u8))
-        },
+        Some(n) => Order::Single(Event::Buttons(n as u8)),
     }
 }
 
 fn host(bytes: &[u8]) -> Order
     ensures { result ≡ host_in bytes.now }
 {
-    match number(bytes, PLAIN) {
+    match up_to(255, bytes) {
         None => Order::Bad,
-        Some(x) => if (x < 0) | (255 < x) {
-            Order::Bad
-        } else {
-            Order::Single(Event::Host(x as u8))
-        },
+        Some(n) => Order::Single(Event::Host(n as u8)),
     }
 }
 
 fn slots(bytes: &[u8]) -> Order
     ensures { result ≡ slots_in bytes.now }
 {
-    match number(bytes, PLAIN) {
+    match up_to(MOST_LINES, bytes) {
         None => Order::Bad,
-        Some(x) => if (x < 0) | ((MOST_LINES as i64) < x) {
-            Order::Bad
-        } else {
-            Order::Slots(x as u32)
-        },
+        Some(n) => Order::Slots(n),
     }
 }
 
 // Two numbers of 16 bits.
-fn motion_of(x: Option<i64>, y: Option<i64>) -> Order
+fn motion_of(x: Number, y: Number) -> Order
     ensures { result ≡ motion_of x y }
 {
     match x {
-        None => Order::Bad,
-        Some(dx) => match y {
-            None => Order::Bad,
-            Some(dy) => if (dx < LEAST) | (MOST < dx) | ((dy < LEAST) | (MOST < dy)) {
+        Number::None => Order::Bad,
+        Number::Is(dx) => match y {
+            Number::None => Order::Bad,
+            Number::Is(dy) => if (dx < LEAST) | (MOST < dx) | ((dy < LEAST) | (MOST < dy)) {
                 Order::Bad
             } else {
                 Order::Single(Event::Motion(dx as i16, dy as i16))
@@ -102,8 +105,8 @@ fn motion(bytes: &[u8]) -> Order
     }
     let start = n + 1;
     motion_of(
-        number(&bytes[0..n], PLAIN),
-        number(&bytes[start..], PLAIN),
+        Number::read(&bytes[0..n], PLAIN),
+        Number::read(&bytes[start..], PLAIN),
     )
 }
 

@@ -3,7 +3,7 @@ ghost use Rattle.text.specs.Growth.{capacity};
 ghost use Rattle.driver.specs.Recorded.{records_in, word_bytes, record_bytes, all_lines};
 ghost use Rattle.driver.specs.Feeding.{Holds};
 
-use crate::{Given, Record};
+use crate::Record;
 use text::{PLAIN, Text};
 use wire::{BREAK, SILENCE};
 
@@ -38,11 +38,11 @@ fn record(of: Record) -> Text
 }
 
 // The line of what is recorded, if anything.
-pub(crate) fn line(given: Given) -> Text
+pub(crate) fn line(given: Option<Record>) -> Text
     ensures { Holds capacity result (all_lines (records_in given)) }
 {
     match given {
-        Given::Nothing => Text::none(),
-        Given::One(of) => record(of).with(b'\n'),
+        None => Text::none(),
+        Some(of) => record(of).with(b'\n'),
     }
 }

@@ -1,10 +1,10 @@
 // Reports that are latched earlier than they are sent.
 use crate::print;
-use crate::steps::{Run, answers_to, on, on_slots, started};
+use crate::steps::{Run, answers_to, on, on_slots, sends, started};
 use ballbox::{BallBox, Event};
 use std::io::Stdout;
 
-fn set_to_u(output: Stdout) -> Run {
+fn set_to_u(output: Stdout) -> Run<BallBox> {
     on(output, started(BallBox::fresh()), Event::Host(b'U'))
 }
 
@@ -21,15 +21,6 @@ fn lone_break(output: Stdout) {
     let r = on_slots(output, r, 5);
     print::say(output, b"\nLone break");
     answers_to(output, b'U', r);
-}
-
-// So many words more, with no Latch.
-fn sends(output: Stdout, run: Run, count: u8) -> Run {
-    let mut next = run;
-    for _ in 0..count {
-        next = on(output, next, Event::Send);
-    }
-    next
 }
 
 // "U's second pair is still latched when byte 4 is sent": it has the movement since the Latch.

@@ -11,15 +11,12 @@ fn held_movement(output: Stdout) {
     let b = after(output, b, Event::Motion(200, 0));
     let b = after(output, b, Event::Period);
     let b = slots(output, b, 1);
-    let going = b.going;
-    let bytes = going.bytes;
     print::say(output, b", x ");
-    print::small(output, bytes[1]);
-    let counter = b.track.counter;
+    print::small(output, b.going.bytes[1]);
     print::say(output, b", counters ");
-    print::signed(output, counter.x);
+    print::signed(output, b.track.counter.x);
     print::say(output, b" ");
-    print::signed(output, counter.y);
+    print::signed(output, b.track.counter.y);
     slots(output, b, 3);
     print::say(output, b"\n");
 }

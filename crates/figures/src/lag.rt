@@ -12,11 +12,10 @@ fn axes(output: Stdout, e: Excess) {
 
 // The sums, readable after any step.
 fn shown(output: Stdout, b: BallBox) {
-    let sums = b.sums;
     print::say(output, b", over the limit ");
-    axes(output, sums.limit);
+    axes(output, b.sums.limit);
     print::say(output, b", over the counter ");
-    axes(output, sums.counter);
+    axes(output, b.sums.counter);
     print::say(output, b"\n");
 }
 

@@ -129,8 +129,7 @@ fn rows(output: Stdout, letter: u8, words: &[u16], sent: &[i16; NUMBERS]) {
 
 // What a line is: its reports and words, and its first and last report.
 fn heading(output: Stdout, letter: u8, count: usize) {
-    let name = [letter];
-    print::say(output, &name);
+    print::say(output, &[letter]);
     print::say(output, b": reports ");
     print::number(output, REPORTS);
     print::say(output, b", words ");

@@ -5,14 +5,13 @@ use ballbox::{BallBox, Event};
 use std::io::Stdout;
 
 // A fresh box that is set to a format: it is in the stream mode O.
-fn set_to(output: Stdout, letter: u8) -> Run {
+fn set_to(output: Stdout, letter: u8) -> Run<BallBox> {
     on(output, started(BallBox::fresh()), Event::Host(letter))
 }
 
 fn tap_in(output: Stdout, letter: u8) {
-    let name = [letter];
     print::say(output, b"Tap in ");
-    print::say(output, &name);
+    print::say(output, &[letter]);
 }
 
 // "A save tapped in a long move .. fell inside one report": M is pressed and released between its bytes.
@@ -34,7 +33,7 @@ fn tap(output: Stdout, letter: u8, left: u8, behind: u8) {
 }
 
 // Button states 1 to 7, and two more.
-fn nine(output: Stdout, run: Run) -> Run {
+fn nine(output: Stdout, run: Run<BallBox>) -> Run<BallBox> {
     let r = on(output, run, Event::Buttons(1));
     let r = on(output, r, Event::Buttons(2));
     let r = on(output, r, Event::Buttons(3));

@@ -1,50 +1,29 @@
 // The Digital VSXXX puck from power-up on, what its reader makes of its words, and the manual's examples of its self-test.
 use crate::print;
-use crate::steps::{Line, event, no_words, noted, refusal, sent};
+use crate::steps::{Device, Given, Run, on, refusal, sends, started};
 use ballbox::Event;
 use puck::Puck;
 use puckreader::{PuckAnswer, PuckReader};
 use std::io::Stdout;
 use vsxxx::SelfTest;
 
-// A run of a puck: the puck, and the words that it gave.
-#[derive(Clone, Copy, Drop)]
-struct Run {
-    puck: Puck,
-    line: Line,
+impl Device for Puck {
+    fn given(self, e: Event) -> Given<Puck> {
+        let stepped = self.step(e);
+        Given {
+            refusal: stepped.refusal,
+            sent: stepped.sent,
+            word: stepped.word,
+            next: stepped.next,
+        }
+    }
 }
 
 // Power-up with these buttons, of a puck of revision 1 and maker 3.
-fn powered(output: Stdout, buttons: u8) -> Run {
+fn powered(output: Stdout, buttons: u8) -> Run<Puck> {
     print::say(output, b", Power-up ");
     print::buttons(output, buttons);
-    Run {
-        puck: Puck::made(buttons, 1, 3),
-        line: no_words(),
-    }
-}
-
-// The run after an event.
-fn on(output: Stdout, run: Run, e: Event) -> Run {
-    let p = run.puck;
-    let stepped = p.step(e);
-    let next = stepped.next;
-    event(output, e);
-    refusal(output, stepped.refusal);
-    sent(output, stepped.sent, stepped.word);
-    Run {
-        puck: next,
-        line: noted(run.line, stepped.sent, stepped.word),
-    }
-}
-
-// So many words more, with no Latch.
-fn sends(output: Stdout, run: Run, count: u8) -> Run {
-    let mut next = run;
-    for _ in 0..count {
-        next = on(output, next, Event::Send);
-    }
-    next
+    started(Puck::made(buttons, 1, 3))
 }
 
 // A self-test: revision, maker, device, error and buttons.
@@ -105,7 +84,7 @@ fn answers(output: Stdout, words: &[u16]) {
 }
 
 // The same to the words of a run.
-fn answers_to(output: Stdout, run: Run) {
+fn answers_to(output: Stdout, run: Run<Puck>) {
     if let Some(words) = run.line.words.get(..run.line.count) {
         answers(output, words);
     }

@@ -13,7 +13,7 @@ fn host(output: Stdout, byte: u8) {
     }
 }
 
-pub(crate) fn event(output: Stdout, e: Event) {
+fn event(output: Stdout, e: Event) {
     match e {
         Event::Motion(dx, dy) => {
             print::say(output, b", Motion(");
@@ -43,7 +43,7 @@ pub(crate) fn event(output: Stdout, e: Event) {
 }
 
 // The word, if one is sent.
-pub(crate) fn sent(output: Stdout, count: u8, word: u16) {
+fn sent(output: Stdout, count: u8, word: u16) {
     if count == 1 {
         print::say(output, b" gives ");
         print::word(output, word);
@@ -68,7 +68,7 @@ pub(crate) struct Line {
     pub(crate) count: usize,
 }
 
-pub(crate) fn no_words() -> Line {
+fn no_words() -> Line {
     Line {
         words: [0; ROOM],
         count: 0,
@@ -84,7 +84,7 @@ fn with_word(mut line: Line, word: u16) -> Line {
     line
 }
 
-pub(crate) fn noted(line: Line, count: u8, word: u16) -> Line {
+fn noted(line: Line, count: u8, word: u16) -> Line {
     if count == 1 {
         with_word(line, word)
     } else {
@@ -92,37 +92,75 @@ pub(crate) fn noted(line: Line, count: u8, word: u16) -> Line {
     }
 }
 
-// A run of the box: the box, and the words that it gave.
+// What an event gives: a refusal, how many words, the word, and the device behind it.
+pub(crate) struct Given<D> {
+    pub(crate) refusal: u8,
+    pub(crate) sent: u8,
+    pub(crate) word: u16,
+    pub(crate) next: D,
+}
+
+// What takes events and sends words: the box, and the puck.
+pub(crate) trait Device: Sized {
+    fn given(self, e: Event) -> Given<Self>;
+}
+
+impl Device for BallBox {
+    fn given(self, e: Event) -> Given<BallBox> {
+        let stepped = self.step(e);
+        Given {
+            refusal: stepped.refusal,
+            sent: stepped.sent,
+            word: stepped.word,
+            next: stepped.next,
+        }
+    }
+}
+
+// A run of a device: the device, and the words that it gave.
 #[derive(Clone, Copy, Drop)]
-pub(crate) struct Run {
-    pub(crate) ball: BallBox,
+pub(crate) struct Run<D> {
+    pub(crate) device: D,
     pub(crate) line: Line,
 }
 
-// A run from a box on.
-pub(crate) fn started(b: BallBox) -> Run {
+// A run from a device on.
+pub(crate) fn started<D>(device: D) -> Run<D> {
     Run {
-        ball: b,
+        device,
         line: no_words(),
     }
 }
 
 // The run after an event.
-pub(crate) fn on(output: Stdout, run: Run, e: Event) -> Run {
-    let b = run.ball;
-    let stepped = b.step(e);
-    let next = stepped.next;
+pub(crate) fn on<D: Device>(output: Stdout, run: Run<D>, e: Event) -> Run<D> {
+    let Run { device, line } = run;
+    let Given {
+        refusal: number,
+        sent: count,
+        word,
+        next,
+    } = device.given(e);
     event(output, e);
-    refusal(output, stepped.refusal);
-    sent(output, stepped.sent, stepped.word);
+    refusal(output, number);
+    sent(output, count, word);
     Run {
-        ball: next,
-        line: noted(run.line, stepped.sent, stepped.word),
+        device: next,
+        line: noted(line, count, word),
     }
 }
 
+// The run after so many words more, with no Latch.
+pub(crate) fn sends<D: Device>(output: Stdout, run: Run<D>, count: u8) -> Run<D> {
+    let mut next = run;
+    for _ in 0..count {
+        next = on(output, next, Event::Send);
+    }
+    next
+}
+
 // The run after time for so many characters: each is latched for, and sent.
-pub(crate) fn on_slots(output: Stdout, run: Run, count: u8) -> Run {
+pub(crate) fn on_slots(output: Stdout, run: Run<BallBox>, count: u8) -> Run<BallBox> {
     let mut next = run;
     for _ in 0..count {
         next = on(output, next, Event::Latch);
@@ -133,12 +171,12 @@ pub(crate) fn on_slots(output: Stdout, run: Run, count: u8) -> Run {
 
 // The box after an event.
 pub(crate) fn after(output: Stdout, b: BallBox, e: Event) -> BallBox {
-    on(output, started(b), e).ball
+    on(output, started(b), e).device
 }
 
 // The box after time for so many characters.
 pub(crate) fn slots(output: Stdout, b: BallBox, count: u8) -> BallBox {
-    on_slots(output, started(b), count).ball
+    on_slots(output, started(b), count).device
 }
 
 fn answer(output: Stdout, a: Answer) {
@@ -191,7 +229,7 @@ pub(crate) fn answers(output: Stdout, letter: u8, words: &[u16]) {
 }
 
 // The same to the words of a run.
-pub(crate) fn answers_to(output: Stdout, letter: u8, run: Run) {
+pub(crate) fn answers_to(output: Stdout, letter: u8, run: Run<BallBox>) {
     if let Some(words) = run.line.words.get(..run.line.count) {
         answers(output, letter, words);
     }

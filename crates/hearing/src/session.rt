@@ -107,7 +107,7 @@ impl<T: Teller> Session<T> {
         Ok(count)
     }
 
-    // Turn after turn, until no more is to be heard, the line is gone or something failed.
+    // Turn after turn, until no more is to be heard, the line is gone or something failed. The last turn is noted too.
     pub fn turns(
         &mut self,
         system: &mut System,
@@ -127,10 +127,10 @@ impl<T: Teller> Session<T> {
             if most == 0 {
                 break;
             }
-            let count = self.listen(system, names, &mut input[..most], out)?;
+            let came = self.listen(system, names, &mut input[..most], out);
             let now = shell::seconds(time);
             noted = self.teller.noted(noted, now);
-            let Some(turned) = clock.turned(count > 0, now == since) else {
+            let Some(turned) = clock.turned(came? > 0, now == since) else {
                 break;
             };
             clock = turned;

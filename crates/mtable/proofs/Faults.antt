@@ -7,7 +7,7 @@ use native.Mathlib.Omega.{arith}
 use lib.Dec.{eqb}
 use lib.IntN.{ℤ, pos}
 use lib.ListN.{length, length-append}
-use borrow.Author.Tests.{eq-eqb, ne_eqb}
+use borrow.Author.Tests.{ne_eqb}
 use Rattle.shell.specs.Outside.{Handed, Said}
 use Rattle.shell.specs.Standing.{Closes, Ends}
 use Rattle.shell.proofs.Laws as standing
@@ -25,8 +25,8 @@ use Rattle.readback.specs.Promises.{finish_of, FinishPromise}
 use Rattle.readback.specs.declared.Back.{Back}
 use Rattle.mtable.specs.Table.{comma, commas, last_row, of_fault, fault_words}
 use Rattle.mtable.specs.Program.{mtable}
-use Rattle.mtable.specs.Blocks.{fault_of}
-use Rattle.mtable.specs.declared.Went.{Went}
+use Rattle.mtable.specs.Blocks.{end_line}
+use Rattle.mtable.specs.declared.Place.{Place}
 
 -- the row of a fault, and what is told of it, as texts
 module _ (line : ℕ) (some : line ≡ 0 → ⊥) (small : line < 4294967296) (x : ℤ) (is : x ≡ pos line) where
@@ -72,27 +72,23 @@ module _ (t t' : ℕ) (well : Bool) (row told bytes : List ℕ) (c : Closes mtab
   pub then_told : well ≡ true → (t'' : ℕ) (said : Bool) (words : List ℕ) → words ≡ told → Said t' t'' said words → Ends mtable t'' said
   then_told w t'' said words f s = standing.tells mtable t' t'' said told (standing.shows mtable t t' well bytes [] told here h w) (subst (Said t' t'' said) f s)
 
--- the line of a fault, of a call or of the end
-module _ (w : Went) where
-  pub fault_is : (w.fault ≡ 0 → ⊥) → fault_of w ≡ w.fault
-  fault_is some = ap (λ (b : Bool). cond b (finish_of w.next w.held).line w.fault) (ne_eqb w.fault 0 some)
+-- the line of the end
+module _ (w : Place) (e : Back) (p : FinishPromise w.reader w.held e) where
+  pub end_is : end_line w ≡ e.line
+  end_is = ap (λ (b : Back). b.line) (sym p)
 
-  module _ (z : w.fault ≡ 0) (e : Back) (p : FinishPromise w.next w.held e) where
-    pub end_is : fault_of w ≡ e.line
-    end_is = ap (λ (b : Bool). cond b (finish_of w.next w.held).line w.fault) (eq-eqb w.fault 0 z) ∙ ap (λ (b : Back). b.line) (sym p)
+  pub end_none : e.refusal ≡ 0 → good w.reader ≡ true → end_line w ≡ 0
+  unfolding finish_of
+  end_none y g = end_is ∙ go (has_ended w.reader && eqb w.held 0) (rw g at p)
+    where
+      go : (t : Bool) → e ≡ cond t (back success w.reader 0 0 0) (back faulty_line w.reader 0 0 (w.reader.lines + 1)) → e.line ≡ 0
+      go true k = ap (λ (b : Back). b.line) k
+      go false k = absurd (omega (arith, y, ap (λ (b : Back). b.refusal) k))
 
-    pub end_none : e.refusal ≡ 0 → good w.next ≡ true → fault_of w ≡ 0
-    unfolding finish_of
-    end_none y g = end_is ∙ go (has_ended w.next && eqb w.held 0) (rw g at p)
-      where
-        go : (t : Bool) → e ≡ cond t (back success w.next 0 0 0) (back faulty_line w.next 0 0 (w.next.lines + 1)) → e.line ≡ 0
-        go true k = ap (λ (b : Back). b.line) k
-        go false k = absurd (omega (arith, y, ap (λ (b : Back). b.refusal) k))
-
-    pub end_some : (e.refusal ≡ 0 → ⊥) → good w.next ≡ true → e.line ≡ 0 → ⊥
-    unfolding finish_of
-    end_some n g = go (has_ended w.next && eqb w.held 0) (rw g at p)
-      where
-        go : (t : Bool) → e ≡ cond t (back success w.next 0 0 0) (back faulty_line w.next 0 0 (w.next.lines + 1)) → e.line ≡ 0 → ⊥
-        go true k z = n (ap (λ (b : Back). b.refusal) k)
-        go false k z = omega (arith, z, ap (λ (b : Back). b.line) k)
+  pub end_some : (e.refusal ≡ 0 → ⊥) → good w.reader ≡ true → e.line ≡ 0 → ⊥
+  unfolding finish_of
+  end_some n g = go (has_ended w.reader && eqb w.held 0) (rw g at p)
+    where
+      go : (t : Bool) → e ≡ cond t (back success w.reader 0 0 0) (back faulty_line w.reader 0 0 (w.reader.lines + 1)) → e.line ≡ 0 → ⊥
+      go true k z = n (ap (λ (b : Back). b.refusal) k)
+      go false k z = omega (arith, z, ap (λ (b : Back). b.line) k)

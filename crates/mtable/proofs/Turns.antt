@@ -1,25 +1,21 @@
 -- What a block leaves.
 use Prim.Native.Nat.{ℕ, ◌+◌, ◌-◌, ◌*◌, ◌<◌, ◌≤◌}
 use mathlib.Core.Path.{◌≡◌, refl, sym, ◌∙◌, ap, subst}
-use mathlib.Core.Bool.{Bool, true, false, not, cond, ◌&&◌, true≢false}
+use mathlib.Core.Bool.{Bool, true, false, not, ◌&&◌, true≢false}
 use mathlib.Core.List.{List, [], ◌++◌, append_assoc}
 use native.Mathlib.Omega.{arith}
-use lib.Dec.{eqb}
 use lib.IntN.{ℤ}
 use lib.ListN.{length, take, drop, length-drop}
 use lib.Seq.{length-take-le}
-use borrow.Author.Tests.{eqb-true, eqb-false, ne_eqb}
-use Rattle.numbers.proofs.Tested.{left, right}
-use Rattle.shell.specs.Outside.{Trace, Brought, Handed}
+use Rattle.shell.specs.Outside.{Trace, Reads, Handed}
 use Rattle.shell.specs.Buffer.{Behind, Moved}
-use Rattle.shell.specs.Standing.{Stands, Closes, Failed}
-use Rattle.shell.specs.declared.Got.{Got}
+use Rattle.shell.specs.Standing.{Stands, Closes, Failed, Ends}
 use Rattle.shell.proofs.Laws as standing
 use Rattle.shell.proofs.Held.{holds, both}
 use Rattle.readback.specs.Steps.{good, fresh, of_salvage}
 use Rattle.readback.specs.Pieces.{cut_in, longest, read_lines}
 use Rattle.readback.specs.Promises.{ReadPromise, finish_of}
-use Rattle.readback.specs.Held.{Ready, to_go}
+use Rattle.readback.specs.Held.{Ready}
 use Rattle.readback.specs.Whole.{reading_from}
 use Rattle.readback.specs.declared.Readback.{Readback}
 use Rattle.readback.specs.declared.Back.{Back}
@@ -29,8 +25,11 @@ use Rattle.readback.proofs.Goodness.{fresh_is_good}
 use Rattle.mtable.specs.Table.{rows_of, salvage_row, last_row, head_row, fault_words}
 use Rattle.mtable.specs.Program.{mtable}
 use Rattle.mtable.specs.Rows.{Written}
-use Rattle.mtable.specs.Blocks.{rest, tells, fault_of, Left}
-use Rattle.mtable.specs.declared.Went.{Went}
+use Rattle.mtable.specs.Blocks.{rest, tells, Goes, Leaves}
+use Rattle.mtable.specs.declared.Next.{Next}
+use Rattle.shell.specs.declared.Failure.{Failure}
+use Rattle.std.specs.Prelude.{Result, Ok, Err, is_ok}
+use Rattle.std.specs.Result.{IsErr}
 use Rattle.mtable.proofs.Pieces as pieces
 
 -- it begins with the head line
@@ -74,87 +73,82 @@ module _ (t t' : ℕ) (r : Readback) (all : ℕ) (input : List ℕ) (out after :
   pub taken_fits : a.taken ≤ all
   taken_fits = omega (arith, taken_there read_lines calls.reads_lawful r piece out g p, long)
 
-  abbrev went : Went
-  went = record { next = a.next; held = all - a.taken; on = well && eqb a.refusal 0; well = well; fault = a.line }
-
-  fine : went.on ≡ true → a.refusal ≡ 0
-  fine y = eqb-true _ _ (right well (eqb a.refusal 0) y)
-
-  pub falls : (held : ℕ) → held < all → held ≤ longest → went.on ≡ true → to_go a.next (all - a.taken) < to_go r held
-  falls held b f y = let n = nearer read_lines calls.reads_lawful r piece out g p 5 pieces.few_five room (fine y) held (omega (arith, long)) f in rw long at n
-
   module _ (h : Handed mtable.output t t' well text) where
     stands_on : well ≡ true → Stands mtable t' (rest a.next left_of) (tells r piece)
     stands_on = standing.writes mtable t t' well text (rest r piece) (rest a.next left_of) (tells r piece) s (pieces.goes r piece out after a g p) h
 
-    closes_here : well ≡ true → (a.refusal ≡ 0 → ⊥) → Closes mtable t' (last_row a.line) (fault_words a.line)
-    closes_here w some =
-        standing.settled mtable t' (λ q. last_row a.line) (tells r piece) (last_row a.line) (fault_words a.line)
-        (standing.writes mtable t t' well text (rest r piece) (λ q. last_row a.line) (tells r piece) s (pieces.fault_row r piece out after a g p some) h w) (λ q. refl)
-        (pieces.fault_told r piece out after a g p some)
+    pub fails : well ≡ false → Failed mtable t'
+    fails = standing.fails_writing mtable t t' well text (rest r piece) (rest a.next left_of) (tells r piece) s (pieces.goes r piece out after a g p) h
 
-    pub leaves : Moved a.taken (all - a.taken) input input' → Left t' went (take (all - a.taken) input')
-    leaves m =
-        let held = holds all a.taken input input' taken_fits there m in
+    -- a fault
+    pub faults : well ≡ true → (a.refusal ≡ 0 → ⊥) → Closes mtable t' (last_row a.line) (fault_words a.line) × (a.line ≡ 0 → ⊥)
+    faults w some = (
+      standing.settled mtable t' (λ q. last_row a.line) (tells r piece) (last_row a.line) (fault_words a.line)
+          (standing.writes mtable t t' well text (rest r piece) (λ q. last_row a.line) (tells r piece) s (pieces.fault_row r piece out after a g p some) h w) (λ q. refl)
+          (pieces.fault_told r piece out after a g p some),
+      pieces.at_fault r piece out after a g p some,
+    )
+
+    -- or more is to be read
+    pub goes_on : well ≡ true → a.refusal ≡ 0 → length input' ≡ length input → Moved a.taken (all - a.taken) input input'
+        → (held : ℕ) → held < all → held ≤ longest → Goes t' r held (record { reader = a.next; held = all - a.taken }) input'
+    goes_on w fine same m held b f =
+        let is = holds all a.taken input input' taken_fits there m in
         record {
-          sound = calls.next_good r piece out after a g p;
-          ready = λ y. subst (Ready a.next) (sym held) (left_over read_lines calls.reads_lawful r piece out g p 5 pieces.few_five room (fine y));
-          stands = λ y. rw held (standing.reworded mtable t' (rest a.next left_of) (rest a.next left_of) (tells r piece) (tells a.next left_of)
-              (stands_on (left well (eqb a.refusal 0) y)) (λ q. refl) (pieces.told_behind r piece out after a g p));
-          closes = λ n w. go (eqb a.refusal 0) refl n w;
-          failed = standing.fails_writing mtable t t' well text (rest r piece) (rest a.next left_of) (tells r piece) s (pieces.goes r piece out after a g p) h;
+          there = omega (arith, same, there);
+          ready = subst (Ready a.next) (sym is) (left_over read_lines calls.reads_lawful r piece out g p 5 pieces.few_five room fine);
+          stands = rw is (standing.reworded mtable t' (rest a.next left_of) (rest a.next left_of) (tells r piece) (tells a.next left_of)
+              (stands_on w) (λ q. refl) (pieces.told_behind r piece out after a g p));
+          nearer = let n = nearer read_lines calls.reads_lawful r piece out g p 5 pieces.few_five room fine held (omega (arith, long)) f in rw long at n;
         }
-      where
-        go : (u : Bool) → eqb a.refusal 0 ≡ u → well && u ≡ false → well ≡ true → Closes mtable t' (last_row (fault_of went)) (fault_words (fault_of went))
-        go true u n w = absurd (true≢false (sym (ap (λ (b : Bool). b && true) w) ∙ n))
-        go false u n w =
-            let some = eqb-false a.refusal 0 u in
-            let is : fault_of went ≡ a.line = ap (λ (b : Bool). cond b (finish_of a.next (all - a.taken)).line a.line) (ne_eqb a.line 0 (pieces.at_fault r piece out after a g p some)) in
-            subst (λ (n : ℕ). Closes mtable t' (last_row n) (fault_words n)) (sym is) (closes_here w some)
 
 -- what was held, and what a read brought behind it
-module _ (t t' : ℕ) (r : Readback) (held : ℕ) (input after : List ℕ) (got : Got) (there : held ≤ length input) (few : longest < length input) (k : Ready r (take held input))
-    (s : Stands mtable t (rest r (take held input)) (tells r (take held input))) (b : Behind mtable.input held t t' got input after) where
+module _ (t t' : ℕ) (r : Readback) (held count : ℕ) (input after : List ℕ) (there : held ≤ length input) (few : longest < length input) (k : Ready r (take held input))
+    (s : Stands mtable t (rest r (take held input)) (tells r (take held input))) (b : Behind mtable.input held t t' (Ok count) input after) where
   abbrev front : List ℕ
   front = take held input
 
   abbrev came : List ℕ
-  came = take got.count (drop held after)
+  came = take count (drop held after)
 
-  brought : Brought mtable.input t t' got (drop held after)
+  brought : Reads t t' count (drop held after)
   brought = b.brought there
 
-  read : got.well ≡ true → Stands mtable t' (λ q. rest r front (came ++ q)) (λ q. tells r front (came ++ q))
-  read = standing.reads mtable t t' got (drop held after) (rest r front) (tells r front) s brought
+  read : Stands mtable t' (λ q. rest r front (came ++ q)) (λ q. tells r front (came ++ q))
+  read = standing.reads mtable t t' count (drop held after) (rest r front) (tells r front) s brought
 
   -- nothing
-  abbrev over_went : Went
-  over_went = record { next = r; held = held; on = false; well = got.well; fault = 0 }
-
-  pub over : got.count ≡ 0 → Left t' over_went (take held after)
-  over z =
-      record {
-        sound = k.sound;
-        ready = λ y. absurd (true≢false (sym y));
-        stands = λ y. absurd (true≢false (sym y));
-        closes = λ _ w.
-            let some : 0 < length (drop held after) = omega (arith, b.long, few, k.few, length-take-le held input there, length-drop held after) in
-            let none : came ≡ [] = rw z in
-            let c = standing.over mtable t' (λ q. rest r front (came ++ q)) (λ q. tells r front (came ++ q)) (read w) (brought.over w some z) in
-            let e = finish_of r (length front) in
-            let fault : e.line ≡ fault_of over_went = ap (λ (n : ℕ). (finish_of r n).line) (length-take-le held input there) in
-            let wrote : rest r front (came ++ []) ≡ last_row (fault_of over_went) = ap (λ (l : List ℕ). rest r front (l ++ [])) none ∙ pieces.last_row_lem r front k e refl ∙ ap last_row fault in
-            let told : tells r front (came ++ []) ≡ fault_words (fault_of over_went) = ap (λ (l : List ℕ). tells r front (l ++ [])) none ∙ pieces.last_told r front k e refl ∙ ap fault_words fault in
-            subst (λ (l : List ℕ). Closes mtable t' l (fault_words (fault_of over_went))) wrote (subst (Closes mtable t' (rest r front (came ++ []))) told c);
-        failed = standing.fails_reading mtable t t' got (drop held after) (rest r front) (tells r front) s brought;
-      }
+  pub ended : count ≡ 0 → Closes mtable t' (last_row (finish_of r held).line) (fault_words (finish_of r held).line) × (good r ≡ true)
+  ended z =
+      let some : 0 < length (drop held after) = omega (arith, b.long, few, k.few, length-take-le held input there, length-drop held after) in
+      let none : came ≡ [] = rw z in
+      let c = standing.over mtable t' (λ q. rest r front (came ++ q)) (λ q. tells r front (came ++ q)) read (brought.over some z) in
+      let e = finish_of r (length front) in
+      let line = (finish_of r held).line in
+      let fault : e.line ≡ line = ap (λ (n : ℕ). (finish_of r n).line) (length-take-le held input there) in
+      let wrote : rest r front (came ++ []) ≡ last_row line = ap (λ (l : List ℕ). rest r front (l ++ [])) none ∙ pieces.last_row_lem r front k e refl ∙ ap last_row fault in
+      let told : tells r front (came ++ []) ≡ fault_words line = ap (λ (l : List ℕ). tells r front (l ++ [])) none ∙ pieces.last_told r front k e refl ∙ ap fault_words fault in
+      (subst (λ (l : List ℕ). Closes mtable t' l (fault_words line)) wrote (subst (Closes mtable t' (rest r front (came ++ []))) told c), k.sound)
 
   -- or some
-  pub stands_behind : 0 < got.count → Stands mtable t' (rest r (take (held + got.count) after)) (tells r (take (held + got.count) after))
-  stands_behind some =
-      let all = take (held + got.count) after in
+  pub stands_behind : Stands mtable t' (rest r (take (held + count) after)) (tells r (take (held + count) after))
+  stands_behind =
+      let all = take (held + count) after in
       let whole : (q : List ℕ) → front ++ (came ++ q) ≡ all ++ q =
-      λ q. sym (append_assoc front came q) ∙ ap (λ (l : List ℕ). l ++ q) (sym (both mtable.input held t t' got input after there b)) in
-      standing.reworded mtable t' (λ q. rest r front (came ++ q)) (rest r all) (λ q. tells r front (came ++ q)) (tells r all) (read (standing.brings mtable.input t t' got (drop held after) brought some))
+      λ q. sym (append_assoc front came q) ∙ ap (λ (l : List ℕ). l ++ q) (sym (both mtable.input held t t' (Ok count) input after there b count)) in
+      standing.reworded mtable t' (λ q. rest r front (came ++ q)) (rest r all) (λ q. tells r front (came ++ q)) (tells r all) read
       (λ q. ap (λ (l : List ℕ). let k = reading_from r (cut_in l) in salvage_row (k.salvage && not (of_salvage r)) ++ rows_of k.items ++ last_row k.fault) (whole q))
       (λ q. ap (λ (l : List ℕ). fault_words (reading_from r (cut_in l)).fault) (whole q))
+
+-- a result that failed
+pub broke : (t : ℕ) (before : Readback) (was : ℕ) (r : Result Next Failure) (input : List ℕ) → IsErr r → Failed mtable t → Leaves t before was r input
+broke t before was (Ok b) input i f = absurd (true≢false (sym i))
+broke t before was (Err e) input i f = f
+
+pub not_ok : (r : Result Unit Failure) → IsErr r → is_ok r ≡ false
+not_ok (Ok u) i = absurd (true≢false (sym i))
+not_ok (Err e) i = refl
+
+pub not_ended : (t : ℕ) (r : Result Unit Failure) → IsErr r → Failed mtable t → Ends mtable t (is_ok r)
+not_ended t (Ok u) i f = absurd (true≢false (sym i))
+not_ended t (Err e) i f = standing.fails mtable t f

@@ -2,34 +2,37 @@
 // so where the listing is a salvage's, a row for each item, and a last row that tells the end or a fault and its line.
 #![tactic(auto)]
 
-ghost use Rattle.std.specs.Prelude.{ℕ, ◌+◌, ◌*◌, ◌≤◌, ◌<◌, ◌≡◌, true, false, List, [], length, take};
+ghost use Rattle.std.specs.Prelude.{ℕ, ◌+◌, ◌*◌, ◌≤◌, ◌<◌, ◌≡◌, true, List, [], length, take, is_ok};
 ghost use Rattle.shell.specs.Outside.{Trace, Handed, Said};
 ghost use Rattle.shell.specs.Standing.{Stands, Closes, Ends};
 ghost use Rattle.text.specs.Growth.{capacity, shown, grown_by, text_of};
 ghost use Rattle.listing.specs.declared.Buttons.{Buttons};
 ghost use Rattle.listing.specs.declared.Item.{Item};
-ghost use Rattle.readback.specs.Steps.{fresh, good};
+ghost use Rattle.readback.specs.Steps.{good};
 ghost use Rattle.readback.specs.Pieces.{longest};
-ghost use Rattle.readback.specs.Held.{Ready, to_go};
-ghost use Rattle.readback.specs.Promises.{ReadPromise};
+ghost use Rattle.readback.specs.Held.{Ready};
 ghost use Rattle.mtable.specs.Table.{commas, cell_of, digit_of, is_unknown, is_down, middle_of, buttons_of, row_of, rows_of, salvage_row, last_row, fault_words};
 ghost use Rattle.mtable.specs.Program.{mtable};
 ghost use Rattle.mtable.specs.Rows.{Stand, Five, Among, Written};
-ghost use Rattle.mtable.specs.Blocks.{rest, tells, fault_of, Left};
+ghost use Rattle.mtable.specs.Blocks.{rest, tells, end_line, Leaves};
 
-use readback::{Back, Readback};
-use shell::Streams;
+use readback::Readback;
+use shell::{Failure, System};
 use text::Text;
 
-// Where the table stands: the reader, the bytes of a line that is not whole yet, whether more is to be read, whether each read and write went well, and the
-// place of a faulty line.
+// How far the table has come: the reader, and how many bytes of a line that is not whole yet are held.
 #[derive(Clone, Copy, Drop)]
-struct Went {
-    next: Readback,
+struct Place {
+    reader: Readback,
     held: usize,
-    on: bool,
-    well: bool,
-    fault: u32,
+}
+
+// What a block leaves: more is to be read, or the listing is over, or there is a fault at a line.
+#[derive(Clone, Copy, Drop)]
+enum Next {
+    More(Place),
+    Over(Place),
+    Fault(u32),
 }
 
 // Bytes behind a text.
@@ -186,191 +189,132 @@ fn opened(begins: bool, out: &mut [u8]) -> usize
     first.len
 }
 
-// The first bytes of a buffer, read.
-fn front(reader: Readback, input: &[u8], all: usize, items: &mut [i32]) -> Back
-    requires { all ≤ length input.now }
-    ensures { ReadPromise reader (take all input.now) items.old result items.new }
-{
-    reader.read(&input[..all], items)
-}
-
 // What is held and what was read: its rows are written, and the rest is held. With five places for each byte all lines are taken.
 fn listed(
-    streams: Streams,
-    turn: &mut u64,
+    system: &mut System,
     reader: Readback,
     all: usize,
     input: &mut [u8],
     items: &mut [i32],
     out: &mut [u8],
-) -> Went
+) -> Result<Next, Failure>
     requires all_in_bounds { (all ≤ length input.old) × (5 * length input.old ≤ length items.old) × (40 + 8 * length items.old ≤ length out.old) × (good reader ≡ true) }
-    requires stands { Stands mtable turn.old (rest reader (take all input.old)) (tells reader (take all input.old)) }
-    ensures held_in_bounds { result.held ≤ length input.new }
-    ensures left { Left turn.new result (take result.held input.new) }
-    ensures by_index { (held : ℕ) → held < all → held ≤ longest → result.on ≡ true → to_go result.next result.held < to_go reader held }
+    requires stands { Stands mtable system.old.turn (rest reader (take all input.old)) (tells reader (take all input.old)) }
+    ensures leaves { (held : ℕ) → held < all → held ≤ longest → Leaves system.new.turn reader held result input.new }
 {
     let before = reader.salvage == 1;
-    let back = front(reader, input, all, items);
-    let next = back.next;
+    let back = reader.read(&input[..all], items);
     let taken = back.taken;
     let left = all - taken;
-    let at = opened((next.salvage == 1) & !before, out);
+    let at = opened((back.next.salvage == 1) & !before, out);
     let n = rows(items, back.items, out, at);
-    let is_shown = shell::show(streams, turn, b"mtable: standard output", &out[..n]);
-    shell::keep(input, taken, left);
-    Went {
-        next: next,
-        held: left,
-        on: is_shown & (back.refusal == 0),
-        well: is_shown,
-        fault: back.line,
+    system.show(b"mtable: standard output", &out[..n])?;
+    if back.refusal != 0 {
+        return Ok(Next::Fault(back.line));
     }
+    shell::keep(input, taken, left);
+    Ok(Next::More(Place {
+        reader: back.next,
+        held: left,
+    }))
 }
 
 // A block of the listing: the bytes that were held and what a read brings.
 fn block(
-    streams: Streams,
-    turn: &mut u64,
-    reader: Readback,
-    held: usize,
+    system: &mut System,
+    place: Place,
     input: &mut [u8],
     items: &mut [i32],
     out: &mut [u8],
-) -> Went
-    requires held_in_bounds { (held ≤ length input.old) × (5 * length input.old ≤ length items.old) × (40 + 8 * length items.old ≤ length out.old) × (longest < length input.old) }
-    requires ready { Ready reader (take held input.old) × Stands mtable turn.old (rest reader (take held input.old)) (tells reader (take held input.old)) }
-    ensures held_in_bounds_2 { result.held ≤ length input.new }
-    ensures left { Left turn.new result (take result.held input.new) }
-    ensures held_bound { result.on ≡ true → to_go result.next result.held < to_go reader held }
+) -> Result<Next, Failure>
+    requires held_in_bounds { (place.held ≤ length input.old) × (5 * length input.old ≤ length items.old) × (40 + 8 * length items.old ≤ length out.old) × (longest < length input.old) }
+    requires ready { Ready place.reader (take place.held input.old) }
+    requires stands { Stands mtable system.old.turn (rest place.reader (take place.held input.old)) (tells place.reader (take place.held input.old)) }
+    ensures leaves { Leaves system.new.turn place.reader place.held result input.new }
 {
-    let got = shell::behind(streams, turn, b"mtable: standard input", input, held);
-    if got.count == 0 {
-        return Went {
-            next: reader,
-            held: held,
-            on: false,
-            well: got.well,
-            fault: 0,
-        };
+    let count = system.behind(b"mtable: standard input", input, place.held)?;
+    if count == 0 {
+        return Ok(Next::Over(place));
     }
-    listed(streams, turn, reader, held + got.count, input, items, out)
-}
-
-// The blocks, one after the other, until the listing is over or has a fault.
-fn blocks(
-    streams: Streams,
-    turn: &mut u64,
-    input: &mut [u8],
-    items: &mut [i32],
-    out: &mut [u8],
-) -> Went
-    requires input_in_bounds { (5 * length input.old ≤ length items.old) × (40 + 8 * length items.old ≤ length out.old) × (longest < length input.old) }
-    requires stands { Stands mtable turn.old (rest fresh []) (tells fresh []) }
-    ensures next_value { good result.next ≡ true }
-    ensures closes { result.well ≡ true → Closes mtable turn.new (last_row (fault_of result)) (fault_words (fault_of result)) }
-    ensures ends { result.well ≡ false → Ends mtable turn.new false }
-{
-    let mut went = Went {
-        next: Readback::fresh(),
-        held: 0,
-        on: true,
-        well: true,
-        fault: 0,
-    };
-    while went.on {
-        went = block(streams, turn, went.next, went.held, input, items, out);
-    }
-    went
+    listed(system, place.reader, place.held + count, input, items, out)
 }
 
 // A row, to standard output.
-fn show(streams: Streams, turn: &mut u64, row: Text) -> bool
+fn show(system: &mut System, row: Text) -> Result<(), Failure>
     requires { row.len ≤ capacity }
-    ensures { Handed mtable.output turn.old turn.new result (shown row) }
+    ensures { Handed mtable.output system.old.turn system.new.turn (is_ok result) (shown row) }
 {
-    let bytes = row.bytes;
-    let n = row.len;
-    shell::show(streams, turn, b"mtable: standard output", &bytes[..n])
+    system.show(b"mtable: standard output", &row.bytes[..row.len])
 }
 
 // A text, to standard error.
-fn tell(streams: Streams, turn: &mut u64, text: Text) -> bool
+fn tell(system: &mut System, text: Text) -> Result<(), Failure>
     requires { text.len ≤ capacity }
-    ensures { Said turn.old turn.new result (shown text) }
+    ensures { Said system.old.turn system.new.turn (is_ok result) (shown text) }
 {
-    let bytes = text.bytes;
-    let n = text.len;
-    shell::say(streams, turn, &bytes[..n])
+    system.say(&text.bytes[..text.len])
 }
 
 // A fault, in the last row and on standard error.
-fn faulty(streams: Streams, turn: &mut u64, line: u32) -> bool
-    requires { Closes mtable turn.old (last_row line) (fault_words line) × (line ≡ 0 → ⊥) }
-    ensures { Ends mtable turn.new result }
+fn faulty(system: &mut System, line: u32) -> Result<(), Failure>
+    requires { Closes mtable system.old.turn (last_row line) (fault_words line) × (line ≡ 0 → ⊥) }
+    ensures { Ends mtable system.new.turn (is_ok result) }
 {
     let none = Text::none();
     let number = line as i64;
     let last = empty(words(none, b"fault,").decimal(1, number), 6).with(b'\n');
-    if !show(streams, turn, last) {
-        return false;
-    }
+    show(system, last)?;
     tell(
-        streams,
-        turn,
+        system,
         words(none, b"mtable: a fault at line ")
             .decimal(1, number)
             .with(b'\n'),
     )
 }
 
-// The last row: the end, or a fault.
-fn last(streams: Streams, turn: &mut u64, went: Went) -> bool
-    requires { Closes mtable turn.old (last_row (fault_of went)) (fault_words (fault_of went)) × (good went.next ≡ true) }
-    ensures { Ends mtable turn.new result }
+// The listing is over: the last row is its end, or a fault.
+fn over(system: &mut System, place: Place) -> Result<(), Failure>
+    requires { Closes mtable system.old.turn (last_row (end_line place)) (fault_words (end_line place)) × (good place.reader ≡ true) }
+    ensures { Ends mtable system.new.turn (is_ok result) }
 {
-    if went.fault != 0 {
-        return faulty(streams, turn, went.fault);
-    }
-    let reader = went.next;
-    let end = reader.finish(went.held);
+    let end = place.reader.finish(place.held);
     if end.refusal != 0 {
-        return faulty(streams, turn, end.line);
+        return faulty(system, end.line);
     }
-    shell::show(streams, turn, b"mtable: standard output", b"end,,,,,,,\n")
+    system.show(b"mtable: standard output", b"end,,,,,,,\n")
 }
 
 // WHAT IS HANDED OUT IS THE TABLE OF THE LISTING, and what is told is the line of its fault.
 fn whole(
-    streams: Streams,
-    turn: &mut u64,
+    system: &mut System,
     input: &mut [u8],
     items: &mut [i32],
     out: &mut [u8],
-) -> bool
-    requires { (5 * length input.old ≤ length items.old) × (40 + 8 * length items.old ≤ length out.old) × (longest < length input.old) × Trace turn.old [] [] [] }
-    ensures { Ends mtable turn.new result }
+) -> Result<(), Failure>
+    requires { (5 * length input.old ≤ length items.old) × (40 + 8 * length items.old ≤ length out.old) × (longest < length input.old) × Trace system.old.turn [] [] [] }
+    ensures { Ends mtable system.new.turn (is_ok result) }
 {
-    if !shell::show(
-        streams,
-        turn,
+    system.show(
         b"mtable: standard output",
         b"item,line,left,middle,right,x,y,count\n",
-    ) {
-        return false;
+    )?;
+    let mut place = Place {
+        reader: Readback::fresh(),
+        held: 0,
+    };
+    'every_block: loop {
+        match block(system, place, input, items, out)? {
+            Next::More(next) => place = next,
+            Next::Over(last) => return over(system, last),
+            Next::Fault(line) => return faulty(system, line),
+        }
     }
-    let went = blocks(streams, turn, input, items, out);
-    if went.well {
-        return last(streams, turn, went);
-    }
-    false
 }
 
 fn main(rt: HostRuntime) {
-    let streams = Streams::of(rt.stdin(), rt.stdout(), rt.stderr());
-    let mut turn = shell::start();
+    let mut system = System::of(rt.stdin(), rt.stdout(), rt.stderr());
     let mut input = [0u8; 4096];
     let mut items = [0i32; 20480];
     let mut out = [0u8; 163880];
-    whole(streams, &mut turn, &mut input, &mut items, &mut out);
+    let _ = whole(&mut system, &mut input, &mut items, &mut out);
 }

@@ -8,6 +8,7 @@ use ballbox::{BallBox, MODE_D, MODE_R};
 use wire::FORMAT_S;
 
 // In S, in mode R or D, awake, with nothing or a report going.
+#[tactic(auto, unfolding(crate::specs::Good::follows))]
 fn follows(ball: BallBox) -> bool
     ensures { result ≡ follows ball }
 {
@@ -18,6 +19,7 @@ fn follows(ball: BallBox) -> bool
 }
 
 // Nothing is going, due or remembered, in prompt mode.
+#[tactic(auto, unfolding(crate::specs::Good::rests))]
 fn rests(ball: BallBox) -> bool
     ensures { result ≡ rests ball }
 {
@@ -29,20 +31,24 @@ fn rests(ball: BallBox) -> bool
 
 impl Puck {
     // No self-test, or one to four of its bytes left, while the box rests.
+    #[tactic(auto, unfolding(crate::specs::Good::good_test))]
     fn good_test(self) -> bool
         ensures { result ≡ good_test self }
     {
-        let ball = self.ball;
         let none = (self.test.left == 0) & (self.test.buttons == 0);
         let some = (0 < self.test.left) & (self.test.left <= 4) & (self.test.buttons <= 7);
-        none | (some & rests(ball))
+        none | (some & rests(self.ball))
     }
 
     // Whether the device is good: a step of any other is refused with 6.
+    #[tactic(auto, unfolding(crate::specs::Good::good))]
     pub fn good(self) -> bool
         ensures { GoodPromise self result }
     {
-        let ball = self.ball;
-        ball.good() & follows(ball) & self.good_test() & (self.revision <= 15) & (self.maker <= 7)
+        self.ball.good()
+            & follows(self.ball)
+            & self.good_test()
+            & (self.revision <= 15)
+            & (self.maker <= 7)
     }
 }

@@ -2,11 +2,12 @@
 #![tactic(auto)]
 
 ghost use Rattle.std.specs.Prelude.{◌≡◌};
+ghost use Rattle.wire.specs.Refusals.{number_of};
 ghost use Rattle.puck.specs.Device.{refused};
 ghost use Rattle.puck.specs.Promises.{stepped, MadePromise, StepPromise};
 
 use ballbox::{BallBox, Event};
-use wire::BAD_STATE;
+use wire::Refusal;
 
 mod good;
 mod rules;
@@ -49,11 +50,11 @@ impl Puck {
     }
 
     // The old device and no word.
-    fn refused(self, number: u8) -> PuckStepped
-        ensures { result ≡ stepped (refused number self) }
+    fn refused(self, refusal: Refusal) -> PuckStepped
+        ensures { result ≡ stepped (refused (number_of refusal) self) }
     {
         PuckStepped {
-            refusal: number,
+            refusal: refusal.number(),
             sent: 0,
             word: 0,
             rest: 0,
@@ -62,11 +63,12 @@ impl Puck {
     }
 
     // An event of the box's: the refusals in their order, and then the rules.
+    #[tactic(auto, unfolding(crate::specs::Promises::step_of, crate::specs::Rules::rules))]
     pub fn step(self, event: Event) -> PuckStepped
         ensures { StepPromise self event result }
     {
         if !self.good() {
-            return self.refused(BAD_STATE);
+            return self.refused(Refusal::BadState);
         }
         if self.testing() {
             self.in_test(event)

@@ -7,9 +7,7 @@ ghost use Rattle.puck.specs.Rules.{gives, is_boxes, as_box, by_box, by_t, less_o
 ghost use Rattle.puck.specs.Promises.{stepped};
 
 use crate::{Puck, PuckStepped, Testing};
-use ballbox::{
-    BallBox, Event, Excess, Going, LETTER_P, MODE_D, MODE_R, Memory, Pair, Settings, Sums, Track,
-};
+use ballbox::{BallBox, Event, LETTER_P, MODE_D, MODE_R, Settings};
 use wire::{BREAK, FORMAT_S, SUCCESS};
 
 // The command that asks for the self-test.
@@ -24,54 +22,31 @@ const DEVICE: u8 = 2;
 const BUTTON_ERROR: u8 = 0x3D;
 
 // A box in S and in prompt mode, of which all but the buttons is clear.
+#[tactic(auto, unfolding(crate::specs::Device::powered_box, ballbox::specs::Box::fresh_box))]
 fn powered_box(buttons: u8) -> BallBox
     ensures { result ≡ powered_box buttons }
 {
-    let zeros = Pair { x: 0, y: 0 };
-    let none = Excess { x: 0, y: 0 };
+    let settings = Settings {
+        format: FORMAT_S,
+        mode: MODE_D,
+        buttons,
+    };
     BallBox {
-        settings: Settings {
-            format: FORMAT_S,
-            mode: MODE_D,
-            buttons: buttons,
-        },
-        track: Track {
-            counter: zeros,
-            position: zeros,
-            last: zeros,
-        },
-        going: Going {
-            length: 0,
-            sent: 0,
-            bytes: [0u8; 5],
-        },
-        memory: Memory {
-            states: [0u8; 8],
-            count: 0,
-            showing: 0,
-        },
-        sums: Sums {
-            limit: none,
-            counter: none,
-        },
-        due: 0,
-        dormant: 0,
+        settings,
+        ..BallBox::fresh()
     }
 }
 
 // All but the buttons is clear, and a self-test starts.
+#[tactic(auto, unfolding(crate::specs::Device::powered))]
 pub(crate) fn powered(buttons: u8, revision: u8, maker: u8) -> Puck
     ensures { result ≡ powered buttons revision maker }
 {
-    let ball = powered_box(buttons);
     Puck {
-        ball: ball,
-        test: Testing {
-            left: 4,
-            buttons: buttons,
-        },
-        revision: revision,
-        maker: maker,
+        ball: powered_box(buttons),
+        test: Testing { left: 4, buttons },
+        revision,
+        maker,
     }
 }
 
@@ -79,7 +54,7 @@ pub(crate) fn powered(buttons: u8, revision: u8, maker: u8) -> Puck
 fn is_boxes(byte: u8) -> bool
     ensures { result ≡ is_boxes byte }
 {
-    (byte == MODE_R) | (byte == MODE_D) | (byte == LETTER_P)
+    matches!(byte, MODE_R | MODE_D | LETTER_P)
 }
 
 // An event as the box is handed it: any other byte of the host's is one that it ignores.
@@ -87,17 +62,8 @@ fn as_box(event: Event) -> Event
     ensures { result ≡ as_box event }
 {
     match event {
-        Event::Motion(_, _) => event,
-        Event::Buttons(_) => event,
-        Event::Host(byte) => {
-            if is_boxes(byte) {
-                return event;
-            }
-            Event::Host(NO_COMMAND)
-        }
-        Event::Latch => event,
-        Event::Send => event,
-        Event::Period => event,
+        Event::Host(byte) => Event::Host(if is_boxes(byte) { byte } else { NO_COMMAND }),
+        _ => event,
     }
 }
 
@@ -120,14 +86,15 @@ impl Testing {
         ensures { result ≡ less_one self }
     {
         if self.left <= 1 {
-            return Testing {
+            Testing {
                 left: 0,
                 buttons: 0,
-            };
-        }
-        Testing {
-            left: self.left - 1,
-            buttons: self.buttons,
+            }
+        } else {
+            Testing {
+                left: self.left - 1,
+                buttons: self.buttons,
+            }
         }
     }
 }
@@ -168,10 +135,8 @@ impl Puck {
     fn by_box(mut self, event: Event) -> PuckStepped
         ensures { result ≡ stepped (by_box self event) }
     {
-        let ball = self.ball;
-        let s = ball.step(as_box(event));
-        let next = s.next;
-        self.ball = next;
+        let s = self.ball.step(as_box(event));
+        self.ball = s.next;
         PuckStepped {
             refusal: s.refusal,
             sent: s.sent,
@@ -182,15 +147,17 @@ impl Puck {
     }
 
     // T: what is going is broken off, all but the buttons is cleared, and a self-test starts.
+    #[tactic(auto, unfolding(crate::specs::Rules::by_t))]
     fn by_t(self) -> PuckStepped
         ensures { result ≡ stepped (by_t self) }
     {
         let going = self.ball.going;
         let next = powered(self.ball.settings.buttons, self.revision, self.maker);
         if going.sent < going.length {
-            return next.gives(BREAK);
+            next.gives(BREAK)
+        } else {
+            next.quietly()
         }
-        next.quietly()
     }
 
     // A byte of the self-test is sent.
@@ -200,39 +167,29 @@ impl Puck {
         let test = self.test;
         let byte = byte_of_test(test.left, self.revision, self.maker, test.buttons);
         self.test = test.less_one();
-        self.gives(byte as u16)
+        self.gives(u16::from(byte))
     }
 
     // While a self-test is going, bytes of the host's do nothing.
+    #[tactic(auto, unfolding(crate::specs::Rules::in_test))]
     pub(crate) fn in_test(self, event: Event) -> PuckStepped
         ensures { result ≡ stepped (in_test self event) }
     {
         match event {
-            Event::Motion(_, _) => self.by_box(event),
-            Event::Buttons(_) => self.by_box(event),
             Event::Host(_) => self.quietly(),
-            Event::Latch => self.by_box(event),
             Event::Send => self.test_byte(),
-            Event::Period => self.by_box(event),
+            _ => self.by_box(event),
         }
     }
 
     // While none is going, the box's rules, but for T.
+    #[tactic(auto, unfolding(crate::specs::Rules::out_of_test))]
     pub(crate) fn out_of_test(self, event: Event) -> PuckStepped
         ensures { result ≡ stepped (out_of_test self event) }
     {
         match event {
-            Event::Motion(_, _) => self.by_box(event),
-            Event::Buttons(_) => self.by_box(event),
-            Event::Host(byte) => {
-                if byte == SELF_TEST {
-                    return self.by_t();
-                }
-                self.by_box(event)
-            }
-            Event::Latch => self.by_box(event),
-            Event::Send => self.by_box(event),
-            Event::Period => self.by_box(event),
+            Event::Host(SELF_TEST) => self.by_t(),
+            _ => self.by_box(event),
         }
     }
 }

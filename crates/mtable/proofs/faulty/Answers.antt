@@ -1,8 +1,9 @@
 -- The row is short, and so are the words.
 use native.Mathlib.Omega.{arith}
-use mathlib.Core.Path.{◌∙◌, ap}
+use mathlib.Core.Path.{refl, ◌∙◌, ap}
 use mathlib.Core.List.{[], ◌∷◌}
-use borrow.Author.Tests.{not-true, not-false}
+use mathlib.Core.Bool.{true, false}
+use Rattle.mtable.proofs.Turns.{not_ok}
 use mir.Syntax.{w64}
 use mir.Facts.{to_z_pos}
 use Rattle.text.specs.Growth.{grown_by}
@@ -16,13 +17,14 @@ show-requires c =
     row_few line c.requires.1 (omega arith) _ (to_z_pos w64 {n = line} (omega arith)) c.words.result c.decimal.result c.empty.result c.with-last.result
     (c.words.ensures ∙ ap (λ (t : _). grown_by t (102 ∷ 97 ∷ 117 ∷ 108 ∷ 116 ∷ 44 ∷ [])) c.none-none.ensures) c.decimal.ensures c.empty.ensures c.with-last.ensures
 
-pub returns-then-not-show : goal.returns-then-not-show
-returns-then-not-show c =
+pub returns-in_err-show : goal.returns-in_err-show
+returns-in_err-show c =
     let line = c.args.line in
     let shows = row_shows line c.requires.1 (omega arith) _ (to_z_pos w64 {n = line} (omega arith)) c.words.result c.decimal.result c.empty.result c.with-last.result
     (c.words.ensures ∙ ap (λ (t : _). grown_by t (102 ∷ 97 ∷ 117 ∷ 108 ∷ 116 ∷ 44 ∷ [])) c.none-none.ensures) c.decimal.ensures c.empty.ensures c.with-last.ensures in
     let show = c.show in
-    unshown c.args.turn.now show.new.turn show.result (last_row line) (fault_words line) _ c.requires.0 shows show.ensures (not-true show.result c.if-not-show.true-raw)
+    rw (not_ok c.from_residual.result c.from_residual.ensures.0)
+    (unshown c.args.system.now.turn show.new.system.turn false (last_row line) (fault_words line) _ c.requires.0 shows c.in_err-show.ensures refl)
 
 pub tell-requires : goal.tell-requires
 tell-requires c =
@@ -39,4 +41,4 @@ returns c =
     let told = words_shows line c.requires.1 (omega arith) _ is c.words-2.result c.decimal-2.result c.with.result
     (c.words-2.ensures ∙ ap (λ (t : _). grown_by t of_fault) c.none-none.ensures) c.decimal-2.ensures c.with.ensures in
     let show = c.show in
-    then_told c.args.turn.now show.new.turn show.result (last_row line) (fault_words line) _ c.requires.0 shows show.ensures (not-false show.result c.if-not-show.false-raw) c.tell.new.turn c.tell.result _ told c.tell.ensures
+    then_told c.args.system.now.turn show.new.system.turn true (last_row line) (fault_words line) _ c.requires.0 shows c.in_ok-show.ensures refl c.tell.new.system.turn _ _ told c.tell.ensures

@@ -3,8 +3,8 @@ use native.Mathlib.Omega.{arith}
 use Rattle.driver.proofs.Feeds.{one_line}
 use Rattle.driver.proofs.recorded.line.Goals as goal
 
-pub returns-in-Nothing : goal.returns-in-Nothing
-returns-in-Nothing c = rw c.in-Nothing.is (c.none.ensures, omega arith)
+pub returns-in-None : goal.returns-in-None
+returns-in-None c = rw c.in-None.is (c.none.ensures, omega arith)
 
-pub returns-in-One : goal.returns-in-One
-returns-in-One c = rw c.in-One.is (one_line _ _ _ c.with.ensures c.before.«record».ensures)
+pub returns-in-Some : goal.returns-in-Some
+returns-in-Some c = rw c.in-Some.is (one_line _ _ _ c.with.ensures c.before.«record».ensures)
