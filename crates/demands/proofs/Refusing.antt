@@ -11,7 +11,7 @@ use Rattle.reader.specs.Line.{Long, reading}
 use Rattle.reader.specs.Promises as reader
 use Rattle.reader.specs.Runs.{StepsPromise, answers}
 use Rattle.reader.specs.declared.Reader.{Reader}
-use Rattle.reader.specs.declared.Read.{Read}
+use Rattle.reader.specs.State.{Read}
 use Rattle.reader.specs.declared.Answer.TheVariants as answer
 use Rattle.reader.proofs.Refusals.{step_refusals}
 use Rattle.demands.specs.Strength.{ReaderProgram, KeepsReading}

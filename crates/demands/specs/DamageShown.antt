@@ -17,8 +17,7 @@ use Rattle.reader.specs.Promises.{FreshPromise}
 use Rattle.reader.specs.DamagedLines.{HandsOutAt, TrueBy, AtStart}
 use Rattle.reader.specs.Runs as reading
 use Rattle.reader.specs.declared.Reader.{Reader}
-use Rattle.reader.specs.declared.NewReader.{NewReader}
-use Rattle.reader.specs.declared.Read.{Read}
+use Rattle.reader.specs.State.{NewReader, Read}
 use Rattle.reader.proofs.Shown as shown
 use Rattle.reader.proofs.Spared as spared
 use Rattle.ballbox.specs.declared.BallBox.{BallBox}

@@ -17,7 +17,7 @@ use Rattle.wire.specs.declared.Report.{Report}
 use Rattle.wire.specs.declared.refusal.Refusal.TheVariants.{NoSuchLetter, ButtonsAboveSeven, BufferTooShort}
 use Rattle.wire.proofs.Answers as wire
 use Rattle.wire.proofs.Refusals as wire_refusals
-use Rattle.reader.specs.State.{fresh}
+use Rattle.reader.specs.State.{fresh, NewReader, Read}
 use Rattle.reader.specs.Good as readers
 use Rattle.reader.specs.Rules.{refusing}
 use Rattle.fold.specs.Calls.{stopped, with_refusal}
@@ -26,8 +26,6 @@ use Rattle.reader.specs.Promises as reader
 use Rattle.reader.specs.Telling.{Told, told, tells_line}
 use Rattle.reader.specs.Promises.{ReadPromise, AnswersPromise, before_bad, told_before_bad, new_reader}
 use Rattle.reader.specs.declared.Reader.{Reader}
-use Rattle.reader.specs.declared.NewReader.{NewReader}
-use Rattle.reader.specs.declared.Read.{Read}
 use Rattle.reader.specs.declared.Reading.{Reading}
 use Rattle.reader.specs.declared.Answers.{Answers}
 use Rattle.reader.proofs.Permitted as permitted
@@ -79,7 +77,7 @@ use Rattle.bridge.specs.Good as bridges
 use Rattle.bridge.specs.Line as bridge_line
 use Rattle.bridge.specs.Promises as bridge
 use Rattle.bridge.specs.declared.Bridge.{Bridge}
-use Rattle.bridge.specs.declared.NewBridge.{NewBridge}
+use Rattle.bridge.specs.Promises.{NewBridge}
 use Rattle.bridge.specs.declared.Converted.{Converted}
 use Rattle.bridge.proofs.Permitted as bridge_answers
 use Rattle.bridge.proofs.Refusals as bridge_refusals

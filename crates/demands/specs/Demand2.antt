@@ -15,7 +15,7 @@ use Rattle.wire.specs.Messages.{Message, message_bytes}
 use Rattle.wire.specs.declared.Report.{Report}
 use Rattle.wire.specs.declared.Format.{Format}
 use Rattle.wire.proofs.Answers.{accepted_written}
-use Rattle.reader.specs.State.{ready, kept_in, five_of}
+use Rattle.reader.specs.State.{ready, kept_in, five_of, Read}
 use Rattle.reader.specs.Good as readers
 use Rattle.reader.specs.Rules.{entered}
 use Rattle.reader.specs.Line.{Long, reading}
@@ -24,7 +24,6 @@ use Rattle.reader.specs.Promises as reader
 use Rattle.reader.specs.Promises.{ReadPromise}
 use Rattle.reader.specs.Runs.{StepsPromise, answers, reader_after}
 use Rattle.reader.specs.declared.Reader.{Reader}
-use Rattle.reader.specs.declared.Read.{Read}
 use Rattle.reader.specs.declared.Reading.{Reading}
 use Rattle.reader.specs.declared.Answer.TheVariants as answer
 use Rattle.reader.proofs.There as there

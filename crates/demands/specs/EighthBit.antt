@@ -15,7 +15,7 @@ use Rattle.reader.specs.EighthBit.{turned, seven_bits, TurnedOver, none, turns}
 use Rattle.reader.specs.Promises.{ReadPromise}
 use Rattle.reader.specs.Runs.{StepsPromise}
 use Rattle.reader.specs.declared.Reader.{Reader}
-use Rattle.reader.specs.declared.Read.{Read}
+use Rattle.reader.specs.State.{Read}
 use Rattle.reader.specs.declared.Reading.{Reading}
 use Rattle.reader.specs.DamagedLines.{Within, EndsAt, HandsOut, HandsOutAt}
 use Rattle.reader.proofs.EighthBit as reader

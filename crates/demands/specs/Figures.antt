@@ -7,14 +7,12 @@ use Rattle.wire.specs.Line.{letter_of}
 use Rattle.wire.specs.Places.{𝟏, 𝟎, ·, like}
 use Rattle.wire.specs.Reading.{report}
 use Rattle.wire.specs.declared.Format.TheVariants.{Mm, Microsoft, Relative, FiveByte, ThreeByte, Hexadecimal}
-use Rattle.reader.specs.State.{fresh}
+use Rattle.reader.specs.State.{fresh, NewReader, Read}
 use Rattle.reader.specs.Good as readers
 use Rattle.reader.specs.Rules.{answered}
 use Rattle.reader.specs.Promises as reader
 use Rattle.reader.specs.Runs.{StepsPromise, answers}
 use Rattle.reader.specs.declared.Reader.{Reader}
-use Rattle.reader.specs.declared.NewReader.{NewReader}
-use Rattle.reader.specs.declared.Read.{Read}
 use Rattle.reader.specs.declared.Answer.TheVariants.{Dropped}
 use Rattle.reader.proofs.Permitted.{steps_are}
 use Rattle.reader.proofs.Nowhere.{odd_in_b}

@@ -21,13 +21,11 @@ use Rattle.port.proofs.Rightly.{promised_rightly, calls_alike}
 use Rattle.port.proofs.Arriving.{port_shows}
 use Rattle.reader.specs.Counts.{handed_out}
 use Rattle.reader.specs.Promises as reader
-use Rattle.reader.specs.State.{ready}
+use Rattle.reader.specs.State.{ready, NewReader, Read}
 use Rattle.reader.specs.DamagedLines.{HandsOutBy, TrueBy, AtStart}
 use Rattle.reader.specs.Follows.{ready_unbroken}
 use Rattle.reader.specs.Runs as reading
 use Rattle.reader.specs.declared.Reader.{Reader}
-use Rattle.reader.specs.declared.NewReader.{NewReader}
-use Rattle.reader.specs.declared.Read.{Read}
 use Rattle.reader.proofs.Follows.{as_if_told}
 use Rattle.ballbox.specs.declared.BallBox.{BallBox}
 use Rattle.ballbox.specs.declared.Event.{Event}

@@ -18,8 +18,7 @@ use Rattle.ballbox.specs.declared.BallBox.{BallBox}
 use Rattle.ballbox.specs.declared.Event.{Event}
 use Rattle.ballbox.specs.declared.Stepped.{Stepped}
 use Rattle.history.specs.Presses.{made, none_empties, never_ninth, box_after}
-use Rattle.replies.specs.Promises.{FreshPromise}
-use Rattle.replies.specs.declared.NewToldReader.{NewToldReader}
+use Rattle.replies.specs.Promises.{NewToldReader, FreshPromise}
 use Rattle.tellings.specs.Items.{Item, word, as_items, words_in, Done, ItemsPromise, own_answers_of}
 use Rattle.tellings.specs.Lines.{line_items, part_items, HandsOut, HandsOutAt}
 use Rattle.tellings.specs.Damage.{ShownItems, Followed, TrueOf}

@@ -9,8 +9,7 @@ use Rattle.wire.specs.Promises.{EncodePromise}
 use Rattle.wire.specs.declared.Report.{Report}
 use Rattle.reader.specs.Promises as reader
 use Rattle.reader.specs.declared.Reader.{Reader}
-use Rattle.reader.specs.declared.NewReader.{NewReader}
-use Rattle.reader.specs.declared.Read.{Read}
+use Rattle.reader.specs.State.{NewReader, Read}
 use Rattle.reader.specs.declared.Reading.{Reading}
 use Rattle.reader.specs.declared.Answers.{Answers}
 use Rattle.ballbox.specs.Promises as box
@@ -27,7 +26,7 @@ use Rattle.yard.specs.declared.Judged.{Judged}
 use Rattle.yard.specs.declared.Checked.{Checked}
 use Rattle.bridge.specs.Promises as bridge
 use Rattle.bridge.specs.declared.Bridge.{Bridge}
-use Rattle.bridge.specs.declared.NewBridge.{NewBridge}
+use Rattle.bridge.specs.Promises.{NewBridge}
 use Rattle.bridge.specs.declared.Converted.{Converted}
 use Rattle.salvage.specs.Picking.{marked_format, long_log}
 use Rattle.salvage.specs.Promises as salvage
@@ -45,12 +44,10 @@ use Rattle.driver.specs.Promises as driver
 use Rattle.driver.specs.declared.Driver.{Driver}
 use Rattle.driver.specs.declared.Driven.{Driven}
 use Rattle.replies.specs.Promises as told
-use Rattle.replies.specs.Promises.{no_reply}
+use Rattle.replies.specs.Promises.{Telling, NewToldReader, no_reply}
 use Rattle.replies.specs.declared.Asked.{Asked}
 use Rattle.replies.specs.declared.ToldReader.{ToldReader}
-use Rattle.replies.specs.declared.NewToldReader.{NewToldReader}
-use Rattle.replies.specs.declared.Telling.{Telling}
-use Rattle.replies.specs.declared.Heard.{Heard}
+use Rattle.replies.specs.Rules.{Heard}
 use Rattle.replies.specs.declared.HeardLine.{HeardLine}
 use Rattle.demands.specs.Demand1 as one
 use Rattle.demands.specs.Replies as replies

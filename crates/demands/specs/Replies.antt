@@ -30,11 +30,11 @@ use Rattle.history.proofs.Setting.{set_to}
 use Rattle.replies.specs.Replying.{came, none, is_none, size_of, letter_of_code}
 use Rattle.replies.specs.Accepted.{seven_bytes, seven_letters, mode_letters}
 use Rattle.replies.specs.Good.{good}
-use Rattle.replies.specs.Rules.{kind_of, refusing}
+use Rattle.replies.specs.Rules.{Heard, kind_of, refusing}
 use Rattle.fold.specs.Calls.{stopped, unused, as_one, with_refusal, after}
 use Rattle.replies.specs.Line.{Long, whole, hears_line, Bounds}
 use Rattle.replies.specs.Counts.{whole_bytes, broken_bytes}
-use Rattle.replies.specs.Promises.{FreshPromise, GoodPromise, TellPromise, StepPromise, ReadPromise, no_reply, telling_of, before_bad}
+use Rattle.replies.specs.Promises.{Telling, NewToldReader, FreshPromise, GoodPromise, TellPromise, StepPromise, ReadPromise, no_reply, telling_of, before_bad}
 use Rattle.tellings.specs.Items.{Item, telling, as_items, words_in, Done, ItemsPromise}
 use Rattle.tellings.specs.Clear.{Clear}
 use Rattle.tellings.specs.Lines.{line_items, part_items, replies_sent, HandsOutAt, HandsOut, TellsReplies, InReport, ReadsReply}
@@ -43,9 +43,6 @@ use Rattle.replies.specs.declared.Asked.{Asked}
 use Rattle.replies.specs.declared.Asked.TheVariants.{Command, Waking}
 use Rattle.replies.specs.declared.Reply.TheVariants as reply
 use Rattle.replies.specs.declared.ToldReader.{ToldReader}
-use Rattle.replies.specs.declared.NewToldReader.{NewToldReader}
-use Rattle.replies.specs.declared.Telling.{Telling}
-use Rattle.replies.specs.declared.Heard.{Heard}
 use Rattle.replies.specs.declared.HeardLine.{HeardLine}
 use Rattle.replies.proofs.Permitted as permitted
 use Rattle.replies.proofs.Refusals as refusals

@@ -10,9 +10,8 @@ use Rattle.wire.specs.declared.Report.{Report}
 use Rattle.wire.specs.declared.Format.{Format}
 use Rattle.wire.proofs.Answers.{accepted_written, movement_refused}
 use Rattle.wire.proofs.Codec.{bytes_length}
-use Rattle.reader.specs.State.{ready}
+use Rattle.reader.specs.State.{ready, Read}
 use Rattle.reader.specs.Runs.{StepsPromise, steps_of, answers}
-use Rattle.reader.specs.declared.Read.{Read}
 use Rattle.reader.specs.declared.Answer.{Answer}
 use Rattle.reader.specs.declared.Answer.TheVariants as answer
 use Rattle.reader.proofs.Permitted.{steps_are}

@@ -26,7 +26,7 @@ use Rattle.reader.specs.Runs as reading
 use Rattle.reader.specs.DamagedLines.{Given, Within, EndsAt, HandsOutBy, HandsOutAt, Replaced, AtStart}
 use Rattle.reader.specs.Follows.{Follows, ShowsStates, SeenAt}
 use Rattle.reader.specs.declared.Reader.{Reader}
-use Rattle.reader.specs.declared.Read.{Read}
+use Rattle.reader.specs.State.{Read}
 use Rattle.reader.proofs.Damaged as damaged
 use Rattle.reader.proofs.Framed.{frame_of, state_of}
 use Rattle.reader.proofs.Scars as scars

@@ -14,8 +14,7 @@ use Rattle.reader.specs.Line.{Long, reading}
 use Rattle.reader.specs.Counts.{bytes_in}
 use Rattle.reader.specs.Promises as reader
 use Rattle.reader.specs.declared.Reader.{Reader}
-use Rattle.reader.specs.declared.NewReader.{NewReader}
-use Rattle.reader.specs.declared.Read.{Read}
+use Rattle.reader.specs.State.{NewReader, Read}
 use Rattle.reader.specs.declared.Reading.{Reading}
 use Rattle.reader.proofs.Useless.{skipping_the_rest}
 use Rattle.ballbox.specs.Box.{fresh_box}

@@ -13,8 +13,7 @@ use Rattle.reader.specs.Runs.{steps_of, StepsPromise}
 use Rattle.reader.specs.EighthBit.{TurnedOver, none, stays, turns}
 use Rattle.reader.specs.DamagedLines.{Took, HandsOut, HandsOutAt}
 use Rattle.reader.specs.declared.Reader.{Reader}
-use Rattle.reader.specs.declared.NewReader.{NewReader}
-use Rattle.reader.specs.declared.Read.{Read}
+use Rattle.reader.specs.State.{NewReader, Read}
 use Rattle.reader.specs.declared.Reading.{Reading}
 use Rattle.reader.proofs.EighthBit.{turned_steps, turned_read}
 use Rattle.reader.proofs.Handed.{permitted}

@@ -20,10 +20,9 @@ use Rattle.ballbox.specs.declared.Event.{Event}
 use Rattle.ballbox.specs.declared.Event.TheVariants.{Motion, Buttons, Host, Send}
 use Rattle.history.specs.Presses.{buttons_told, box_after}
 use Rattle.replies.specs.Replying.{came, none}
-use Rattle.replies.specs.Promises.{FreshPromise, fresh_of}
+use Rattle.replies.specs.Promises.{NewToldReader, FreshPromise, fresh_of}
 use Rattle.replies.specs.declared.Asked.TheVariants.{Command}
 use Rattle.replies.specs.declared.Reply.TheVariants as told
-use Rattle.replies.specs.declared.NewToldReader.{NewToldReader}
 use Rattle.tellings.specs.Items.{Item, word, telling, as_items, Done, ItemsPromise, own_answers_of}
 use Rattle.tellings.specs.Lines.{HandsOut, HandsOutAt}
 use Rattle.tellings.specs.Damage.{ShownItems, whole, stays, scar, marked, since, TrueOf}

@@ -25,12 +25,11 @@ use Rattle.tellings.specs.Lines.{HandsOut, HandsOutAt, TellsReplies, ReadsReply,
 use Rattle.tellings.specs.Runs.{only_asks_or_tells, items_given}
 use Rattle.replies.specs.Replying.{came}
 use Rattle.replies.specs.Good.{good}
-use Rattle.replies.specs.Promises.{FreshPromise, fresh_of}
+use Rattle.replies.specs.Promises.{NewToldReader, FreshPromise, fresh_of}
 use Rattle.replies.specs.declared.Asked.TheVariants.{Command}
 use Rattle.replies.specs.declared.Reply.{Reply}
 use Rattle.replies.specs.declared.Reply.TheVariants as told
 use Rattle.replies.specs.declared.ToldReader.{ToldReader}
-use Rattle.replies.specs.declared.NewToldReader.{NewToldReader}
 use Rattle.tellings.proofs.Apart.{done_of, done_are}
 use Rattle.tellings.proofs.Computing as replies
 use Rattle.demands.specs.Computing.{computing}

@@ -1,12 +1,10 @@
 -- What a line of events says: a letter and its fields, "tab between fields, decimals as in a recording".
-use Rattle.std.specs.Prelude.{ℕ, ◌+◌, ◌≤◌, ◌≡◌, Option, Bool, cond, ◌||◌, List, [], ◌∷◌, leb, eqb, ℤ, pos, negsuc, take, drop}
+use Rattle.std.specs.Prelude.{ℕ, ◌+◌, ◌≤◌, ◌≡◌, Option, Bool, cond, ◌||◌, List, [], ◌∷◌, leb, eqb, ℤ, pos, negsuc, take, drop, Some, None}
 use Rattle.std.specs.declared.option.Option.TheVariants as option
 use Rattle.std.specs.Int.Signed.{lt_z}
 use Rattle.numbers.specs.Signed.{least, most}
 use Rattle.wire.specs.Line.{known}
 use Rattle.text.specs.Decimals.{plain, number_in}
-use Rattle.text.specs.declared.Number.{Number}
-use Rattle.text.specs.declared.Number.TheVariants.{None, Is}
 use Rattle.text.specs.Lengths.{length_to}
 use Rattle.listing.specs.Lines.{tab}
 use Rattle.listing.specs.Scanning.{most_lines}
@@ -50,13 +48,13 @@ format_in (c ∷ []) = cond (known c) (order.Format c) order.Bad
 format_in (c ∷ d ∷ ds) = order.Bad
 
 -- a number that is 0 or more and at most a bound, and what it says
-abbrev pub up_to : ℕ → (ℕ → Order) → Number → Order
+abbrev pub up_to : ℕ → (ℕ → Order) → Option ℤ → Order
 up_to bound says None = order.Bad
-up_to bound says (Is (pos n)) = cond (leb n bound) (says n) order.Bad
-up_to bound says (Is (negsuc n)) = order.Bad
+up_to bound says (Some (pos n)) = cond (leb n bound) (says n) order.Bad
+up_to bound says (Some (negsuc n)) = order.Bad
 
 -- what is answered of it: what it says of a number is what up_to says
-abbrev pub UpTo : ℕ → Number → Option ℕ → Type 0
+abbrev pub UpTo : ℕ → Option ℤ → Option ℕ → Type 0
 UpTo bound x option.None = (says : ℕ → Order) → up_to bound says x ≡ order.Bad
 UpTo bound x (option.Some n) = (n ≤ bound) × ((says : ℕ → Order) → up_to bound says x ≡ says n)
 
@@ -75,10 +73,10 @@ slots_in bytes = up_to most_lines (λ n. order.Slots n) (number_in plain bytes)
 abbrev pub outside : ℤ → Bool
 outside x = lt_z x least || lt_z most x
 
-abbrev pub motion_of : Number → Number → Order
+abbrev pub motion_of : Option ℤ → Option ℤ → Order
 motion_of None y = order.Bad
-motion_of (Is x) None = order.Bad
-motion_of (Is x) (Is y) = cond (outside x || outside y) order.Bad (order.Single (Motion x y))
+motion_of (Some x) None = order.Bad
+motion_of (Some x) (Some y) = cond (outside x || outside y) order.Bad (order.Single (Motion x y))
 
 -- "`M` dx dy": up to the next tab, and behind it
 unfoldable pub motion_in : List ℕ → Order

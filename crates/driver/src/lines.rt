@@ -5,7 +5,7 @@ ghost use Rattle.driver.specs.Lines.{alone_in, format_in, UpTo, buttons_in, host
 
 use crate::{MOST_LINES, Order};
 use ballbox::Event;
-use text::{Number, PLAIN};
+use text::{PLAIN, number};
 
 // The ends of a movement.
 const LEAST: i64 = -32_768;
@@ -41,9 +41,9 @@ fn format(bytes: &[u8]) -> Order
 fn up_to(bound: u32, bytes: &[u8]) -> Option<u32>
     ensures { UpTo bound (number_in plain bytes.now) result }
 {
-    match Number::read(bytes, PLAIN) {
-        Number::None => None,
-        Number::Is(x) => if (x < 0) | (i64::from(bound) < x) {
+    match number(bytes, PLAIN) {
+        None => None,
+        Some(x) => if (x < 0) | (i64::from(bound) < x) {
             None
         } else {
             Some(x as u32)
@@ -79,14 +79,14 @@ fn slots(bytes: &[u8]) -> Order
 }
 
 // Two numbers of 16 bits.
-fn motion_of(x: Number, y: Number) -> Order
+fn motion_of(x: Option<i64>, y: Option<i64>) -> Order
     ensures { result ≡ motion_of x y }
 {
     match x {
-        Number::None => Order::Bad,
-        Number::Is(dx) => match y {
-            Number::None => Order::Bad,
-            Number::Is(dy) => if (dx < LEAST) | (MOST < dx) | ((dy < LEAST) | (MOST < dy)) {
+        None => Order::Bad,
+        Some(dx) => match y {
+            None => Order::Bad,
+            Some(dy) => if (dx < LEAST) | (MOST < dx) | ((dy < LEAST) | (MOST < dy)) {
                 Order::Bad
             } else {
                 Order::Single(Event::Motion(dx as i16, dy as i16))
@@ -105,8 +105,8 @@ fn motion(bytes: &[u8]) -> Order
     }
     let start = n + 1;
     motion_of(
-        Number::read(&bytes[0..n], PLAIN),
-        Number::read(&bytes[start..], PLAIN),
+        number(&bytes[0..n], PLAIN),
+        number(&bytes[start..], PLAIN),
     )
 }
 

@@ -4,7 +4,7 @@ use mathlib.Core.Path.{◌≡◌, refl}
 use Rattle.numbers.proofs.Choices.{cases}
 use Rattle.wire.specs.Line.{known}
 use Rattle.reader.specs.Promises.{FreshPromise, fresh_of}
-use Rattle.reader.specs.declared.NewReader.{NewReader}
+use Rattle.reader.specs.State.{NewReader}
 
 -- a fresh reader has kept nothing
 pub none_kept : (letter : ℕ) (a : NewReader) → FreshPromise letter a → a.reader.count ≡ 0

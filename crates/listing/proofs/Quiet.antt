@@ -6,12 +6,11 @@ use mathlib.Core.Bool.{Bool, true, false, not, ◌&&◌}
 use lib.Dec.{eqb}
 use Rattle.numbers.proofs.Choices.{cases}
 use Rattle.frames.specs.Words.{silence}
-use Rattle.reader.specs.State.{ready}
+use Rattle.reader.specs.State.{ready, Read}
 use Rattle.reader.specs.Good.{good}
 use Rattle.reader.specs.Rules.{dropping, silence_of, word_of}
 use Rattle.reader.specs.Promises.{step_of}
 use Rattle.reader.specs.declared.Reader.{Reader}
-use Rattle.reader.specs.declared.Read.{Read}
 use Rattle.reader.proofs.WholeReports.{is_ready}
 use Rattle.listing.specs.Items.{answer_given, gave, word_gave}
 

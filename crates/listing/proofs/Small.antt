@@ -26,7 +26,7 @@ use Rattle.reader.specs.Good.{good}
 use Rattle.reader.specs.Rules.{entered, dropping, fitting, finishes, more, keep, starting, start, straying, stray, lose, byte_of, break_of, silence_of, word_of}
 use Rattle.reader.specs.Promises.{step_of}
 use Rattle.reader.specs.declared.Reader.{Reader}
-use Rattle.reader.specs.declared.Read.{Read}
+use Rattle.reader.specs.State.{Read}
 use Rattle.reader.specs.declared.Answer.{Answer}
 use Rattle.reader.specs.declared.Answer.TheVariants as answer
 use Rattle.reader.proofs.Parts.{parts, one_more_lem}

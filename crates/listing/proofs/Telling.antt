@@ -25,7 +25,7 @@ use Rattle.fold.specs.Calls as calls
 use Rattle.reader.specs.Telling.{told_in, tells, tells_line, Told, told}
 use Rattle.reader.specs.Promises.{step_of, AnswersPromise}
 use Rattle.reader.specs.declared.Reader.{Reader}
-use Rattle.reader.specs.declared.Read.{Read}
+use Rattle.reader.specs.State.{Read}
 use Rattle.reader.specs.declared.Answer.{Answer}
 use Rattle.reader.specs.declared.Answers.{Answers}
 use Rattle.reader.specs.declared.Answer.TheVariants as answer

@@ -19,7 +19,7 @@ use Rattle.wire.specs.declared.Report.{Report}
 use Rattle.wire.specs.declared.Format.TheVariants.{Microsoft}
 use Rattle.wire.proofs.Codec.{bytes_length, bytes_below}
 use Rattle.reader.specs.Rules.{word_of}
-use Rattle.reader.specs.declared.Read.{Read}
+use Rattle.reader.specs.State.{Read}
 use Rattle.reader.specs.declared.Answer.{Answer}
 use Rattle.reader.specs.declared.Answer.TheVariants as answer
 use Rattle.reader.proofs.Refusals.{above, word_taken}

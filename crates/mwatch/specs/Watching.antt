@@ -4,7 +4,7 @@ use Rattle.text.specs.Decimals.{plain, decimal_of}
 use Rattle.port.specs.Marks.{opened}
 use Rattle.reader.specs.Promises.{fresh_of, step_of}
 use Rattle.reader.specs.declared.Reader.{Reader}
-use Rattle.reader.specs.declared.Read.{Read}
+use Rattle.reader.specs.State.{Read}
 use Rattle.reader.specs.declared.Answer.{Answer}
 use Rattle.reader.specs.declared.Answer.TheVariants as answer
 use Rattle.saves.specs.State.{unaware}

@@ -2,7 +2,7 @@
 use Rattle.bridge.proofs.Goodness.{fresh_or}
 use borrow.Author.Rules.{rules}
 use mathlib.Core.Path.{◌≡◌, ◌∙◌, ap}
-use Rattle.bridge.specs.declared.NewBridge.{NewBridge}
+use Rattle.bridge.specs.Promises.{NewBridge}
 use Rattle.mbridge.specs.Recording.{bridge_behind, lines_for}
 use Rattle.mbridge.proofs.format.Goals as goal
 

@@ -7,7 +7,7 @@ use mathlib.Core.Bool.{cond}
 use lib.ListN.{length}
 use Rattle.listing.specs.Scanning.{passed, most_bytes}
 use Rattle.listing.specs.declared.Lister.{Lister}
-use Rattle.bridge.specs.declared.NewBridge.{NewBridge}
+use Rattle.bridge.specs.Promises.{NewBridge}
 use Rattle.mbridge.specs.Blocks.{Left}
 use Rattle.shell.proofs.Laws.{falls_off}
 use Rattle.mbridge.proofs.Turns.{starts}
