@@ -209,28 +209,25 @@ module _ {words : List ℕ} {out₀ out : List ℤ} {r₀ r : Reader} {at droppe
         let first : get_or (take (length words - at) (drop at words)) 0 0 ≡ get_or words at 0 = rw (rest_is words at, get_or-drop at words 0 0, add-zero at) in
         over (rw none at took) (lost_stands t.next (waits m (rw first (le-leb (get_or words at 0) 255 small)) some) _ _ _ b)
 
--- how a loop goes on: a run or silences, where the reader is ready; or another part
-module _ {words : List ℕ} {out₀ out : List ℤ} {r₀ r : Reader} {at used dropped : ℕ} (s : Stands r₀ words out₀ r at used (used / 5) dropped out) where
-  module _ (calm : r ≡ ready r.format) where
-    pub and_run : {taken places : ℕ} {last : List ℤ}
-        → Stands (ready r.format) (take (length words - at) (drop at words)) (take (length out - used) (drop used out)) (ready r.format) taken places (places / 5) 0 last
-        → Stands r₀ words out₀ r (at + taken) (used + places) ((used + places) / 5) dropped (put_mid used (length out - used) out last)
-    and_run {taken} {places} q =
-        let sum : used / 5 + places / 5 ≡ (used + places) / 5 = omega (arith, (far s).places) in
-        rw (add-zero dropped, sum) at (on s (rw (← calm) at q))
+-- how a loop goes on, with five places for each report: a run or silences, where the reader is ready; or another part
+module _ {words : List ℕ} {out₀ out : List ℤ} {r₀ r : Reader} {at reports dropped : ℕ} (s : Stands r₀ words out₀ r at (5 * reports) reports dropped out) where
+  pub and_part : {u : Reader} {taken n d : ℕ} {last : List ℤ}
+      → Stands r (take (length words - at) (drop at words)) (take (length out - 5 * reports) (drop (5 * reports) out)) u taken (5 * n) n d last
+      → Stands r₀ words out₀ u (at + taken) (5 * (reports + n)) (reports + n) (dropped + d) (put_mid (5 * reports) (length out - 5 * reports) out last)
+  and_part {n = n} q = let sum : 5 * reports + 5 * n ≡ 5 * (reports + n) = omega arith in rw sum at (on s q)
 
-    pub and_silences : {n : ℕ} → Alike 257 257 n (take (length words - at) (drop at words)) → Stands r₀ words out₀ r (at + n) used (used / 5) dropped out
+  module _ (calm : r ≡ ready r.format) where
+    pub and_run : {taken n : ℕ} {last : List ℤ}
+        → Stands (ready r.format) (take (length words - at) (drop at words)) (take (length out - 5 * reports) (drop (5 * reports) out)) (ready r.format) taken (5 * n) n 0 last
+        → Stands r₀ words out₀ r (at + taken) (5 * (reports + n)) (reports + n) dropped (put_mid (5 * reports) (length out - 5 * reports) out last)
+    and_run q = rw (add-zero dropped) at (and_part (rw (← calm) at q))
+
+    pub and_silences : {n : ℕ} → Alike 257 257 n (take (length words - at) (drop at words)) → Stands r₀ words out₀ r (at + n) (5 * reports) reports dropped out
     and_silences {n} b = rw (add-zero dropped) at (over s {u = r} {taken = n} {d = 0} (rw calm (silences_stand r.format n _ _ b)))
 
-  pub and_part : {u : Reader} {taken n d : ℕ} {last : List ℤ} → Stands r (take (length words - at) (drop at words)) (take (length out - used) (drop used out)) u taken (5 * n) n d last
-      → Stands r₀ words out₀ u (at + taken) (used + 5 * n) ((used + 5 * n) / 5) (dropped + d) (put_mid used (length out - used) out last)
-  and_part {n = n} q = let sum : used / 5 + n ≡ (used + 5 * n) / 5 = omega arith in rw sum at (on s q)
+  -- with another name for the reader that is left; and for the one that was handed in
+  pub leaves : {u : Reader} → r ≡ u → Stands r₀ words out₀ u at (5 * reports) reports dropped out
+  leaves e = subst (λ (u : Reader). Stands r₀ words out₀ u at (5 * reports) reports dropped out) e s
 
-  -- with another name for the reader that is left; and for the one that was handed in, with five places for each report
-  pub leaves : {u : Reader} → r ≡ u → Stands r₀ words out₀ u at used (used / 5) dropped out
-  leaves e = subst (λ (u : Reader). Stands r₀ words out₀ u at used (used / 5) dropped out) e s
-
-  pub handed : {u : Reader} → r₀ ≡ u → Stands u words out₀ r at (5 * (used / 5)) (used / 5) dropped out
-  handed e =
-      subst (λ (u : Reader). Stands u words out₀ r at (5 * (used / 5)) (used / 5) dropped out) e
-      (subst (λ (k : ℕ). Stands r₀ words out₀ r at k (used / 5) dropped out) (far s).places s)
+  pub handed : {u : Reader} → r₀ ≡ u → Stands u words out₀ r at (5 * reports) reports dropped out
+  handed e = subst (λ (u : Reader). Stands u words out₀ r at (5 * reports) reports dropped out) e s

@@ -53,6 +53,12 @@ pub or_five : {size : ℕ} → (size ≡ 3) ⊎ (size ≡ 5) → (size ≡ 3 →
 or_five (inl e) ne = absurd (ne e)
 or_five (inr e) ne = e
 
+pub either : (letter : ℕ) → 0 < size_by letter → (size_by letter ≡ 3) ⊎ (size_by letter ≡ 5)
+either letter h = three_or_five letter 0 h
+
+pub five_bytes : (letter : ℕ) → 0 < size_by letter → (size_by letter ≡ 3 → ⊥) → size_by letter ≡ 5
+five_bytes letter h ne = or_five (either letter h) ne
+
 -- a good reader with no bytes that awaits nothing is ready
 pub is_ready : (r : Reader) → good r ≡ true → eqb r.count 0 && not r.awaiting ≡ true → r ≡ ready r.format
 is_ready r g calm =

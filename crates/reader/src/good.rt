@@ -1,10 +1,10 @@
 // The rules of a good reader.
 ghost use Rattle.std.specs.Prelude.{◌≡◌, ◌<◌, get_or};
-ghost use Rattle.wire.specs.Line.{size_by, marked_by};
 ghost use Rattle.reader.specs.Good.{placed, good};
 ghost use Rattle.reader.specs.Promises.{GoodPromise};
 
 use crate::Reader;
+use crate::letters::by_letter;
 
 impl Reader {
     // Whether a place holds what it may: a byte that is valid there, or 0 where none is kept.
@@ -22,33 +22,23 @@ impl Reader {
 
     // Whether the reader of a letter is good: a fifth byte is never kept.
     #[inline(always)]
-    fn keeps(self, letter: u8, size: usize, marked: bool) -> bool
-        requires { (letter ≡ self.format) × (size ≡ size_by letter) × (marked ≡ marked_by letter) }
+    fn keeps(self, letter: u8) -> bool
+        requires { letter ≡ self.format }
         ensures { result ≡ good self }
     {
-        if self.count as usize >= size {
+        if self.count as usize >= wire::size(letter) {
             return false;
         }
         let three = self.holds(letter, 0) & self.holds(letter, 1) & self.holds(letter, 2);
         let placed = three & self.holds(letter, 3) & (self.kept[4] == 0);
-        placed & (!self.awaiting | (!marked & (self.count == 0)))
+        placed & (!self.awaiting | (!wire::marked(letter) & (self.count == 0)))
     }
 
-    // Whether the reader is good, each letter with code of its own: a step and a long read of any other is refused with 6.
+    // Whether the reader is good: a step and a long read of any other is refused with 6.
     #[inline(always)]
     pub fn good(self) -> bool
         ensures { GoodPromise self result }
     {
-        let letter = self.format;
-        match letter {
-            b'S' => self.keeps(b'S', 3, true),
-            b'V' => self.keeps(b'V', 3, true),
-            b'A' => self.keeps(b'A', 5, true),
-            b'B' => self.keeps(b'B', 5, true),
-            b'U' => self.keeps(b'U', 5, false),
-            b'T' => self.keeps(b'T', 3, false),
-            b'W' => self.keeps(b'W', 5, false),
-            _ => false,
-        }
+        by_letter!(self.format, letter => self.keeps(letter))
     }
 }

@@ -7,11 +7,13 @@ ghost use Rattle.wire.specs.declared.Format.TheVariants.{FiveByte};
 ghost use Rattle.reader.specs.State.{fresh, new_in, read_in};
 ghost use Rattle.reader.specs.Promises.{FreshPromise, StepPromise, ReadPromise, AnswersPromise};
 
+use crate::line::reading;
 use crate::state::no_bytes;
 use crate::telling::so_far;
 use wire::{BAD_STATE, FORMAT_U, Refusal, Report};
 
 mod good;
+mod letters;
 mod line;
 mod rules;
 mod state;
@@ -97,17 +99,9 @@ impl Reader {
         ensures { ReadPromise self words.now out.old result out.new }
     {
         if !self.good() {
-            return Reading {
-                refusal: BAD_STATE,
-                next: self,
-                taken: 0,
-                reports: 0,
-                dropped: 0,
-            };
+            return reading(BAD_STATE, self, 0, 0, 0);
         }
-        let size = wire::size(self.format);
-        let marked = wire::marked(self.format);
-        self.line(size, marked, words, out)
+        self.line(words, out)
     }
 
     // A line of words, and what each is answered by to a lent slice: 0 for nothing, the number of bytes dropped, or -1 and the five numbers of a report.

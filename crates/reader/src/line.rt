@@ -1,13 +1,14 @@
 // Over many words: a line, and the numbers of its reports to a lent slice.
-ghost use Rattle.std.specs.Prelude.{◌≡◌, true, ◌*◌, ◌/◌, ◌<◌, ◌≤◌, ◌++◌, length, drop};
+ghost use Rattle.std.specs.Prelude.{◌≡◌, true, not, ◌&&◌, ◌*◌, ◌<◌, ◌≤◌, ◌++◌, length, drop, eqb};
 ghost use Rattle.reader.specs.State.{ready, five_of, read_in};
 ghost use Rattle.fold.specs.Calls.{line};
 ghost use Rattle.reader.specs.Line.{whole, reads_line};
 ghost use Rattle.reader.specs.Good.{good};
-ghost use Rattle.reader.specs.Parts.{Stands, Begins, Sized, first_of, Alike, AwaitsBehind};
+ghost use Rattle.reader.specs.Parts.{Stands, Begins, first_of, Alike, AwaitsBehind};
 
+use crate::letters::by_letter;
 use crate::state::no_bytes;
-use crate::whole::{passed, whole};
+use crate::whole::passed;
 use crate::{Answer, Reader, Reading, Step};
 use wire::{Refusal, Report, SILENCE, SUCCESS};
 
@@ -17,29 +18,30 @@ pub(crate) fn put(out: &mut [i16], report: Report)
     requires { 5 ≤ length out.old }
     ensures { out.new ≡ five_of report ++ drop 5 out.old }
 {
-    let buttons = report.buttons as i16;
-    let x1 = report.x1;
-    let y1 = report.y1;
-    let x2 = report.x2;
-    let y2 = report.y2;
-    out[0] = buttons;
-    out[1] = x1;
-    out[2] = y1;
-    out[3] = x2;
-    out[4] = y2;
+    out[0] = report.buttons as i16;
+    out[1] = report.x1;
+    out[2] = report.y1;
+    out[3] = report.x2;
+    out[4] = report.y2;
 }
 
 // A line of which words, reports and bytes are counted so far.
 #[inline(always)]
-fn reading(refusal: u8, next: Reader, taken: usize, reports: usize, dropped: usize) -> Reading
+pub(crate) fn reading(
+    refusal: u8,
+    next: Reader,
+    taken: usize,
+    reports: usize,
+    dropped: usize,
+) -> Reading
     ensures { result ≡ record { refusal = refusal; next = next; taken = taken; reports = reports; dropped = dropped } }
 {
     Reading {
-        refusal: refusal,
-        next: next,
-        taken: taken,
-        reports: reports,
-        dropped: dropped,
+        refusal,
+        next,
+        taken,
+        reports,
+        dropped,
     }
 }
 
@@ -48,14 +50,12 @@ fn reading(refusal: u8, next: Reader, taken: usize, reports: usize, dropped: usi
 fn alike(low: u16, high: u16, words: &[u16]) -> usize
     ensures { Alike low high result words.now }
 {
-    let mut n: usize = 0;
-    while n < words.len() {
-        if (words[n] < low) | (words[n] > high) {
-            break;
+    for (n, word) in words.iter().enumerate() {
+        if (*word < low) | (*word > high) {
+            return n;
         }
-        n = n + 1;
     }
-    n
+    words.len()
 }
 
 impl Reader {
@@ -82,41 +82,30 @@ impl Reader {
         }
     }
 
-    // The first word of a part of the line, by its letter.
+    // The first word of a part of the line.
     #[inline(always)]
-    fn first(self, letter: u8, size: usize, marked: bool, words: &[u16], out: &mut [i16]) -> Reading
-        requires { (letter ≡ self.format) × Sized size marked self × (0 < length words.now) }
+    fn first(self, letter: u8, words: &[u16], out: &mut [i16]) -> Reading
+        requires { (letter ≡ self.format) × (good self ≡ true) × (0 < length words.now) }
         ensures { Begins self words.now out.old result out.new × AwaitsBehind self words.now result }
     {
-        let heard = self.word(letter, size, marked, words[0]);
+        let heard = self.word(letter, words[0]);
         self.counted(heard, out)
     }
 
-    // Whether the reader is ready, and a whole report stands at the front.
+    // Whether the reader is ready: whole reports may stand before it.
     #[inline(always)]
-    fn begins(self, size: usize, marked: bool, words: &[u16]) -> bool
-        requires { Sized size marked self }
-        ensures { result ≡ true → self ≡ ready self.format }
+    fn is_ready(self) -> bool
+        ensures { result ≡ (eqb self.count 0 && not self.awaiting) }
     {
-        let ready = (self.count == 0) & !self.awaiting;
-        if !(ready & (size <= words.len())) {
-            return false;
-        }
-        whole(self.format, size, words)
+        (self.count == 0) & !self.awaiting
     }
 
     // Words one by one, up to a report or a silence, behind which whole reports may stand. Where U, T or W lost a byte they await a silence, and each byte
     // behind it is dropped alone.
+    // The loop moves on by as many words as were taken, and their number is given back: a slice that shrinks would be counted beside it.
     #[inline(always)]
-    fn slowly(
-        self,
-        letter: u8,
-        size: usize,
-        marked: bool,
-        words: &[u16],
-        out: &mut [i16],
-    ) -> Reading
-        requires { (letter ≡ self.format) × Sized size marked self }
+    fn slowly(self, letter: u8, words: &[u16], out: &mut [i16]) -> Reading
+        requires { (letter ≡ self.format) × (good self ≡ true) }
         ensures { Begins self words.now out.old result out.new }
     {
         let mut r = self;
@@ -124,123 +113,96 @@ impl Reader {
         let mut dropped: usize = 0;
         while at < words.len() {
             let word = words[at];
-            let t = r.first(letter, size, marked, &words[at..], out);
+            let t = r.first(letter, &words[at..], out);
             if t.taken == 0 {
                 return reading(t.refusal, r, at, 0, dropped);
             }
-            let next = t.next;
-            r = next;
-            at = at + t.taken;
-            dropped = dropped + t.dropped;
+            r = t.next;
+            at += t.taken;
+            dropped += t.dropped;
             if (t.reports != 0) | (word == SILENCE) {
                 return reading(SUCCESS, r, at, t.reports, dropped);
             }
-            if !marked & (t.dropped != 0) & (word <= 255) {
+            if !wire::marked(letter) & (t.dropped != 0) & (word <= 255) {
                 let n = alike(0, 255, &words[at..]);
-                at = at + n;
-                dropped = dropped + n;
+                at += n;
+                dropped += n;
             }
         }
         reading(SUCCESS, r, at, 0, dropped)
     }
 
-    // The same by the letter, each with code of its own.
+    // The same, each letter with code of its own.
     #[inline(always)]
-    fn by_letter(self, words: &[u16], out: &mut [i16]) -> Reading
+    fn one_by_one(self, words: &[u16], out: &mut [i16]) -> Reading
         requires { good self ≡ true }
         ensures { Begins self words.now out.old result out.new }
     {
-        let letter = self.format;
-        match letter {
-            b'S' => self.slowly(b'S', 3, true, words, out),
-            b'V' => self.slowly(b'V', 3, true, words, out),
-            b'A' => self.slowly(b'A', 5, true, words, out),
-            b'B' => self.slowly(b'B', 5, true, words, out),
-            b'U' => self.slowly(b'U', 5, false, words, out),
-            b'T' => self.slowly(b'T', 3, false, words, out),
-            b'W' => self.slowly(b'W', 5, false, words, out),
-            _ => reading(SUCCESS, self, 0, 0, 0),
-        }
+        by_letter!(self.format, letter => self.slowly(letter, words, out))
     }
 
     // The words at the front of a line, where the reader is ready: whole reports, silences, and words one by one up to where it is ready again; as long as it is.
+    // The loop moves on by as many words as were taken (see `slowly`).
     #[inline(always)]
-    fn swiftly(self, quick: bool, words: &[u16], out: &mut [i16]) -> Reading
-        requires { (good self ≡ true) × (quick ≡ true → self ≡ ready self.format) }
+    fn swiftly(self, words: &[u16], out: &mut [i16]) -> Reading
+        requires { good self ≡ true }
         ensures { Stands self words.now out.old result.next result.taken (5 * result.reports) result.reports result.dropped out.new × (good result.next ≡ true) × (result.next.format ≡ self.format) }
     {
-        if !quick {
+        if !self.is_ready() {
             return reading(SUCCESS, self, 0, 0, 0);
         }
-        let letter = self.format;
-        let ready = no_bytes(letter, false);
+        let ready = no_bytes(self.format, false);
         let mut at: usize = 0;
-        let mut used: usize = 0;
+        let mut reports: usize = 0;
         let mut dropped: usize = 0;
         while at < words.len() {
-            let q = passed(letter, &words[at..], &mut out[used..]);
-            at = at + q.taken;
-            used = used + q.used;
+            let q = passed(self.format, &words[at..], &mut out[5 * reports..]);
+            at += q.taken;
+            reports += q.reports;
             let n = alike(SILENCE, SILENCE, &words[at..]);
             if n > 0 {
-                at = at + n;
+                at += n;
                 continue;
             }
-            let t = ready.by_letter(&words[at..], &mut out[used..]);
-            let next = t.next;
-            at = at + t.taken;
-            used = used + 5 * t.reports;
-            dropped = dropped + t.dropped;
-            let calm = (next.count == 0) & !next.awaiting;
-            if !calm | (t.taken == 0) {
-                return reading(SUCCESS, next, at, used / 5, dropped);
+            let t = ready.one_by_one(&words[at..], &mut out[5 * reports..]);
+            at += t.taken;
+            reports += t.reports;
+            dropped += t.dropped;
+            if !t.next.is_ready() | (t.taken == 0) {
+                return reading(SUCCESS, t.next, at, reports, dropped);
             }
         }
-        reading(SUCCESS, ready, at, used / 5, dropped)
+        reading(SUCCESS, ready, at, reports, dropped)
     }
 
-    // A line of one word.
+    // The words of a line: swiftly where the reader is ready, and one by one up to where it may be again, or may go no further. What is left of the line, from
+    // the next word on, is handed over with the reader that came back and the places that are left.
+    // The loop moves on by as many words as were taken (see `slowly`).
     #[inline(always)]
-    fn single(self, size: usize, marked: bool, words: &[u16], out: &mut [i16]) -> Reading
-        requires { Sized size marked self × (length words.now ≡ 1) }
+    pub(crate) fn line(self, words: &[u16], out: &mut [i16]) -> Reading
+        requires { good self ≡ true }
         ensures { whole result out.new ≡ line reads_line self words.now out.old }
     {
-        let heard = self.word(self.format, size, marked, words[0]);
-        self.counted(heard, out)
-    }
-
-    // The words of a line: swiftly where the reader is ready, and one by one up to where it is again, or may go no further. What is left of the line, from the
-    // next word on, is handed over with the reader that came back and the places that are left.
-    #[inline(always)]
-    pub(crate) fn line(self, size: usize, marked: bool, words: &[u16], out: &mut [i16]) -> Reading
-        requires { Sized size marked self }
-        ensures { whole result out.new ≡ line reads_line self words.now out.old }
-    {
-        if words.len() == 1 {
-            return self.single(size, marked, words, out);
-        }
         let mut r = self;
         let mut at: usize = 0;
-        let mut used: usize = 0;
+        let mut reports: usize = 0;
         let mut dropped: usize = 0;
-        let mut quick = self.begins(size, marked, words);
         while at < words.len() {
-            let q = r.swiftly(quick, &words[at..], &mut out[used..]);
-            let mid = q.next;
-            at = at + q.taken;
-            used = used + 5 * q.reports;
-            dropped = dropped + q.dropped;
-            let t = mid.slowly(mid.format, size, marked, &words[at..], &mut out[used..]);
+            let q = r.swiftly(&words[at..], &mut out[5 * reports..]);
+            at += q.taken;
+            reports += q.reports;
+            dropped += q.dropped;
+            let t = q
+                .next
+                .slowly(self.format, &words[at..], &mut out[5 * reports..]);
             if t.taken == 0 {
-                return reading(t.refusal, mid, at, used / 5, dropped);
+                return reading(t.refusal, q.next, at, reports, dropped);
             }
-            let next = t.next;
-            r = next;
-            at = at + t.taken;
-            used = used + 5 * t.reports;
-            dropped = dropped + t.dropped;
-            quick = (next.count == 0) & !next.awaiting;
+            r = t.next;
+            at += t.taken;
+            reports += t.reports;
+            dropped += t.dropped;
         }
-        reading(SUCCESS, r, at, used / 5, dropped)
+        reading(SUCCESS, r, at, reports, dropped)
     }
 }

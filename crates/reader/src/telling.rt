@@ -2,12 +2,12 @@
 ghost use Rattle.std.specs.Prelude.{◌≡◌, true};
 ghost use Rattle.fold.specs.Calls.{line};
 ghost use Rattle.reader.specs.Good.{good};
-ghost use Rattle.reader.specs.Parts.{Sized};
 ghost use Rattle.reader.specs.Telling.{told, tells_line, places_of, front_of};
 
+use crate::letters::by_letter;
 use crate::line::put;
 use crate::{Answer, Answers, Reader};
-use wire::{BAD_STATE, SUCCESS};
+use wire::SUCCESS;
 
 // What is given back for the words taken so far.
 #[inline(always)]
@@ -15,10 +15,10 @@ pub(crate) fn so_far(refusal: u8, next: Reader, taken: usize, written: usize) ->
     ensures { result ≡ record { refusal = refusal; next = next; taken = taken; written = written } }
 {
     Answers {
-        refusal: refusal,
-        next: next,
-        taken: taken,
-        written: written,
+        refusal,
+        next,
+        taken,
+        written,
     }
 }
 
@@ -56,15 +56,14 @@ fn tell(answer: Answer, out: &mut [i16]) -> usize
 impl Reader {
     // Word after word, each answer behind the one before it.
     #[inline(always)]
-    fn tells(self, letter: u8, size: usize, marked: bool, words: &[u16], out: &mut [i16]) -> Answers
-        requires { (letter ≡ self.format) × Sized size marked self }
+    fn tells(self, letter: u8, words: &[u16], out: &mut [i16]) -> Answers
+        requires { (letter ≡ self.format) × (good self ≡ true) }
         ensures { told result out.new ≡ line tells_line self words.now out.old }
     {
         let mut r = self;
-        let mut at: usize = 0;
         let mut used: usize = 0;
-        while at < words.len() {
-            let step = match r.word(letter, size, marked, words[at]) {
+        for (at, word) in words.iter().enumerate() {
+            let step = match r.word(letter, *word) {
                 Ok(step) => step,
                 Err(refusal) => return so_far(refusal.number(), r, at, used),
             };
@@ -73,28 +72,17 @@ impl Reader {
                 return so_far(SUCCESS, r, at, used);
             }
             r = step.next;
-            at += 1;
             used += n;
         }
-        so_far(SUCCESS, r, at, used)
+        so_far(SUCCESS, r, words.len(), used)
     }
 
-    // The same for a good reader, each letter with code of its own.
+    // The same, each letter with code of its own.
     #[inline(always)]
     pub(crate) fn told(self, words: &[u16], out: &mut [i16]) -> Answers
         requires { good self ≡ true }
         ensures { told result out.new ≡ line tells_line self words.now out.old }
     {
-        let letter = self.format;
-        match letter {
-            b'S' => self.tells(b'S', 3, true, words, out),
-            b'V' => self.tells(b'V', 3, true, words, out),
-            b'A' => self.tells(b'A', 5, true, words, out),
-            b'B' => self.tells(b'B', 5, true, words, out),
-            b'U' => self.tells(b'U', 5, false, words, out),
-            b'T' => self.tells(b'T', 3, false, words, out),
-            b'W' => self.tells(b'W', 5, false, words, out),
-            _ => so_far(BAD_STATE, self, 0, 0),
-        }
+        by_letter!(self.format, letter => self.tells(letter, words, out))
     }
 }

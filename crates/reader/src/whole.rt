@@ -1,31 +1,22 @@
 // Whole reports at the front of a line, and the silences between them: the quick way, proved to be the rule (rules.rt).
 // The reader is ready. A word that is a byte, and fits the place that is next, is kept by the rules; the last of a report
 // gives it. The tests and the report are those of the rules.
-ghost use Rattle.std.specs.Prelude.{◌≡◌, ◌⊎◌, ◌/◌, ◌≤◌, length};
+ghost use Rattle.std.specs.Prelude.{◌≡◌, ◌*◌, ◌<◌, ◌≤◌, length};
 ghost use Rattle.wire.specs.Line.{size_by};
 ghost use Rattle.reader.specs.State.{ready};
 ghost use Rattle.reader.specs.Parts.{Stands};
 ghost use Rattle.reader.specs.Whole.{brings, fits_word, whole_by, bytes_at};
 
+use crate::letters::by_letter;
 use crate::line::put;
 use crate::rules::entered;
 use wire::SILENCE;
 
-// The words passed, and the places of their reports.
+// The words passed, and their reports.
 #[derive(Clone, Copy, Drop)]
 pub(crate) struct Run {
     pub taken: usize,
-    pub used: usize,
-}
-
-#[inline(always)]
-pub(crate) fn after(taken: usize, used: usize) -> Run
-    ensures { result ≡ record { taken = taken; used = used } }
-{
-    Run {
-        taken: taken,
-        used: used,
-    }
+    pub reports: usize,
 }
 
 // The byte of a word, as it enters.
@@ -46,15 +37,15 @@ fn fits(letter: u8, place: u8, word: u16) -> bool
 
 // Whether a whole report stands at the front of words.
 #[inline(always)]
-pub(crate) fn whole(letter: u8, size: usize, words: &[u16]) -> bool
-    requires { ((size ≡ 3) ⊎ (size ≡ 5)) × (size ≤ length words.now) }
-    ensures { result ≡ whole_by letter size words.now }
+fn whole(letter: u8, words: &[u16]) -> bool
+    requires { (0 < size_by letter) × (size_by letter ≤ length words.now) }
+    ensures { result ≡ whole_by letter (size_by letter) words.now }
 {
     if !fits(letter, 0, words[0]) {
         return false;
     }
     let two = fits(letter, 1, words[1]) & fits(letter, 2, words[2]);
-    if size == 3 {
+    if wire::size(letter) == 3 {
         return two;
     }
     two & fits(letter, 3, words[3]) & fits(letter, 4, words[4])
@@ -62,14 +53,14 @@ pub(crate) fn whole(letter: u8, size: usize, words: &[u16]) -> bool
 
 // Its bytes, and 0 in the places behind them.
 #[inline(always)]
-fn front(letter: u8, size: usize, words: &[u16]) -> [u8; 5]
-    requires { ((size ≡ 3) ⊎ (size ≡ 5)) × (size ≤ length words.now) }
-    ensures { result ≡ bytes_at letter size words.now }
+fn front(letter: u8, words: &[u16]) -> [u8; 5]
+    requires { (0 < size_by letter) × (size_by letter ≤ length words.now) }
+    ensures { result ≡ bytes_at letter (size_by letter) words.now }
 {
     let a = byte_of(letter, words[0]);
     let b = byte_of(letter, words[1]);
     let c = byte_of(letter, words[2]);
-    if size == 3 {
+    if wire::size(letter) == 3 {
         return [a, b, c, 0, 0];
     }
     [
@@ -82,46 +73,43 @@ fn front(letter: u8, size: usize, words: &[u16]) -> [u8; 5]
 }
 
 // The whole reports at the front, up to a word that begins none and is no silence, up to two silences, or up to the last that has room.
+// The loop moves on by a report or by a silence. It counts places, since to count reports cost an instruction more for each.
 #[inline(always)]
-fn runs(letter: u8, size: usize, words: &[u16], out: &mut [i16]) -> Run
-    requires { (size ≡ size_by letter) × ((size ≡ 3) ⊎ (size ≡ 5)) }
-    ensures { Stands (ready letter) words.now out.old (ready letter) result.taken result.used (result.used / 5) 0 out.new }
+fn runs(letter: u8, words: &[u16], out: &mut [i16]) -> Run
+    requires { 0 < size_by letter }
+    ensures { Stands (ready letter) words.now out.old (ready letter) result.taken (5 * result.reports) result.reports 0 out.new }
 {
-    let mut at: usize = 0;
+    let size = wire::size(letter);
+    let mut taken: usize = 0;
     let mut used: usize = 0;
-    while at + size <= words.len() {
+    while taken + size <= words.len() {
         if used + 5 > out.len() {
             break;
         }
-        let rest = &words[at..];
-        if whole(letter, size, rest) {
-            let report = wire::report_of(letter, front(letter, size, rest));
+        let rest = &words[taken..];
+        if whole(letter, rest) {
+            let report = wire::report_of(letter, front(letter, rest));
             put(&mut out[used..], report);
-            at = at + size;
-            used = used + 5;
+            taken += size;
+            used += 5;
         } else {
             if (rest[0] != SILENCE) | (rest[1] == SILENCE) {
                 break;
             }
-            at = at + 1;
+            taken += 1;
         }
     }
-    after(at, used)
+    Run {
+        taken,
+        reports: used / 5,
+    }
 }
 
-// The same by a letter, each with code of its own.
+// The same, each letter with code of its own.
 #[inline(always)]
 pub(crate) fn passed(letter: u8, words: &[u16], out: &mut [i16]) -> Run
-    ensures { Stands (ready letter) words.now out.old (ready letter) result.taken result.used (result.used / 5) 0 out.new }
+    requires { 0 < size_by letter }
+    ensures { Stands (ready letter) words.now out.old (ready letter) result.taken (5 * result.reports) result.reports 0 out.new }
 {
-    match letter {
-        b'S' => runs(b'S', 3, words, out),
-        b'V' => runs(b'V', 3, words, out),
-        b'A' => runs(b'A', 5, words, out),
-        b'B' => runs(b'B', 5, words, out),
-        b'U' => runs(b'U', 5, words, out),
-        b'T' => runs(b'T', 3, words, out),
-        b'W' => runs(b'W', 5, words, out),
-        _ => after(0, 0),
-    }
+    by_letter!(letter, letter => runs(letter, words, out))
 }

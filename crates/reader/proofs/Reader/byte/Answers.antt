@@ -8,7 +8,7 @@ use Rattle.reader.proofs.Reader.byte.Goals as goal
 
 pub returns-then-self : goal.returns-then-self
 unfolding byte_of
-returns-then-self c = simp c.if-self.true c.answered.ensures
+returns-then-self c = simp c.if-self.true
 
 pub returns-then-fits : goal.returns-then-fits
 unfolding byte_of
@@ -20,7 +20,7 @@ returns-then-starts c = simp (c.if-self.false, sym c.fits.ensures ∙ c.if-fits.
     c.start.ensures
 
 pub lose-requires : goal.lose-requires
-lose-requires c = (c.requires.0, omega (arith, c.requires.1, c.requires.2, at_most_five c.args.self.format), c.requires.3)
+lose-requires c = (c.requires.0, omega (arith, c.requires.1, at_most_five c.args.letter))
 
 pub returns : goal.returns
 unfolding byte_of

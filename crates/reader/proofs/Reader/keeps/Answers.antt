@@ -22,7 +22,7 @@ fifth r b h = rw (le-ltb 4 r.count h)
 pub returns-then-self-size : goal.returns-then-self-size
 unfolding good
 returns-then-self-size c = let r = c.args.self in
-    let over : ltb r.count (size_by r.format) ≡ false = rw (← c.requires.0, ← c.requires.1) (le-ltb _ _ c.if-self-size.true) in
+    let over : ltb r.count (size_by r.format) ≡ false = rw (← c.requires, ← c.size.ensures) (le-ltb _ _ c.if-self-size.true) in
     rw (known_below r.format r.count, over)
 
 pub returns : goal.returns
@@ -30,8 +30,8 @@ unfolding good
 returns c =
     let five : length c.args.self.kept ≡ 5 = search rules in
     let r = c.args.self in
-    let under : r.count < size_by r.format = rw (← c.requires.0, ← c.requires.1) c.if-self-size.false in
+    let under : r.count < size_by r.format = rw (← c.requires, ← c.size.ensures) c.if-self-size.false in
     let few : r.count ≤ 4 = omega (arith, under, at_most_five r.format) in
     let named : known r.format ≡ true = left _ _ (known_below r.format r.count ∙ lt-ltb _ _ under) in
     simp
-    (named, lt-ltb _ _ under, eq-eqb _ _ five, fifth r (get_or r.kept 4 0) few, c.requires.2, c.requires.0, sym c.holds-4.ensures, sym c.holds-3.ensures, sym c.holds-2.ensures, sym c.holds.ensures)
+    (named, lt-ltb _ _ under, eq-eqb _ _ five, fifth r (get_or r.kept 4 0) few, c.marked.ensures, c.requires, sym c.holds-4.ensures, sym c.holds-3.ensures, sym c.holds-2.ensures, sym c.holds.ensures)

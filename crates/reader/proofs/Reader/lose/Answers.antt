@@ -4,4 +4,4 @@ use Rattle.reader.proofs.Reader.lose.Goals as goal
 
 pub returns : goal.returns
 unfolding lose
-returns c = rw (c.no_bytes.ensures, c.requires.0, c.requires.2) at c.answered.ensures
+returns c = rw (c.no_bytes.ensures, c.marked.ensures, c.requires.0)

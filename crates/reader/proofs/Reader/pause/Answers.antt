@@ -2,4 +2,4 @@
 use Rattle.reader.proofs.Reader.pause.Goals as goal
 
 pub returns : goal.returns
-returns c = rw (c.no_bytes.ensures, c.dropping.ensures, c.requires) at c.answered.ensures
+returns c = rw (c.no_bytes.ensures, c.dropping.ensures, c.requires)

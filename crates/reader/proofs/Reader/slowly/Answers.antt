@@ -1,6 +1,6 @@
 use Prim.Native.Nat.{◌+◌, ◌*◌}
-use mathlib.Core.Path.{◌≡◌, refl, sym, ◌∙◌}
-use mathlib.Core.Bool.{not, ◌&&◌}
+use mathlib.Core.Path.{◌≡◌, refl, sym, ◌∙◌, ap}
+use mathlib.Core.Bool.{true, not, ◌&&◌}
 use native.Mathlib.Omega.{arith}
 use lib.ListN.{get_or, length-drop}
 use lib.Dec.{eqb, leb}
@@ -9,8 +9,10 @@ use Rattle.numbers.proofs.Choices.{neither}
 use Rattle.numbers.proofs.Tested.{left, right, holds}
 use Rattle.fold.proofs.Parts.{rest_is}
 use Rattle.wire.proofs.Letters.{at_most_five}
-use Rattle.reader.specs.Parts.{Stands, Begins, Sized}
-use Rattle.reader.proofs.Parts.{stays_sized}
+use Rattle.wire.specs.Line.{marked_by}
+use Rattle.reader.specs.Good.{good}
+use Rattle.reader.specs.Parts.{Stands, Begins}
+use Rattle.reader.proofs.Parts.{below_size_lem}
 use Rattle.reader.proofs.Loop.{starts, far, all_taken, took, none_taken, skipped}
 use Rattle.reader.proofs.Reader.slowly.Goals as goal
 
@@ -27,7 +29,7 @@ pub returns-then-t-eq0 : goal.returns-then-t-eq0
 returns-then-t-eq0 c =
     let refused : let l = c.loop-at in
     Begins c.args.self c.args.words.now c.args.out.now
-    (record { refusal = c.first-t.result.refusal; next = l.r; taken = l.at; reports = 0; dropped = l.dropped }) c.first-t.new.out = let i = c.loop-at.invariant in none_taken i.0 i.1.sound i.2 c.first-t.ensures.0 i.4 c.if-t-eq0.true in
+    (record { refusal = c.first-t.result.refusal; next = l.r; taken = l.at; reports = 0; dropped = l.dropped }) c.first-t.new.out = let i = c.loop-at.invariant in none_taken i.0 i.1 i.2 c.first-t.ensures.0 i.4 c.if-t-eq0.true in
     rw c.reading.ensures refused
 
 pub overflow_add-at : goal.overflow_add-at
@@ -35,52 +37,52 @@ overflow_add-at c =
     let turn : let l = c.loop-at in
     let a = c.args in
     let t = c.first-t.result in
-    Stands a.self a.words.now a.out.now t.next (l.at + t.taken) (5 * t.reports) t.reports (l.dropped + t.dropped) c.first-t.new.out = let i = c.loop-at.invariant in took i.0 i.1.sound i.2 c.first-t.ensures.0 in
-    omega (arith, (far turn).within, c.well_formed.1.1.1.1.0.1)
+    Stands a.self a.words.now a.out.now t.next (l.at + t.taken) (5 * t.reports) t.reports (l.dropped + t.dropped) c.first-t.new.out = let i = c.loop-at.invariant in took i.0 i.1 i.2 c.first-t.ensures.0 in
+    omega (arith, (far turn).within, c.well_formed.1.1.0.1)
 
 pub overflow_add-dropped : goal.overflow_add-dropped
 overflow_add-dropped c =
     let turn : let l = c.loop-at in
     let a = c.args in
     let t = c.first-t.result in
-    Stands a.self a.words.now a.out.now t.next (l.at + t.taken) (5 * t.reports) t.reports (l.dropped + t.dropped) c.first-t.new.out = let i = c.loop-at.invariant in took i.0 i.1.sound i.2 c.first-t.ensures.0 in
-    omega (arith, (far turn).few, c.requires.1.below, c.requires.1.sized, at_most_five c.args.self.format, c.well_formed.1.1.1.1.0.1)
+    Stands a.self a.words.now a.out.now t.next (l.at + t.taken) (5 * t.reports) t.reports (l.dropped + t.dropped) c.first-t.new.out = let i = c.loop-at.invariant in took i.0 i.1 i.2 c.first-t.ensures.0 in
+    omega (arith, (far turn).few, below_size_lem c.args.self c.requires.1, at_most_five c.args.self.format, c.well_formed.1.1.0.1)
 
 pub returns-then-t-word : goal.returns-then-t-word
 returns-then-t-word c =
     let turn : let l = c.loop-at in
     let a = c.args in
     let t = c.first-t.result in
-    Stands a.self a.words.now a.out.now t.next (l.at + t.taken) (5 * t.reports) t.reports (l.dropped + t.dropped) c.first-t.new.out = let i = c.loop-at.invariant in took i.0 i.1.sound i.2 c.first-t.ensures.0 in
+    Stands a.self a.words.now a.out.now t.next (l.at + t.taken) (5 * t.reports) t.reports (l.dropped + t.dropped) c.first-t.new.out = let i = c.loop-at.invariant in took i.0 i.1 i.2 c.first-t.ensures.0 in
     let stays : let u = c.first-t.result.next in
-    Sized c.args.size c.args.marked u × (u.format ≡ c.args.self.format) = let i = c.loop-at.invariant in
+    (good u ≡ true) × (u.format ≡ c.args.self.format) = let i = c.loop-at.invariant in
     let b = c.first-t.ensures.0 in
-    (stays_sized i.1 b.sound b.same_format, b.same_format ∙ i.2) in
+    (b.sound, b.same_format ∙ i.2) in
     let k = stays in
-    rw c.reading-then-t-word.ensures (record { stands = turn; stops = λ e. absurd (c.if-t-eq0.false (omega arith)); sound = k.0.sound; same_format = k.1 })
+    rw c.reading-then-t-word.ensures (record { stands = turn; stops = λ e. absurd (c.if-t-eq0.false (omega arith)); sound = k.0; same_format = k.1 })
 
 pub offset_bounds-words-at-then-marked-t : goal.offset_bounds-words-at-then-marked-t
 offset_bounds-words-at-then-marked-t c =
     let turn : let l = c.loop-at in
     let a = c.args in
     let t = c.first-t.result in
-    Stands a.self a.words.now a.out.now t.next (l.at + t.taken) (5 * t.reports) t.reports (l.dropped + t.dropped) c.first-t.new.out = let i = c.loop-at.invariant in took i.0 i.1.sound i.2 c.first-t.ensures.0 in
-    omega (arith, (far turn).within, c.well_formed.1.1.1.1.0.1)
+    Stands a.self a.words.now a.out.now t.next (l.at + t.taken) (5 * t.reports) t.reports (l.dropped + t.dropped) c.first-t.new.out = let i = c.loop-at.invariant in took i.0 i.1 i.2 c.first-t.ensures.0 in
+    omega (arith, (far turn).within, c.well_formed.1.1.0.1)
 
 pub slice_bounds-alike-count : goal.slice_bounds-alike-count
 slice_bounds-alike-count c =
     let turn : let l = c.loop-at in
     let a = c.args in
     let t = c.first-t.result in
-    Stands a.self a.words.now a.out.now t.next (l.at + t.taken) (5 * t.reports) t.reports (l.dropped + t.dropped) c.first-t.new.out = let i = c.loop-at.invariant in took i.0 i.1.sound i.2 c.first-t.ensures.0 in
-    omega (arith, (far turn).within, c.well_formed.1.1.1.1.0.1)
+    Stands a.self a.words.now a.out.now t.next (l.at + t.taken) (5 * t.reports) t.reports (l.dropped + t.dropped) c.first-t.new.out = let i = c.loop-at.invariant in took i.0 i.1 i.2 c.first-t.ensures.0 in
+    omega (arith, (far turn).within, c.well_formed.1.1.0.1)
 
 pub slice_bounds-alike-start : goal.slice_bounds-alike-start
 slice_bounds-alike-start c =
     let turn : let l = c.loop-at in
     let a = c.args in
     let t = c.first-t.result in
-    Stands a.self a.words.now a.out.now t.next (l.at + t.taken) (5 * t.reports) t.reports (l.dropped + t.dropped) c.first-t.new.out = let i = c.loop-at.invariant in took i.0 i.1.sound i.2 c.first-t.ensures.0 in
+    Stands a.self a.words.now a.out.now t.next (l.at + t.taken) (5 * t.reports) t.reports (l.dropped + t.dropped) c.first-t.new.out = let i = c.loop-at.invariant in took i.0 i.1 i.2 c.first-t.ensures.0 in
     omega (arith, (far turn).within)
 
 pub overflow_add-at-then-marked-t : goal.overflow_add-at-then-marked-t
@@ -94,11 +96,11 @@ overflow_add-at-then-marked-t c =
     let i = l.invariant in
     let some = eqb f.result.dropped 0 in
     let byte = leb (get_or c.args.words.now l.at 0) 255 in
-    let both = left (not c.args.marked && not some) byte c.if-marked-t.true in
-    skipped i.0 i.1.sound i.2 f.ensures.0 none f.ensures.1 (sym i.1.mark ∙ not-true _ (left (not c.args.marked) (not some) both))
-    (λ e. holds (sym (not-true _ (right (not c.args.marked) (not some) both)) ∙ eq-eqb _ _ e))
-    (leb-true _ 255 (right (not c.args.marked && not some) byte c.if-marked-t.true)) c.alike-n.ensures in
-    omega (arith, (far lost).within, c.well_formed.1.1.1.1.0.1)
+    let both = left (not c.marked.result && not some) byte c.if-marked-t.true in
+    skipped i.0 i.1 i.2 f.ensures.0 none f.ensures.1 (sym (c.marked.ensures ∙ ap marked_by (c.requires.0 ∙ sym i.2)) ∙ not-true _ (left (not c.marked.result) (not some) both))
+    (λ e. holds (sym (not-true _ (right (not c.marked.result) (not some) both)) ∙ eq-eqb _ _ e))
+    (leb-true _ 255 (right (not c.marked.result && not some) byte c.if-marked-t.true)) c.alike-n.ensures in
+    omega (arith, (far lost).within, c.well_formed.1.1.0.1)
 
 pub overflow_add-dropped-then-marked-t : goal.overflow_add-dropped-then-marked-t
 overflow_add-dropped-then-marked-t c =
@@ -111,11 +113,11 @@ overflow_add-dropped-then-marked-t c =
     let i = l.invariant in
     let some = eqb f.result.dropped 0 in
     let byte = leb (get_or c.args.words.now l.at 0) 255 in
-    let both = left (not c.args.marked && not some) byte c.if-marked-t.true in
-    skipped i.0 i.1.sound i.2 f.ensures.0 none f.ensures.1 (sym i.1.mark ∙ not-true _ (left (not c.args.marked) (not some) both))
-    (λ e. holds (sym (not-true _ (right (not c.args.marked) (not some) both)) ∙ eq-eqb _ _ e))
-    (leb-true _ 255 (right (not c.args.marked && not some) byte c.if-marked-t.true)) c.alike-n.ensures in
-    omega (arith, (far lost).few, c.requires.1.below, c.requires.1.sized, at_most_five c.args.self.format, c.well_formed.1.1.1.1.0.1)
+    let both = left (not c.marked.result && not some) byte c.if-marked-t.true in
+    skipped i.0 i.1 i.2 f.ensures.0 none f.ensures.1 (sym (c.marked.ensures ∙ ap marked_by (c.requires.0 ∙ sym i.2)) ∙ not-true _ (left (not c.marked.result) (not some) both))
+    (λ e. holds (sym (not-true _ (right (not c.marked.result) (not some) both)) ∙ eq-eqb _ _ e))
+    (leb-true _ 255 (right (not c.marked.result && not some) byte c.if-marked-t.true)) c.alike-n.ensures in
+    omega (arith, (far lost).few, below_size_lem c.args.self c.requires.1, at_most_five c.args.self.format, c.well_formed.1.1.0.1)
 
 pub loop-at-smaller-then-marked-t : goal.loop-at-smaller-then-marked-t
 loop-at-smaller-then-marked-t c =
@@ -128,18 +130,18 @@ loop-at-smaller-then-marked-t c =
     let i = l.invariant in
     let some = eqb f.result.dropped 0 in
     let byte = leb (get_or c.args.words.now l.at 0) 255 in
-    let both = left (not c.args.marked && not some) byte c.if-marked-t.true in
-    skipped i.0 i.1.sound i.2 f.ensures.0 none f.ensures.1 (sym i.1.mark ∙ not-true _ (left (not c.args.marked) (not some) both))
-    (λ e. holds (sym (not-true _ (right (not c.args.marked) (not some) both)) ∙ eq-eqb _ _ e))
-    (leb-true _ 255 (right (not c.args.marked && not some) byte c.if-marked-t.true)) c.alike-n.ensures in
+    let both = left (not c.marked.result && not some) byte c.if-marked-t.true in
+    skipped i.0 i.1 i.2 f.ensures.0 none f.ensures.1 (sym (c.marked.ensures ∙ ap marked_by (c.requires.0 ∙ sym i.2)) ∙ not-true _ (left (not c.marked.result) (not some) both))
+    (λ e. holds (sym (not-true _ (right (not c.marked.result) (not some) both)) ∙ eq-eqb _ _ e))
+    (leb-true _ 255 (right (not c.marked.result && not some) byte c.if-marked-t.true)) c.alike-n.ensures in
     omega (arith, (far lost).within)
 
 pub loop-at-preserved-then-marked-t : goal.loop-at-preserved-then-marked-t
 loop-at-preserved-then-marked-t c =
     let stays : let u = c.first-t.result.next in
-    Sized c.args.size c.args.marked u × (u.format ≡ c.args.self.format) = let i = c.loop-at.invariant in
+    (good u ≡ true) × (u.format ≡ c.args.self.format) = let i = c.loop-at.invariant in
     let b = c.first-t.ensures.0 in
-    (stays_sized i.1 b.sound b.same_format, b.same_format ∙ i.2) in
+    (b.sound, b.same_format ∙ i.2) in
     let none : c.first-t.result.reports ≡ 0 = let t = c.first-t.result in eqb-true t.reports 0 (not-false _ (neither (not (eqb t.reports 0)) _ c.if-t-word.false).0) in
     let lost : let l = c.loop-at in
     let a = c.args in
@@ -149,10 +151,10 @@ loop-at-preserved-then-marked-t c =
     let i = l.invariant in
     let some = eqb f.result.dropped 0 in
     let byte = leb (get_or c.args.words.now l.at 0) 255 in
-    let both = left (not c.args.marked && not some) byte c.if-marked-t.true in
-    skipped i.0 i.1.sound i.2 f.ensures.0 none f.ensures.1 (sym i.1.mark ∙ not-true _ (left (not c.args.marked) (not some) both))
-    (λ e. holds (sym (not-true _ (right (not c.args.marked) (not some) both)) ∙ eq-eqb _ _ e))
-    (leb-true _ 255 (right (not c.args.marked && not some) byte c.if-marked-t.true)) c.alike-n.ensures in
+    let both = left (not c.marked.result && not some) byte c.if-marked-t.true in
+    skipped i.0 i.1 i.2 f.ensures.0 none f.ensures.1 (sym (c.marked.ensures ∙ ap marked_by (c.requires.0 ∙ sym i.2)) ∙ not-true _ (left (not c.marked.result) (not some) both))
+    (λ e. holds (sym (not-true _ (right (not c.marked.result) (not some) both)) ∙ eq-eqb _ _ e))
+    (leb-true _ 255 (right (not c.marked.result && not some) byte c.if-marked-t.true)) c.alike-n.ensures in
     let k = stays in
     (lost, k.0, k.1, far lost, λ e. absurd (c.if-t-eq0.false (omega arith)))
 
@@ -161,15 +163,15 @@ loop-at-preserved c =
     let turn : let l = c.loop-at in
     let a = c.args in
     let t = c.first-t.result in
-    Stands a.self a.words.now a.out.now t.next (l.at + t.taken) (5 * t.reports) t.reports (l.dropped + t.dropped) c.first-t.new.out = let i = c.loop-at.invariant in took i.0 i.1.sound i.2 c.first-t.ensures.0 in
+    Stands a.self a.words.now a.out.now t.next (l.at + t.taken) (5 * t.reports) t.reports (l.dropped + t.dropped) c.first-t.new.out = let i = c.loop-at.invariant in took i.0 i.1 i.2 c.first-t.ensures.0 in
     let stays : let u = c.first-t.result.next in
-    Sized c.args.size c.args.marked u × (u.format ≡ c.args.self.format) = let i = c.loop-at.invariant in
+    (good u ≡ true) × (u.format ≡ c.args.self.format) = let i = c.loop-at.invariant in
     let b = c.first-t.ensures.0 in
-    (stays_sized i.1 b.sound b.same_format, b.same_format ∙ i.2) in
+    (b.sound, b.same_format ∙ i.2) in
     let none : c.first-t.result.reports ≡ 0 = let t = c.first-t.result in eqb-true t.reports 0 (not-false _ (neither (not (eqb t.reports 0)) _ c.if-t-word.false).0) in
     let k = stays in
     let s = rw none at turn in
     (s, k.0, k.1, far s, λ e. absurd (c.if-t-eq0.false (omega arith)))
 
 pub returns : goal.returns
-returns c = let i = c.loop-at.invariant in rw c.reading-2.ensures (all_taken i.0 i.1.sound i.2 i.4 c.loop-at-test.false)
+returns c = let i = c.loop-at.invariant in rw c.reading-2.ensures (all_taken i.0 i.1 i.2 i.4 c.loop-at-test.false)

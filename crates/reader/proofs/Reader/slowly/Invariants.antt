@@ -1,15 +1,17 @@
 -- `slowly`: up to its end nothing is written, and what is done is a part of the line.
 use Prim.Native.Nat.{◌-◌}
 use mathlib.Core.Path.{◌≡◌}
+use mathlib.Core.Bool.{true}
 use lib.ListN.{length}
-use Rattle.reader.specs.Parts.{Stands, Sized}
+use Rattle.reader.specs.Good.{good}
+use Rattle.reader.specs.Parts.{Stands}
 use Rattle.reader.proofs.Loop.{Far}
 use Rattle.reader.proofs.Reader.slowly.Given as goal
 
 abbrev pub invariant-loop-at : goal.invariant-loop-at
 invariant-loop-at l =
     Stands l.initial.r l.words l.initial.out l.r l.at 0 0 l.dropped l.out
-    × Sized l.size l.marked l.r
+    × (good l.r ≡ true)
     × (l.r.format ≡ l.initial.r.format)
     × Far l.initial.r l.words l.initial.out l.at 0 0 l.dropped l.out
     × (l.at ≡ 0 → l.r ≡ l.initial.r)

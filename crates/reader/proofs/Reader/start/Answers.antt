@@ -4,4 +4,4 @@ use Rattle.reader.proofs.Reader.start.Goals as goal
 
 pub returns : goal.returns
 unfolding start
-returns c = rw (c.dropping.ensures, c.requires) at c.answered.ensures
+returns c = rw (c.dropping-answer.ensures, c.requires)

@@ -2,4 +2,4 @@
 use Rattle.reader.proofs.Reader.starts.Goals as goal
 
 pub returns : goal.returns
-returns c = rw (c.requires.1, c.fits.ensures, c.requires.0)
+returns c = rw (c.marked.ensures, c.fits.ensures, c.requires)

@@ -1,211 +1,108 @@
-use Prim.Native.Nat.{◌-◌, ◌+◌, ◌*◌, ◌/◌}
 use mathlib.Core.Path.{◌≡◌, refl, sym, ◌∙◌, ap}
-use mathlib.Core.Bool.{not, ◌&&◌}
+use mathlib.Core.Bool.{not}
 use native.Mathlib.Omega.{arith}
-use lib.ListN.{length, take, drop}
 use lib.Dec.{eqb}
 use borrow.Author.Tests.{eqb-false, not-false}
-use borrow.Rule.Slice.PartMut.{put_mid}
 use Rattle.numbers.proofs.Choices.{neither}
 use Rattle.reader.specs.Good.{good}
 use Rattle.reader.specs.State.{ready}
-use Rattle.reader.specs.Parts.{Stands, Begins}
+use Rattle.reader.proofs.Parts.{below_size_lem}
 use Rattle.reader.proofs.WholeReports.{is_ready}
 use Rattle.reader.proofs.Loop.{starts, far, and_run, and_silences, and_part, leaves, handed}
 use Rattle.reader.proofs.Reader.swiftly.Goals as goal
 
-pub returns-then-not-quick : goal.returns-then-not-quick
-returns-then-not-quick c = rw c.reading.ensures (starts c.args.self c.args.words.now c.args.out.now, c.requires.0, refl)
+pub returns-then-not-is_ready : goal.returns-then-not-is_ready
+returns-then-not-is_ready c =
+    rw c.reading.ensures (starts c.args.self c.args.words.now c.args.out.now, c.requires, refl)
 
 pub loop-at-init : goal.loop-at-init
-loop-at-init c = let a = c.args in starts (ready a.self.format) a.words.now a.out.now
+loop-at-init c =
+    let a = c.args in starts (ready a.self.format) a.words.now a.out.now
 
--- the words one by one are a ready reader's
-pub by_letter-t-requires : goal.by_letter-t-requires
-by_letter-t-requires c =
-    let calm : let r = c.args.self in r ≡ ready r.format = c.requires.1 (not-false _ c.if-not-quick.false-raw) in
-    ap good (c.no_bytes-ready.ensures ∙ sym calm) ∙ c.requires.0
-
-pub returns-then-calm-t : goal.returns-then-calm-t
-returns-then-calm-t c =
-    let calm : let r = c.args.self in r ≡ ready r.format = c.requires.1 (not-false _ c.if-not-quick.false-raw) in
-    let ran : let l = c.loop-at in
-    let a = c.args in
-    let letter = a.self.format in
-    let q = c.passed-q.result in
-    Stands (ready letter) a.words.now a.out.now (ready letter) (l.at + q.taken) (l.used + q.used) ((l.used + q.used) / 5) l.dropped (put_mid l.used (length l.out - l.used) l.out c.passed-q.new.out) = and_run c.loop-at.invariant refl c.passed-q.ensures in
-    let words : let b = c.by_letter-t in
-    let l = c.loop-at in
-    let a = c.args in
-    let q = c.passed-q.result in
-    let at = l.at + q.taken in
-    let used = l.used + q.used in
-    let out = put_mid l.used (length l.out - l.used) l.out c.passed-q.new.out in
-    Begins (ready a.self.format) (take (length a.words.now - at) (drop at a.words.now)) (take (length out - used) (drop used out)) b.result b.new.out = rw c.no_bytes-ready.ensures at c.by_letter-t.ensures in
-    let turn : let t = c.by_letter-t.result in
-    let l = c.loop-at in
-    let a = c.args in
-    let q = c.passed-q.result in
-    let used = l.used + q.used in
-    let out = put_mid l.used (length l.out - l.used) l.out c.passed-q.new.out in
-    let later = used + 5 * t.reports in
-    Stands (ready a.self.format) a.words.now a.out.now t.next (l.at + q.taken + t.taken) later (later / 5) (l.dropped + t.dropped) (put_mid used (length out - used) out c.by_letter-t.new.out) = and_part ran words.stands in
-    let b = words in rw c.reading-then-calm-t.ensures (handed turn (sym calm), b.sound, b.same_format)
-
-pub loop-at-preserved : goal.loop-at-preserved
-loop-at-preserved c =
-    let ran : let l = c.loop-at in
-    let a = c.args in
-    let letter = a.self.format in
-    let q = c.passed-q.result in
-    Stands (ready letter) a.words.now a.out.now (ready letter) (l.at + q.taken) (l.used + q.used) ((l.used + q.used) / 5) l.dropped (put_mid l.used (length l.out - l.used) l.out c.passed-q.new.out) = and_run c.loop-at.invariant refl c.passed-q.ensures in
-    let words : let b = c.by_letter-t in
-    let l = c.loop-at in
-    let a = c.args in
-    let q = c.passed-q.result in
-    let at = l.at + q.taken in
-    let used = l.used + q.used in
-    let out = put_mid l.used (length l.out - l.used) l.out c.passed-q.new.out in
-    Begins (ready a.self.format) (take (length a.words.now - at) (drop at a.words.now)) (take (length out - used) (drop used out)) b.result b.new.out = rw c.no_bytes-ready.ensures at c.by_letter-t.ensures in
-    let turn : let t = c.by_letter-t.result in
-    let l = c.loop-at in
-    let a = c.args in
-    let q = c.passed-q.result in
-    let used = l.used + q.used in
-    let out = put_mid l.used (length l.out - l.used) l.out c.passed-q.new.out in
-    let later = used + 5 * t.reports in
-    Stands (ready a.self.format) a.words.now a.out.now t.next (l.at + q.taken + t.taken) later (later / 5) (l.dropped + t.dropped) (put_mid used (length out - used) out c.by_letter-t.new.out) = and_part ran words.stands in
-    let again : let t = c.by_letter-t.result in (t.next ≡ ready c.args.self.format) × (t.taken ≡ 0 → ⊥) = let t = c.by_letter-t.result in
-    let u = t.next in
-    let b = words in
-    let two = neither (not (eqb u.count 0 && not u.awaiting)) (eqb t.taken 0) c.if-calm-t.false in
-    (is_ready u b.sound (not-false _ two.0) ∙ ap ready b.same_format, eqb-false t.taken 0 two.1) in
-    leaves turn again.0
-
-pub returns : goal.returns
-returns c =
-    let calm : let r = c.args.self in r ≡ ready r.format = c.requires.1 (not-false _ c.if-not-quick.false-raw) in
-    let me = calm in
-    rw (c.reading-2.ensures, c.no_bytes-ready.ensures) (handed c.loop-at.invariant (sym me), ap good (sym me) ∙ c.requires.0, refl)
+pub passed-q-requires : goal.passed-q-requires
+passed-q-requires c =
+    omega (arith, below_size_lem c.args.self c.requires)
 
 pub overflow_add-at : goal.overflow_add-at
 overflow_add-at c =
-    let ran : let l = c.loop-at in
-    let a = c.args in
-    let letter = a.self.format in
-    let q = c.passed-q.result in
-    Stands (ready letter) a.words.now a.out.now (ready letter) (l.at + q.taken) (l.used + q.used) ((l.used + q.used) / 5) l.dropped (put_mid l.used (length l.out - l.used) l.out c.passed-q.new.out) = and_run c.loop-at.invariant refl c.passed-q.ensures in
-    omega (arith, far ran, c.well_formed.1.1.0.1)
+    let ran = and_run c.loop-at.invariant refl c.passed-q.ensures in
+    omega (arith, (far ran).within, c.well_formed.1.0.1)
 
 pub offset_bounds-words-at-in-loop-at : goal.offset_bounds-words-at-in-loop-at
 offset_bounds-words-at-in-loop-at c =
-    let ran : let l = c.loop-at in
-    let a = c.args in
-    let letter = a.self.format in
-    let q = c.passed-q.result in
-    Stands (ready letter) a.words.now a.out.now (ready letter) (l.at + q.taken) (l.used + q.used) ((l.used + q.used) / 5) l.dropped (put_mid l.used (length l.out - l.used) l.out c.passed-q.new.out) = and_run c.loop-at.invariant refl c.passed-q.ensures in
-    omega (arith, far ran, c.well_formed.1.1.0.1)
+    let ran = and_run c.loop-at.invariant refl c.passed-q.ensures in
+    omega (arith, (far ran).within, c.well_formed.1.0.1)
 
 pub slice_bounds-alike-count : goal.slice_bounds-alike-count
 slice_bounds-alike-count c =
-    let ran : let l = c.loop-at in
-    let a = c.args in
-    let letter = a.self.format in
-    let q = c.passed-q.result in
-    Stands (ready letter) a.words.now a.out.now (ready letter) (l.at + q.taken) (l.used + q.used) ((l.used + q.used) / 5) l.dropped (put_mid l.used (length l.out - l.used) l.out c.passed-q.new.out) = and_run c.loop-at.invariant refl c.passed-q.ensures in
-    omega (arith, far ran)
+    let ran = and_run c.loop-at.invariant refl c.passed-q.ensures in
+    omega (arith, (far ran).within)
 
 pub slice_bounds-alike-start : goal.slice_bounds-alike-start
 slice_bounds-alike-start c =
-    let ran : let l = c.loop-at in
-    let a = c.args in
-    let letter = a.self.format in
-    let q = c.passed-q.result in
-    Stands (ready letter) a.words.now a.out.now (ready letter) (l.at + q.taken) (l.used + q.used) ((l.used + q.used) / 5) l.dropped (put_mid l.used (length l.out - l.used) l.out c.passed-q.new.out) = and_run c.loop-at.invariant refl c.passed-q.ensures in
-    omega (arith, far ran)
+    let ran = and_run c.loop-at.invariant refl c.passed-q.ensures in
+    omega (arith, (far ran).within)
 
 pub loop-at-preserved-then-n-gt0 : goal.loop-at-preserved-then-n-gt0
 loop-at-preserved-then-n-gt0 c =
-    let ran : let l = c.loop-at in
-    let a = c.args in
-    let letter = a.self.format in
-    let q = c.passed-q.result in
-    Stands (ready letter) a.words.now a.out.now (ready letter) (l.at + q.taken) (l.used + q.used) ((l.used + q.used) / 5) l.dropped (put_mid l.used (length l.out - l.used) l.out c.passed-q.new.out) = and_run c.loop-at.invariant refl c.passed-q.ensures in
+    let ran = and_run c.loop-at.invariant refl c.passed-q.ensures in
     and_silences ran refl c.alike-n.ensures
 
 pub offset_bounds-words-at-in-loop-at-2 : goal.offset_bounds-words-at-in-loop-at-2
 offset_bounds-words-at-in-loop-at-2 c =
-    let ran : let l = c.loop-at in
-    let a = c.args in
-    let letter = a.self.format in
-    let q = c.passed-q.result in
-    Stands (ready letter) a.words.now a.out.now (ready letter) (l.at + q.taken) (l.used + q.used) ((l.used + q.used) / 5) l.dropped (put_mid l.used (length l.out - l.used) l.out c.passed-q.new.out) = and_run c.loop-at.invariant refl c.passed-q.ensures in
-    omega (arith, far ran, c.well_formed.1.1.0.1)
+    let ran = and_run c.loop-at.invariant refl c.passed-q.ensures in
+    omega (arith, (far ran).within, c.well_formed.1.0.1)
 
-pub slice_bounds-by_letter-count : goal.slice_bounds-by_letter-count
-slice_bounds-by_letter-count c =
-    let ran : let l = c.loop-at in
-    let a = c.args in
-    let letter = a.self.format in
-    let q = c.passed-q.result in
-    Stands (ready letter) a.words.now a.out.now (ready letter) (l.at + q.taken) (l.used + q.used) ((l.used + q.used) / 5) l.dropped (put_mid l.used (length l.out - l.used) l.out c.passed-q.new.out) = and_run c.loop-at.invariant refl c.passed-q.ensures in
-    omega (arith, far ran)
+pub slice_bounds-one_by_one-count : goal.slice_bounds-one_by_one-count
+slice_bounds-one_by_one-count c =
+    let ran = and_run c.loop-at.invariant refl c.passed-q.ensures in
+    omega (arith, (far ran).within)
 
-pub slice_bounds-by_letter-start : goal.slice_bounds-by_letter-start
-slice_bounds-by_letter-start c =
-    let ran : let l = c.loop-at in
-    let a = c.args in
-    let letter = a.self.format in
-    let q = c.passed-q.result in
-    Stands (ready letter) a.words.now a.out.now (ready letter) (l.at + q.taken) (l.used + q.used) ((l.used + q.used) / 5) l.dropped (put_mid l.used (length l.out - l.used) l.out c.passed-q.new.out) = and_run c.loop-at.invariant refl c.passed-q.ensures in
-    omega (arith, far ran)
+pub slice_bounds-one_by_one-start : goal.slice_bounds-one_by_one-start
+slice_bounds-one_by_one-start c =
+    let ran = and_run c.loop-at.invariant refl c.passed-q.ensures in
+    omega (arith, (far ran).within)
+
+pub one_by_one-t-requires : goal.one_by_one-t-requires
+one_by_one-t-requires c =
+    let calm : let r = c.args.self in r ≡ ready r.format = is_ready c.args.self c.requires (sym c.is_ready.ensures ∙ c.if-not-is_ready.false) in
+    let same : ready c.args.self.format ≡ c.args.self = sym calm in
+    rw c.no_bytes-ready.ensures (ap good same ∙ c.requires)
 
 pub overflow_add-at-in-loop-at : goal.overflow_add-at-in-loop-at
 overflow_add-at-in-loop-at c =
-    let ran : let l = c.loop-at in
-    let a = c.args in
-    let letter = a.self.format in
-    let q = c.passed-q.result in
-    Stands (ready letter) a.words.now a.out.now (ready letter) (l.at + q.taken) (l.used + q.used) ((l.used + q.used) / 5) l.dropped (put_mid l.used (length l.out - l.used) l.out c.passed-q.new.out) = and_run c.loop-at.invariant refl c.passed-q.ensures in
-    let words : let b = c.by_letter-t in
-    let l = c.loop-at in
-    let a = c.args in
-    let q = c.passed-q.result in
-    let at = l.at + q.taken in
-    let used = l.used + q.used in
-    let out = put_mid l.used (length l.out - l.used) l.out c.passed-q.new.out in
-    Begins (ready a.self.format) (take (length a.words.now - at) (drop at a.words.now)) (take (length out - used) (drop used out)) b.result b.new.out = rw c.no_bytes-ready.ensures at c.by_letter-t.ensures in
-    let turn : let t = c.by_letter-t.result in
-    let l = c.loop-at in
-    let a = c.args in
-    let q = c.passed-q.result in
-    let used = l.used + q.used in
-    let out = put_mid l.used (length l.out - l.used) l.out c.passed-q.new.out in
-    let later = used + 5 * t.reports in
-    Stands (ready a.self.format) a.words.now a.out.now t.next (l.at + q.taken + t.taken) later (later / 5) (l.dropped + t.dropped) (put_mid used (length out - used) out c.by_letter-t.new.out) = and_part ran words.stands in
-    omega (arith, far turn, c.well_formed.1.1.0.1)
+    let ran = and_run c.loop-at.invariant refl c.passed-q.ensures in
+    let part = rw c.no_bytes-ready.ensures at c.one_by_one-t.ensures in
+    let turn = and_part ran part.stands in
+    omega (arith, (far turn).within, c.well_formed.1.0.1)
 
 pub overflow_add-dropped : goal.overflow_add-dropped
 overflow_add-dropped c =
-    let ran : let l = c.loop-at in
-    let a = c.args in
-    let letter = a.self.format in
-    let q = c.passed-q.result in
-    Stands (ready letter) a.words.now a.out.now (ready letter) (l.at + q.taken) (l.used + q.used) ((l.used + q.used) / 5) l.dropped (put_mid l.used (length l.out - l.used) l.out c.passed-q.new.out) = and_run c.loop-at.invariant refl c.passed-q.ensures in
-    let words : let b = c.by_letter-t in
-    let l = c.loop-at in
-    let a = c.args in
-    let q = c.passed-q.result in
-    let at = l.at + q.taken in
-    let used = l.used + q.used in
-    let out = put_mid l.used (length l.out - l.used) l.out c.passed-q.new.out in
-    Begins (ready a.self.format) (take (length a.words.now - at) (drop at a.words.now)) (take (length out - used) (drop used out)) b.result b.new.out = rw c.no_bytes-ready.ensures at c.by_letter-t.ensures in
-    let turn : let t = c.by_letter-t.result in
-    let l = c.loop-at in
-    let a = c.args in
-    let q = c.passed-q.result in
-    let used = l.used + q.used in
-    let out = put_mid l.used (length l.out - l.used) l.out c.passed-q.new.out in
-    let later = used + 5 * t.reports in
-    Stands (ready a.self.format) a.words.now a.out.now t.next (l.at + q.taken + t.taken) later (later / 5) (l.dropped + t.dropped) (put_mid used (length out - used) out c.by_letter-t.new.out) = and_part ran words.stands in
-    omega (arith, far turn, c.well_formed.1.1.0.1)
+    let ran = and_run c.loop-at.invariant refl c.passed-q.ensures in
+    let part = rw c.no_bytes-ready.ensures at c.one_by_one-t.ensures in
+    let turn = and_part ran part.stands in
+    omega (arith, (far turn).few, c.well_formed.1.0.1)
+
+pub returns-then-is_ready-t : goal.returns-then-is_ready-t
+returns-then-is_ready-t c =
+    let calm : let r = c.args.self in r ≡ ready r.format = is_ready c.args.self c.requires (sym c.is_ready.ensures ∙ c.if-not-is_ready.false) in
+    let same : ready c.args.self.format ≡ c.args.self = sym calm in
+    let ran = and_run c.loop-at.invariant refl c.passed-q.ensures in
+    let part = rw c.no_bytes-ready.ensures at c.one_by_one-t.ensures in
+    let turn = and_part ran part.stands in
+    rw c.reading-then-is_ready-t.ensures (handed turn same, part.sound, part.same_format)
+
+pub loop-at-preserved : goal.loop-at-preserved
+loop-at-preserved c =
+    let ran = and_run c.loop-at.invariant refl c.passed-q.ensures in
+    let part = rw c.no_bytes-ready.ensures at c.one_by_one-t.ensures in
+    let turn = and_part ran part.stands in
+    let u = c.one_by_one-t.result.next in
+    let two = neither (not c.is_ready-in-loop-at.result) (eqb c.one_by_one-t.result.taken 0) c.if-is_ready-t.false in
+    leaves turn (is_ready u part.sound (sym c.is_ready-in-loop-at.ensures ∙ not-false _ two.0) ∙ ap ready part.same_format)
+
+pub returns : goal.returns
+returns c =
+    let calm : let r = c.args.self in r ≡ ready r.format = is_ready c.args.self c.requires (sym c.is_ready.ensures ∙ c.if-not-is_ready.false) in
+    let same : ready c.args.self.format ≡ c.args.self = sym calm in
+    rw (c.reading-2.ensures, c.no_bytes-ready.ensures) (handed c.loop-at.invariant same, ap good same ∙ c.requires, refl)

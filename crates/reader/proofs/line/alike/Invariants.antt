@@ -1,11 +1,7 @@
--- `alike`: each word passed lies between the two.
-use Prim.Native.Nat.{◌-◌}
-use lib.ListN.{length}
-use Rattle.reader.specs.Parts.{Alike}
+-- `alike`: those passed lie between the two.
+use Prim.Native.Nat.{ℕ, ◌<◌, ◌≤◌}
+use lib.ListN.{get_or}
 use Rattle.reader.proofs.line.alike.Given as goal
 
 abbrev pub invariant-loop-n : goal.invariant-loop-n
-invariant-loop-n l = Alike l.low l.high l.n l.words
-
-abbrev pub decreases-loop-n : goal.decreases-loop-n
-decreases-loop-n l = length l.words - l.n
+invariant-loop-n l = (i : ℕ) → i < l.n → (l.low ≤ get_or l.words i 0) × (get_or l.words i 0 ≤ l.high)

@@ -6,9 +6,10 @@ use Rattle.reader.specs.Parts.{Stands}
 use Rattle.reader.proofs.Loop.{Far}
 use Rattle.reader.proofs.whole.runs.Given as goal
 
-abbrev pub invariant-loop-at : goal.invariant-loop-at
-invariant-loop-at l =
-    Stands (ready l.letter) l.words l.initial.out (ready l.letter) l.at l.used (l.used / 5) 0 l.out × Far (ready l.letter) l.words l.initial.out l.at l.used (l.used / 5) 0 l.out
+abbrev pub invariant-loop-taken : goal.invariant-loop-taken
+invariant-loop-taken l =
+    Stands (ready l.letter) l.words l.initial.out (ready l.letter) l.taken l.used (l.used / 5) 0 l.out
+    × Far (ready l.letter) l.words l.initial.out l.taken l.used (l.used / 5) 0 l.out
 
-abbrev pub decreases-loop-at : goal.decreases-loop-at
-decreases-loop-at l = length l.words - l.at
+abbrev pub decreases-loop-taken : goal.decreases-loop-taken
+decreases-loop-taken l = length l.words - l.taken

@@ -7,8 +7,9 @@ use mathlib.Core.List.{List}
 use native.Mathlib.Omega.{arith}
 use lib.ListN.{get_or}
 use borrow.Author.Tests.{not-true, not-false}
+use Rattle.wire.specs.Line.{size_by}
 use Rattle.reader.specs.Whole.{fits_word, whole_by}
-use Rattle.reader.proofs.WholeReports.{three_or_more, or_five}
+use Rattle.reader.proofs.WholeReports.{three_or_more, either, five_bytes}
 use Rattle.reader.proofs.whole.whole.Goals as goal
 
 module _ (letter size : ℕ) (words : List ℕ) where
@@ -24,27 +25,27 @@ module _ (letter size : ℕ) (words : List ℕ) where
   five e f = rw (e, f)
 
 pub bounds-words-0 : goal.bounds-words-0
-bounds-words-0 c = omega (arith, three_or_more c.requires.0, c.requires.1)
+bounds-words-0 c = omega (arith, three_or_more (either c.args.letter c.requires.0))
 
 pub returns-then-not-fits : goal.returns-then-not-fits
-returns-then-not-fits c = none c.args.letter c.args.size c.args.words.now c.requires.0 (sym c.fits.ensures ∙ not-true _ c.if-not-fits.true-raw)
+returns-then-not-fits c = none c.args.letter (size_by c.args.letter) c.args.words.now (either c.args.letter c.requires.0) (sym c.fits.ensures ∙ not-true _ c.if-not-fits.true-raw)
 
 pub bounds-words-1 : goal.bounds-words-1
-bounds-words-1 c = omega (arith, three_or_more c.requires.0, c.requires.1)
+bounds-words-1 c = omega (arith, three_or_more (either c.args.letter c.requires.0))
 
 pub bounds-words-2 : goal.bounds-words-2
-bounds-words-2 c = omega (arith, three_or_more c.requires.0, c.requires.1)
+bounds-words-2 c = omega (arith, three_or_more (either c.args.letter c.requires.0))
 
 pub returns-then-size-eq3 : goal.returns-then-size-eq3
 returns-then-size-eq3 c = rw (c.fits-2.ensures, c.fits-3.ensures)
-    (three c.args.letter c.args.size c.args.words.now c.if-size-eq3.true (sym c.fits.ensures ∙ not-false _ c.if-not-fits.false-raw))
+    (three c.args.letter (size_by c.args.letter) c.args.words.now (sym c.size.ensures ∙ c.if-size-eq3.true) (sym c.fits.ensures ∙ not-false _ c.if-not-fits.false-raw))
 
 pub bounds-words-3 : goal.bounds-words-3
-bounds-words-3 c = omega (arith, or_five c.requires.0 c.if-size-eq3.false, c.requires.1)
+bounds-words-3 c = omega (arith, five_bytes c.args.letter c.requires.0 (λ e. c.if-size-eq3.false (c.size.ensures ∙ e)), c.requires.1)
 
 pub bounds-words-4 : goal.bounds-words-4
-bounds-words-4 c = omega (arith, or_five c.requires.0 c.if-size-eq3.false, c.requires.1)
+bounds-words-4 c = omega (arith, five_bytes c.args.letter c.requires.0 (λ e. c.if-size-eq3.false (c.size.ensures ∙ e)), c.requires.1)
 
 pub returns : goal.returns
 returns c = rw (c.fits-2.ensures, c.fits-3.ensures, c.fits-4.ensures, c.fits-5.ensures)
-    (five c.args.letter c.args.size c.args.words.now (or_five c.requires.0 c.if-size-eq3.false) (sym c.fits.ensures ∙ not-false _ c.if-not-fits.false-raw))
+    (five c.args.letter (size_by c.args.letter) c.args.words.now (five_bytes c.args.letter c.requires.0 (λ e. c.if-size-eq3.false (c.size.ensures ∙ e))) (sym c.fits.ensures ∙ not-false _ c.if-not-fits.false-raw))
