@@ -7,4 +7,4 @@ use Rattle.mbridge.proofs.format.Goals as goal
 
 pub returns : goal.returns
 unfolding bridge_behind lines_for
-returns c = record { next = ap (λ (n : NewBridge). n.bridge) c.fresh-new.ensures; lines = c.bytes_to-end.ensures }
+returns c = record { next = ap (λ (n : NewBridge). n.bridge) c.fresh.ensures; lines = c.bytes_to.ensures }

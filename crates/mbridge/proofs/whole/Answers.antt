@@ -1,42 +1,13 @@
-use borrow.Author.Rules.{rules}
-use native.Mathlib.Omega.{arith}
-use Prim.Native.Nat.{suc, ◌-◌}
-use mathlib.Core.Path.{◌≡◌, refl, ◌∙◌, ap}
-use mathlib.Core.Bool.{cond}
-use lib.ListN.{length}
-use Rattle.listing.specs.Scanning.{passed, most_bytes}
+-- It begins at the first byte.
+use Rattle.std.proofs.Common.{ap}
 use Rattle.listing.specs.declared.Lister.{Lister}
 use Rattle.bridge.specs.declared.NewBridge.{NewBridge}
-use Rattle.mbridge.specs.Blocks.{Left}
-use Rattle.shell.proofs.Laws.{falls_off}
-use Rattle.mbridge.proofs.Turns.{starts}
+use Rattle.mbridge.proofs.Turns.{starts, is_ready}
 use Rattle.mbridge.proofs.whole.Goals as goal
 
-pub loop-went-init : goal.loop-went-init
-loop-went-init c =
-    let lister = c.fresh-lister in
-    let new = c.fresh-new in
-    (starts c.args.turn.now c.requires.0 lister.result.scanner new.result.bridge (ap (λ (m : Lister). m.scanner) lister.ensures) (ap (λ (n : NewBridge). n.bridge) new.ensures), refl, refl)
+pub run-requires-clause-reads : goal.run-requires-clause-reads
+run-requires-clause-reads c = is_ready _ (ap (λ (m : Lister). m.scanner) c.fresh.ensures) (ap (λ (n : NewBridge). n.bridge) c.fresh-2.ensures)
 
-pub block-went-requires : goal.block-went-requires
-block-went-requires c =
-    let l = c.loop-went in
-    let y = c.loop-went-test.true in
-    record {
-      ready = (l.invariant.0.ready y, omega (arith, l.invariant.1, c.requires.1), omega (arith, l.invariant.2, c.requires.2));
-      stands = l.invariant.0.stands y;
-    }
-
-pub loop-went-smaller : goal.loop-went-smaller
-loop-went-smaller c =
-    let l = c.loop-went in
-    let b = c.block-went in
-    rw c.loop-went-test.true (falls_off b.result.on (most_bytes - passed b.result.scanner) (most_bytes - passed l.went.scanner) b.ensures.scanner_bound)
-
-pub loop-went-preserved : goal.loop-went-preserved
-loop-went-preserved c =
-    let l = c.loop-went in
-    let b = c.block-went in
-    let same_input : length b.new.input ≡ length l.input = search rules in
-    let same_out : length b.new.out ≡ length l.out = search rules in
-    (b.ensures.left, same_input ∙ l.invariant.1, same_out ∙ l.invariant.2)
+pub run-requires-clause-stands : goal.run-requires-clause-stands
+run-requires-clause-stands c =
+    starts _ (ap (λ (m : Lister). m.scanner) c.fresh.ensures) (ap (λ (n : NewBridge). n.bridge) c.fresh-2.ensures) c.args.system.now.turn c.requires.0
