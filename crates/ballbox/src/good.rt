@@ -168,27 +168,13 @@ impl BallBox {
     pub fn good(self) -> bool
         ensures { GoodPromise self result }
     {
-        if !self.settings.good() {
-            return false;
-        }
-        if !self.track.good() {
-            return false;
-        }
-        if !self.going.good(self.settings.format) {
-            return false;
-        }
-        if !self.dormant_rightly() {
-            return false;
-        }
-        if !self.memory.good() {
-            return false;
-        }
-        if !self.remembers_rightly() {
-            return false;
-        }
-        if !self.memory.shows_rightly(self.settings.format, self.going) {
-            return false;
-        }
-        self.marks()
+        self.settings.good()
+            && self.track.good()
+            && self.going.good(self.settings.format)
+            && self.dormant_rightly()
+            && self.memory.good()
+            && self.remembers_rightly()
+            && self.memory.shows_rightly(self.settings.format, self.going)
+            && self.marks()
     }
 }

@@ -41,7 +41,8 @@ impl Memory {
     pub(crate) fn showing_first(mut self) -> Memory
         ensures { result ≡ showing_first self }
     {
-        self.showing = u8::from(self.any());
+        let any = self.any();
+        self.showing = u8::from(any);
         self
     }
 

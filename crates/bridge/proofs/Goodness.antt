@@ -18,10 +18,9 @@ use Rattle.bridge.specs.Remembered.{no_base, good_base}
 use Rattle.bridge.specs.Good.{good}
 use Rattle.fold.specs.Calls.{line, call}
 use Rattle.fold.proofs.Calls.{call_line}
-use Rattle.bridge.specs.Line.{Long, bridges, converts}
+use Rattle.bridge.specs.Line.{Converted, Long, bridges, converts}
 use Rattle.bridge.specs.Promises.{NewBridge, FreshPromise, ConvertPromise, with_none, new_in, fresh_of}
 use Rattle.bridge.specs.declared.Bridge.{Bridge}
-use Rattle.bridge.specs.declared.Converted.{Converted}
 use Rattle.bridge.proofs.Keeps.{word_keeps}
 use Rattle.bridge.proofs.Counted.{lawful}
 

@@ -6,10 +6,9 @@ use mathlib.Core.List.{List, ◌++◌}
 use lib.ListN.{length}
 use Rattle.fold.specs.Calls.{unused, as_one}
 use Rattle.fold.proofs.Calls as calls
-use Rattle.bridge.specs.Line.{whole, converts}
+use Rattle.bridge.specs.Line.{Converted, whole, converts}
 use Rattle.bridge.specs.Promises.{ConvertPromise}
 use Rattle.bridge.specs.declared.Bridge.{Bridge}
-use Rattle.bridge.specs.declared.Converted.{Converted}
 use Rattle.bridge.proofs.Counted.{lawful}
 
 -- of three calls: of p ++ q, of p, and of q with the bridge that came back and the unused part of the slice

@@ -25,10 +25,9 @@ use Rattle.reader.proofs.Word.{word_kept}
 use Rattle.reader.proofs.Bounds.{one_byte}
 use Rattle.bridge.specs.Splitting.{becomes, bytes_all}
 use Rattle.bridge.specs.Good.{good}
-use Rattle.bridge.specs.Line.{Counts, Long, given, behind, bridges, counts, whole, converts, told}
+use Rattle.bridge.specs.Line.{Converted, Counts, Long, given, behind, bridges, counts, whole, converts, told}
 use Rattle.bridge.specs.Parts.{reported_of, Reported, Begins}
 use Rattle.bridge.specs.declared.Bridge.{Bridge}
-use Rattle.bridge.specs.declared.Converted.{Converted}
 use Rattle.bridge.proofs.Counted.{lawful, reports_few}
 
 module _ {b : Bridge} {w : ℕ} (words out : List ℕ) {s : Read} (g : good b ≡ true) (is : s ≡ word_of b.reader w) where

@@ -3,10 +3,9 @@ use Prim.Native.Nat.{ℕ}
 use mathlib.Core.Path.{◌≡◌, sym, ◌∙◌, ap}
 use mathlib.Core.Bool.{Bool}
 use mathlib.Core.List.{List}
-use Rattle.bridge.specs.Line.{Long, told}
+use Rattle.bridge.specs.Line.{Converted, Long, told}
 use Rattle.bridge.specs.Promises.{NewBridge, FreshPromise, GoodPromise, ConvertPromise}
 use Rattle.bridge.specs.declared.Bridge.{Bridge}
-use Rattle.bridge.specs.declared.Converted.{Converted}
 
 pub one_fresh : (letter : ℕ) (a b : NewBridge) → FreshPromise letter a → FreshPromise letter b → a ≡ b
 one_fresh letter a b e f = e ∙ sym f

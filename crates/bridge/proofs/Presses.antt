@@ -26,12 +26,11 @@ use Rattle.reader.proofs.Back.{reported}
 use Rattle.bridge.specs.Remembered.{most_presses, one_more, counted_by, noted}
 use Rattle.bridge.specs.Good.{good}
 use Rattle.fold.specs.Calls.{line}
-use Rattle.bridge.specs.Line.{Long, past_for, bridges}
+use Rattle.bridge.specs.Line.{Converted, Long, past_for, bridges}
 use Rattle.bridge.specs.Promises.{ConvertPromise}
 use Rattle.bridge.specs.Sent.{past_after, changes}
 use Rattle.bridge.specs.declared.Past.{Past}
 use Rattle.bridge.specs.declared.Bridge.{Bridge}
-use Rattle.bridge.specs.declared.Converted.{Converted}
 use Rattle.bridge.proofs.Keeps.{good_reader, word_keeps}
 use Rattle.bridge.proofs.Goodness.{convert_line}
 

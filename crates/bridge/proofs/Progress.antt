@@ -43,14 +43,13 @@ use Rattle.reader.proofs.Steps.{step_each}
 use Rattle.bridge.specs.Remembered.{is_a, move, most_set, summed, since_base, movement, good_base}
 use Rattle.bridge.specs.Splitting.{count_of, becomes, bytes_all}
 use Rattle.bridge.specs.Good.{good}
-use Rattle.bridge.specs.Line.{Long, given, behind, sent_for, bridges}
+use Rattle.bridge.specs.Line.{Converted, Long, given, behind, sent_for, bridges}
 use Rattle.fold.specs.Calls.{line}
 use Rattle.bridge.specs.Promises.{ConvertPromise}
 use Rattle.bridge.specs.Sent.{Told}
 use Rattle.bridge.specs.declared.Base.{Base}
 use Rattle.bridge.specs.declared.Bridge.{Bridge}
 use Rattle.bridge.specs.declared.Move.{Move}
-use Rattle.bridge.specs.declared.Converted.{Converted}
 use Rattle.bridge.proofs.Writing.{three_each, split_length}
 use Rattle.bridge.proofs.Splits.{abs_sum}
 use Rattle.bridge.proofs.Counted.{one_report}

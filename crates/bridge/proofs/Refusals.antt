@@ -19,10 +19,9 @@ use Rattle.reader.specs.Promises as reader
 use Rattle.reader.proofs.Word.{word_number}
 use Rattle.reader.proofs.Refusals.{above}
 use Rattle.bridge.specs.Good.{good}
-use Rattle.bridge.specs.Line.{Long, whole, told, converts}
+use Rattle.bridge.specs.Line.{Converted, Long, whole, told, converts}
 use Rattle.bridge.specs.Promises.{NewBridge, FreshPromise, ConvertPromise, FreshRefusal, ConvertRefusal, with_none, fresh_of}
 use Rattle.bridge.specs.declared.Bridge.{Bridge}
-use Rattle.bridge.specs.declared.Converted.{Converted}
 use Rattle.bridge.proofs.Counted.{lawful}
 
 -- 1: a fresh one of U

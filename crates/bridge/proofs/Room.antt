@@ -13,10 +13,9 @@ use Rattle.reader.specs.State.{Read}
 use Rattle.reader.proofs.Permitted.{step_is}
 use Rattle.reader.proofs.Goodness.{step_word}
 use Rattle.bridge.specs.Good.{good}
-use Rattle.bridge.specs.Line.{given, behind, whole, converts}
+use Rattle.bridge.specs.Line.{Converted, given, behind, whole, converts}
 use Rattle.bridge.specs.Promises.{ConvertPromise}
 use Rattle.bridge.specs.declared.Bridge.{Bridge}
-use Rattle.bridge.specs.declared.Converted.{Converted}
 use Rattle.bridge.proofs.Counted.{lawful}
 use Rattle.bridge.proofs.Keeps.{good_reader}
 

@@ -18,14 +18,13 @@ use Rattle.reader.proofs.Permitted.{steps_are}
 use Rattle.reader.proofs.Goodness.{step_word}
 use Rattle.bridge.specs.Splitting.{bytes_all}
 use Rattle.bridge.specs.Good.{good}
-use Rattle.bridge.specs.Line.{Given, Long, sent_for, past_for, bridges, heard_in, sent_in, converts}
+use Rattle.bridge.specs.Line.{Converted, Given, Long, sent_for, past_for, bridges, heard_in, sent_in, converts}
 use Rattle.bridge.specs.Line as long
 use Rattle.fold.specs.Calls.{line}
 use Rattle.bridge.specs.Promises.{ConvertPromise}
 use Rattle.bridge.specs.Sent.{sends, past_after, Told}
 use Rattle.bridge.specs.declared.Past.{Past}
 use Rattle.bridge.specs.declared.Bridge.{Bridge}
-use Rattle.bridge.specs.declared.Converted.{Converted}
 use Rattle.bridge.proofs.Counted.{sent_bytes, three_sent, sum_is}
 use Rattle.bridge.proofs.Keeps.{good_reader, word_keeps}
 use Rattle.bridge.proofs.Goodness.{convert_line}

@@ -25,7 +25,7 @@ use Rattle.bridge.specs.Promises.{NewBridge, FreshPromise, ConvertPromise, fresh
 use Rattle.bridge.specs.Sent.{sends, past_after}
 use Rattle.bridge.specs.declared.Past.{Past}
 use Rattle.bridge.specs.declared.Bridge.{Bridge}
-use Rattle.bridge.specs.declared.Converted.{Converted}
+use Rattle.bridge.specs.Line.{Converted}
 use Rattle.bridge.proofs.Goodness.{fresh_is_good}
 use Rattle.bridge.proofs.Progress.{Passed, passed}
 use Rattle.bridge.proofs.Writing.{three_each, bytes_append}

@@ -1,9 +1,11 @@
 -- "line words of any format in, V bytes out": a line of words, word by word, and a lent slice. "The rest is as in the long read."
-use Rattle.std.specs.Prelude.{ℕ, ◌+◌, ◌*◌, List, [], ◌∷◌, ◌++◌, map, length}
+use Rattle.std.specs.Prelude.{ℕ, ◌+◌, ◌*◌, List, [], ◌∷◌, ◌++◌, map, length, Option, None, Some}
 use Rattle.fold.specs.Fold.{Machine}
 use Rattle.fold.specs.Calls.{Call}
 use Rattle.fold.specs.Calls as fold
-use Rattle.wire.specs.Numbers.{bad_state}
+use Rattle.wire.specs.Numbers.{success, bad_state}
+use Rattle.wire.specs.Refusals.{number_of}
+use Rattle.wire.specs.declared.refusal.Refusal.{Refusal}
 use Rattle.wire.specs.declared.Report.{Report}
 use Rattle.reader.specs.Rules.{word_of}
 use Rattle.reader.specs.Counts.{reports_in, dropped_in}
@@ -15,7 +17,7 @@ use Rattle.bridge.specs.Splitting.{becomes, bytes_all}
 use Rattle.bridge.specs.Good.{good}
 use Rattle.bridge.specs.declared.Past.{Past}
 use Rattle.bridge.specs.declared.Bridge.{Bridge}
-use Rattle.bridge.specs.declared.Converted.{Converted}
+use Rattle.bridge.specs.declared.Converted as declared
 
 -- what is sent for what the reader answers, and what is remembered behind it: silences and breaks are not passed on; neither they nor dropped bytes
 -- touch the base of A, the last middle or the count
@@ -86,6 +88,30 @@ converts =
 -- what it gives back, and every byte of the lent slice after it
 abbrev pub Long : Type 0
 Long = fold.Long Bridge Counts ℕ
+
+-- the answer by itself: a number, 0 where it is not refused, the bridge, and the counts
+pub record Converted : Type 0 where
+  pub refusal : ℕ
+  pub next : Bridge
+  pub taken : ℕ
+  pub reports : ℕ
+  pub sent : ℕ
+  pub dropped : ℕ
+
+abbrev pub number_if : Option Refusal → ℕ
+number_if None = success
+number_if (Some e) = number_of e
+
+abbrev pub converted_in : declared.Converted → Converted
+converted_in a =
+    record {
+      refusal = number_if a.refusal;
+      next = a.next;
+      taken = a.taken;
+      reports = a.reports;
+      sent = a.sent;
+      dropped = a.dropped;
+    }
 
 abbrev pub whole : Converted → List ℕ → Long
 whole a out = record { refusal = a.refusal; next = a.next; taken = a.taken; counts = counts a.reports a.sent a.dropped; out = out }

@@ -6,9 +6,8 @@ use Rattle.wire.specs.declared.Report.{Report}
 use Rattle.reader.specs.declared.Reader.{Reader}
 use Rattle.bridge.specs.Remembered.{noted}
 use Rattle.bridge.specs.Splitting.{becomes, bytes_all}
-use Rattle.bridge.specs.Line.{Long, whole, converts}
+use Rattle.bridge.specs.Line.{Converted, Long, whole, converts}
 use Rattle.bridge.specs.declared.Bridge.{Bridge}
-use Rattle.bridge.specs.declared.Converted.{Converted}
 
 -- a report that came in, with the reader behind it: its V reports, or, where they have no room, none
 unfoldable pub reported_of : Bridge → Reader → Report → List ℕ → Long

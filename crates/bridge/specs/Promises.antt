@@ -11,9 +11,8 @@ use Rattle.reader.specs.declared.Reader.{Reader}
 use Rattle.bridge.specs.Remembered.{none}
 use Rattle.bridge.specs.Good.{good}
 use Rattle.fold.specs.Calls.{with_refusal, stopped, call}
-use Rattle.bridge.specs.Line.{Long, whole, converts}
+use Rattle.bridge.specs.Line.{Converted, Long, whole, converts}
 use Rattle.bridge.specs.declared.Bridge.{Bridge}
-use Rattle.bridge.specs.declared.Converted.{Converted}
 
 -- a fresh bridge has a fresh reader and remembers nothing; 1 as in the reader, with a fresh one of U
 abbrev pub with_none : Reader → Bridge

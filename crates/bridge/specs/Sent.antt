@@ -9,7 +9,7 @@ use Rattle.bridge.specs.Remembered.{noted}
 use Rattle.bridge.specs.Splitting.{becomes, bytes_all}
 use Rattle.bridge.specs.declared.Past.{Past}
 use Rattle.bridge.specs.declared.Bridge.{Bridge}
-use Rattle.bridge.specs.declared.Converted.{Converted}
+use Rattle.bridge.specs.Line.{Converted}
 
 -- the V reports that are sent for them, and what is remembered behind them
 unfoldable pub sends : ℕ → Past → List Report → List Report

@@ -5,11 +5,12 @@ ghost use Rattle.std.specs.Prelude.{◌≡◌};
 ghost use Rattle.wire.specs.Line.{letter_of};
 ghost use Rattle.wire.specs.declared.Format.TheVariants.{FiveByte};
 ghost use Rattle.reader.specs.State.{fresh};
+ghost use Rattle.bridge.specs.Line.{converted_in};
 ghost use Rattle.bridge.specs.Promises.{with_none, new_in, FreshPromise, GoodPromise, ConvertPromise};
 
 use crate::line::converted;
 use reader::Reader;
-use wire::{BAD_STATE, Refusal};
+use wire::Refusal;
 
 mod line;
 mod remembered;
@@ -46,10 +47,10 @@ pub struct Move {
     pub y: i32,
 }
 
-// What a long call gives back: also the words taken, the reports that came in, the V reports written and the bytes dropped.
+// What a long call gives back: why it is refused, if it is, the words taken, the reports that came in, the V reports written and the bytes dropped.
 #[derive(Clone, Copy, Drop)]
 pub struct Converted {
-    pub refusal: u8,
+    pub refusal: Option<Refusal>,
     pub next: Bridge,
     pub taken: usize,
     pub reports: usize,
@@ -90,10 +91,10 @@ impl Bridge {
 
     // A line of words, and the bytes of its V reports to a lent slice.
     pub fn convert(self, words: &[u16], out: &mut [u8]) -> Converted
-        ensures { ConvertPromise self words.now out.old result out.new }
+        ensures { ConvertPromise self words.now out.old (converted_in result) out.new }
     {
         if !self.good() {
-            return converted(BAD_STATE, self, 0, 0, 0, 0);
+            return converted(Some(Refusal::BadState), self, 0, 0, 0, 0);
         }
         self.line(words, out)
     }

@@ -2,17 +2,17 @@
 ghost use Rattle.std.specs.Prelude.{◌≡◌, ℕ, true, ◌≤◌, List, ◌∷◌};
 ghost use Rattle.bridge.specs.Good.{good};
 ghost use Rattle.fold.specs.Calls.{line};
-ghost use Rattle.bridge.specs.Line.{whole, converts};
+ghost use Rattle.bridge.specs.Line.{converted_in, whole, converts};
 ghost use Rattle.bridge.specs.Parts.{Reported, Begins};
 
 use crate::splitting::put;
 use crate::{Bridge, Converted};
 use reader::{Answer, Reader};
-use wire::{Report, SUCCESS};
+use wire::{Refusal, Report};
 
 // A line of which words, reports that came in, V reports and dropped bytes are counted so far.
 pub(crate) fn converted(
-    refusal: u8,
+    refusal: Option<Refusal>,
     next: Bridge,
     taken: usize,
     reports: usize,
@@ -44,35 +44,35 @@ impl Bridge {
 
     // A report that came in: all its V reports to the front of the slice, or, where they have no room, none.
     fn report(self, next: Reader, report: Report, out: &mut [u8]) -> Converted
-        ensures reported { Reported self next report out.old result out.new }
+        ensures reported { Reported self next report out.old (converted_in result) out.new }
         ensures one { result.taken ≤ 1 }
     {
         let m = self.past.moved(self.reader.format, report);
         let n = m.count();
         if out.len() / 3 < n {
-            return converted(SUCCESS, self, 0, 0, 0, 0);
+            return converted(None, self, 0, 0, 0, 0);
         }
         put(report.buttons, n, m, out);
         let b = Bridge {
             reader: next,
             past: self.past.noted(self.reader.format, report),
         };
-        converted(SUCCESS, b, 1, 1, n, 0)
+        converted(None, b, 1, 1, n, 0)
     }
 
     // One word, and its V reports to the front of the places that are left. Where it is refused or they have no room, it isn't taken.
     fn first(self, word: u16, out: &mut [u8]) -> Converted
         requires { good self ≡ true }
-        ensures begins { (words : List ℕ) → Begins self (word ∷ words) out.old result out.new }
+        ensures begins { (words : List ℕ) → Begins self (word ∷ words) out.old (converted_in result) out.new }
         ensures one { result.taken ≤ 1 }
     {
         let step = match self.reader.step(word) {
             Ok(step) => step,
-            Err(refusal) => return converted(refusal.number(), self, 0, 0, 0, 0),
+            Err(refusal) => return converted(Some(refusal), self, 0, 0, 0, 0),
         };
         match step.answer {
-            Answer::Nothing => converted(SUCCESS, self.with(step.next), 1, 0, 0, 0),
-            Answer::Dropped(k) => converted(SUCCESS, self.with(step.next), 1, 0, 0, k as usize),
+            Answer::Nothing => converted(None, self.with(step.next), 1, 0, 0, 0),
+            Answer::Dropped(k) => converted(None, self.with(step.next), 1, 0, 0, k as usize),
             Answer::Report(report) => self.report(step.next, report, out),
         }
     }
@@ -80,7 +80,7 @@ impl Bridge {
     // The words of a line, one after the other.
     pub(crate) fn line(self, words: &[u16], out: &mut [u8]) -> Converted
         requires { good self ≡ true }
-        ensures { whole result out.new ≡ line converts self words.now out.old }
+        ensures { whole (converted_in result) out.new ≡ line converts self words.now out.old }
     {
         let mut b = self;
         let mut used = 0;
@@ -98,6 +98,6 @@ impl Bridge {
             sent += t.sent;
             dropped += t.dropped;
         }
-        converted(SUCCESS, b, words.len(), reports, sent, dropped)
+        converted(None, b, words.len(), reports, sent, dropped)
     }
 }

@@ -6,6 +6,7 @@ ghost use Rattle.driver.specs.Promises.{FreshPromise, FeedPromise, FinishPromise
 use crate::{Driven, Driver, MOST_LINES, Order, Record, Tick, Turn, driving, lines, recorded};
 use ballbox::BallBox;
 use text::Text;
+use wire::BAD_STATE;
 
 // The most bytes of a good line.
 const LONGEST: usize = 15;
@@ -60,7 +61,7 @@ impl Driver {
         ensures { FeedPromise self input.now out.old result out.new }
     {
         if !self.good() {
-            return answer(6, self, 0, 0);
+            return answer(BAD_STATE, self, 0, 0);
         }
         self.ticks(input, out)
     }
@@ -70,7 +71,7 @@ impl Driver {
         ensures { FinishPromise self out.old result out.new }
     {
         if !self.good() {
-            return answer(6, self, 0, 0);
+            return answer(BAD_STATE, self, 0, 0);
         }
         let closed = self.closed(out);
         let last = closed.next;

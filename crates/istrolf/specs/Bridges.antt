@@ -1,10 +1,9 @@
 -- A bridge as C holds it: the same fields, and a number for each mark; and what its functions give back.
 use Rattle.std.specs.Prelude.{ℕ, Bool, ◌&&◌, List}
 use Rattle.wire.specs.Numbers.{bad_state}
-use Rattle.bridge.specs.Line.{Long, told as told_by}
+use Rattle.bridge.specs.Line.{Converted, Long, told as told_by}
 use Rattle.bridge.specs.declared.Bridge.{Bridge}
 use Rattle.bridge.specs.Promises.{NewBridge}
-use Rattle.bridge.specs.declared.Converted.{Converted}
 use Rattle.ballbox.specs.Marks.{mark, marked, is_mark}
 use Rattle.istrolf.specs.Readers as readers
 use Rattle.istrolf.specs.declared.HeldBridge.{HeldBridge}

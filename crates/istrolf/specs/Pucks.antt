@@ -2,10 +2,9 @@
 use Rattle.std.specs.Prelude.{ℕ, List, ℤ}
 use Rattle.fold.specs.Calls.{counts}
 use Rattle.vsxxx.specs.declared.SelfTest.{SelfTest}
-use Rattle.puckreader.specs.Line.{Long}
+use Rattle.puckreader.specs.Line.{PuckReading, Long}
 use Rattle.puckreader.specs.declared.PuckReader.{PuckReader}
 use Rattle.puckreader.specs.State.{PuckRead}
-use Rattle.puckreader.specs.declared.PuckReading.{PuckReading}
 use Rattle.puckreader.specs.declared.PuckAnswer.{PuckAnswer}
 use Rattle.puckreader.specs.declared.PuckAnswer.TheVariants as answer
 use Rattle.istrolf.specs.Readers.{no_report}

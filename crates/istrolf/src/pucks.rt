@@ -1,9 +1,11 @@
 // The VSXXX puck and its reader for C.
 ghost use Rattle.std.specs.Prelude.{◌≡◌};
 ghost use Rattle.ballbox.specs.declared.Event.TheVariants.{Motion, Buttons, Host, Latch, Send, Period};
+ghost use Rattle.puckreader.specs.Line.{reading_in};
 ghost use Rattle.istrolf.specs.Pucks.{no_test, answered, packed_reading};
 ghost use Rattle.istrolf.specs.Promises.{MadePuckPromise, PuckStepPromise, FreshPuckReaderPromise, PuckReaderStepPromise, PuckReadPromise};
 
+use crate::bridges::number_if;
 use crate::readers::no_report;
 use crate::{ReadPuckWord, ReadPuckWords};
 use ballbox::Event;
@@ -102,12 +104,11 @@ fn answered(refusal: u8, next: PuckReader, answer: PuckAnswer) -> ReadPuckWord
 }
 
 fn packed_reading(reading: PuckReading) -> ReadPuckWords
-    ensures { result ≡ packed_reading reading }
+    ensures { result ≡ packed_reading (reading_in reading) }
 {
-    let next = reading.next;
     ReadPuckWords {
-        refusal: reading.refusal,
-        next: next,
+        refusal: number_if(reading.refusal),
+        next: reading.next,
         taken: reading.taken,
         reports: reading.reports,
         dropped: reading.dropped,

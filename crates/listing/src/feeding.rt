@@ -8,18 +8,18 @@ ghost use Rattle.listing.specs.Promises.{FreshPromise, FeedPromise, FinishPromis
 use crate::{Front, Listed, Lister, Scan, Scanner, Turn, WIDTH, batches, items, printing};
 use reader::Reader;
 use text::Text;
+use wire::BAD_STATE;
 
 // The answer of a lister that took and wrote so many bytes.
 fn answer(refusal: u8, next: Lister, taken: usize, written: usize) -> Listed
     ensures { result ≡ record { refusal = refusal; next = next; taken = taken; written = written; ended = next.scanner.ended } }
 {
-    let scanner = next.scanner;
     Listed {
-        refusal: refusal,
-        next: next,
-        taken: taken,
-        written: written,
-        ended: scanner.ended,
+        refusal,
+        next,
+        taken,
+        written,
+        ended: next.scanner.ended,
     }
 }
 
@@ -27,11 +27,7 @@ fn answer(refusal: u8, next: Lister, taken: usize, written: usize) -> Listed
 fn front(next: Lister, taken: usize, used: usize) -> Front
     ensures { result ≡ record { next = next; taken = taken; used = used } }
 {
-    Front {
-        next: next,
-        taken: taken,
-        used: used,
-    }
+    Front { next, taken, used }
 }
 
 // The same at the start of a line, behind n others.
@@ -42,10 +38,10 @@ pub(crate) fn passed(n: u32, reader: Reader, taken: usize, used: usize) -> Front
         scanner: Scanner {
             line: n,
             ended: false,
-            held: [0, 0, 0, 0, 0],
+            held: [0; 5],
             count: 0,
         },
-        reader: reader,
+        reader,
     };
     front(next, taken, used)
 }
@@ -56,15 +52,14 @@ impl Lister {
         ensures { FreshPromise result }
     {
         let new = Reader::fresh(b'U');
-        let reader = new.reader;
         Lister {
             scanner: Scanner {
                 line: 0,
                 ended: false,
-                held: [0, 0, 0, 0, 0],
+                held: [0; 5],
                 count: 0,
             },
-            reader: reader,
+            reader: new.reader,
         }
     }
 
@@ -73,7 +68,7 @@ impl Lister {
         ensures { FeedPromise self input.now out.old result out.new }
     {
         if !self.good() {
-            return answer(6, self, 0, 0);
+            return answer(BAD_STATE, self, 0, 0);
         }
         self.bytes(input, out)
     }
@@ -83,7 +78,7 @@ impl Lister {
         ensures { FinishPromise self out.old result out.new }
     {
         if !self.good() {
-            return answer(6, self, 0, 0);
+            return answer(BAD_STATE, self, 0, 0);
         }
         let t = self.last();
         let text = t.text;
@@ -91,8 +86,7 @@ impl Lister {
         if !text.put(out, 0) {
             return answer(0, self, 0, 0);
         }
-        let next = t.next;
-        answer(0, next, 0, n)
+        answer(0, t.next, 0, n)
     }
 
     // The first byte of a piece, and its text to the front of a slice; none where its text has no room.
@@ -100,15 +94,13 @@ impl Lister {
         requires { 0 < length input.now }
         ensures { Begins self input.now out.old result out.new }
     {
-        let scanner = self.scanner;
-        let t = self.opened(scanner.byte(input[0]));
+        let t = self.opened(self.scanner.byte(input[0]));
         let text = t.text;
         let n = text.len;
         if !text.put(out, 0) {
             return front(self, 0, 0);
         }
-        let next = t.next;
-        front(next, 1, n)
+        front(t.next, 1, n)
     }
 
     // The lines of words at the front of a piece, where it begins with a line.
@@ -149,10 +141,9 @@ impl Lister {
             if f.taken == 0 {
                 return answer(0, m, at, used);
             }
-            let next = f.next;
-            m = next;
-            at = at + f.taken;
-            used = used + f.used;
+            m = f.next;
+            at += f.taken;
+            used += f.used;
         }
         answer(0, m, at, used)
     }
@@ -161,9 +152,7 @@ impl Lister {
     fn good(self) -> bool
         ensures { result ≡ good self }
     {
-        let scanner = self.scanner;
-        let reader = self.reader;
-        scanner.good() & reader.good()
+        self.scanner.good() & self.reader.good()
     }
 
     // The opening, where nothing has been written yet.
@@ -181,18 +170,13 @@ impl Lister {
     fn turn(self, front: Text, scan: Scan) -> Turn
         ensures { result ≡ turn_of front self scan }
     {
-        let reader = self.reader;
-        let found = scan.found;
-        let gave = items::gave(reader, found);
-        let scanner = scan.next;
-        let next = gave.next;
-        let given = gave.given;
+        let gave = items::gave(self.reader, scan.found);
         Turn {
             next: Lister {
-                scanner: scanner,
-                reader: next,
+                scanner: scan.next,
+                reader: gave.next,
             },
-            text: printing::printed(front, WIDTH, given),
+            text: printing::printed(front, WIDTH, gave.given),
         }
     }
 
@@ -207,11 +191,7 @@ impl Lister {
     fn last(self) -> Turn
         ensures { result ≡ turned (last_of self) }
     {
-        let scanner = self.scanner;
-        let closed = self.turn(self.front(), scanner.closed());
-        let next = closed.next;
-        let text = closed.text;
-        let last = next.scanner;
-        next.turn(text, last.end())
+        let closed = self.turn(self.front(), self.scanner.closed());
+        closed.next.turn(closed.text, closed.next.scanner.end())
     }
 }

@@ -33,10 +33,9 @@ pub(crate) fn middle(of: Middle) -> u8
 fn three(out: &mut [u8], at: usize, buttons: Buttons) -> usize
     ensures { slice out.new result ≡ filled_by (slice out.old at) (tab ∷ three buttons) }
 {
-    let mid = buttons.middle;
     let left = Text::byte_to(out, at, b'\t');
     let second = Text::byte_to(out, left, pressed(buttons.left, b'L'));
-    let right = Text::byte_to(out, second, middle(mid));
+    let right = Text::byte_to(out, second, middle(buttons.middle));
     Text::byte_to(out, right, pressed(buttons.right, b'R'))
 }
 
@@ -124,10 +123,7 @@ pub(crate) fn printed(front: Text, width: u8, given: Option<Item>) -> Text
 {
     let mut bytes = front.bytes;
     let len = put(&mut bytes, front.len, width, given);
-    Text {
-        bytes: bytes,
-        len: len,
-    }
+    Text { bytes, len }
 }
 
 // The line of an item.

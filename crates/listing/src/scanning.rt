@@ -18,14 +18,7 @@ pub(crate) fn most_lines() -> u32
 fn ends(found: Found) -> bool
     ensures { result ≡ ends found }
 {
-    match found {
-        Found::Nothing => false,
-        Found::Format(_) => false,
-        Found::Word(_, _) => false,
-        Found::Bad(_) => true,
-        Found::Over => true,
-        Found::End => true,
-    }
+    matches!(found, Found::Bad(_) | Found::Over | Found::End)
 }
 
 // What is found on the line behind n others.
@@ -65,11 +58,11 @@ fn at_line(n: u32, ended: bool, found: Found) -> Scan
     Scan {
         next: Scanner {
             line: n,
-            ended: ended,
-            held: [0, 0, 0, 0, 0],
+            ended,
+            held: [0; 5],
             count: 0,
         },
-        found: found,
+        found,
     }
 }
 
@@ -118,10 +111,9 @@ impl Scanner {
         held[n] = b;
         Scan {
             next: Scanner {
-                line: self.line,
-                ended: self.ended,
-                held: held,
+                held,
                 count: n + 1,
+                ..self
             },
             found: Found::Nothing,
         }

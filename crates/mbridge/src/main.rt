@@ -1,23 +1,31 @@
 // mbridge: a recording of any format on standard input, a recording of V on standard output, for a recorder that knows only V.
 #![tactic(auto)]
 
-ghost use Rattle.std.specs.Prelude.{◌≡◌, true, List, [], ◌∷◌, ◌++◌, ℕ, ◌+◌, ◌*◌, ◌-◌, ◌≤◌, ◌<◌, length};
+ghost use Rattle.std.specs.Prelude.{◌≡◌, true, [], ◌*◌, ◌-◌, ◌≤◌, ◌<◌, length, is_ok};
+ghost use Rattle.std.proofs.Common.{rules};
 ghost use Rattle.text.specs.Growth.{slice, filled_by};
 ghost use Rattle.listing.specs.Scanning.{passed, most_bytes};
 ghost use Rattle.bridge.specs.Good.{good};
 ghost use Rattle.shell.specs.Outside.{Trace};
-ghost use Rattle.shell.specs.Standing.{Stands, Closes, Ends, silent};
+ghost use Rattle.shell.specs.Standing.{Ends};
 ghost use Rattle.mbridge.specs.Lines.{numbered, byte_lines};
 ghost use Rattle.mbridge.specs.Program.{mbridge};
-ghost use Rattle.mbridge.specs.Blocks.{most, Puts, Takes, rest_of, Midway, Steps, Ready, Left};
+ghost use Rattle.mbridge.specs.Blocks.{most, Puts, Takes, rest_of, Ready};
 
 use bridge::Bridge;
 use listing::{Found, Lister, Scanner};
-use shell::Streams;
+use shell::{Failure, Filter, Step, System};
 use text::Text;
 
 // The places that a byte of the input needs at most: a report becomes 33 V reports of three bytes, and the line of a byte has six at most.
 const MOST: usize = 594;
+
+// The scanner of the recording, and the bridge of its format.
+#[derive(Clone, Copy, Drop)]
+struct Bridging {
+    scanner: Scanner,
+    bridge: Bridge,
+}
 
 // The bridge, and the place behind the lines that were put.
 #[derive(Clone, Copy, Drop)]
@@ -26,15 +34,11 @@ struct Put {
     used: usize,
 }
 
-// The scanner of the recording and the bridge of its format, the bytes that are to be shown, whether more is to be read, and whether each read and
-// write went well.
+// The same behind a byte of the recording.
 #[derive(Clone, Copy, Drop)]
-struct Went {
-    scanner: Scanner,
-    bridge: Bridge,
+struct Taken {
+    next: Bridging,
     used: usize,
-    on: bool,
-    well: bool,
 }
 
 // A line of a letter and a number, to a slice at a place, and the place behind it.
@@ -52,10 +56,8 @@ fn lines(out: &mut [u8], at: usize, bytes: &[u8]) -> usize
     ensures { slice out.new result ≡ filled_by (slice out.old at) (byte_lines bytes.now) }
 {
     let mut end = at;
-    let mut i: usize = 0;
-    while i < bytes.len() {
-        end = numbered(out, end, b'B', bytes[i] as u32);
-        i = i + 1;
+    for b in bytes {
+        end = numbered(out, end, b'B', *b as u32);
     }
     end
 }
@@ -65,15 +67,13 @@ fn word(out: &mut [u8], at: usize, bridge: Bridge, n: u32, w: u16) -> Put
     requires { good bridge ≡ true }
     ensures { Puts bridge (Found.Word n w) out.old at result out.new }
 {
-    let words = [w];
     let mut bytes = [0u8; 99];
-    let converted = bridge.convert(&words, &mut bytes);
-    let next = converted.next;
+    let converted = bridge.convert(&[w], &mut bytes);
     let count = 3 * converted.sent;
-    let end = lines(out, at, &bytes[..count]);
+    let used = lines(out, at, &bytes[..count]);
     Put {
-        next: next,
-        used: end,
+        next: converted.next,
+        used,
     }
 }
 
@@ -81,11 +81,14 @@ fn word(out: &mut [u8], at: usize, bridge: Bridge, n: u32, w: u16) -> Put
 fn format(out: &mut [u8], at: usize, bridge: Bridge, letter: u8) -> Put
     ensures { Puts bridge (Found.Format letter) out.old at result out.new }
 {
+<<<<<<< HEAD
     let next = Bridge::fresh(letter).unwrap_or_default();
     let end = Text::bytes_to(out, at, b"F\tV\n");
+=======
+>>>>>>> ca85268e8682ecf966127f05b092e43df933abf9
     Put {
-        next: next,
-        used: end,
+        next: Bridge::fresh(letter).bridge,
+        used: Text::bytes_to(out, at, b"F\tV\n"),
     }
 }
 
@@ -95,126 +98,105 @@ fn found(out: &mut [u8], at: usize, bridge: Bridge, found: Found) -> Put
     ensures { Puts bridge found out.old at result out.new }
 {
     match found {
-        Found::Nothing => Put {
+        Found::Nothing | Found::End => Put {
             next: bridge,
             used: at,
         },
         Found::Format(letter) => format(out, at, bridge, letter),
         Found::Word(n, w) => word(out, at, bridge, n, w),
-        Found::Bad(n) => {
-            let end = numbered(out, at, b'E', n);
-            Put {
-                next: bridge,
-                used: end,
-            }
-        },
-        Found::Over => {
-            let end = Text::bytes_to(out, at, b"E\tover\n");
-            Put {
-                next: bridge,
-                used: end,
-            }
-        },
-        Found::End => Put {
+        Found::Bad(n) => Put {
             next: bridge,
-            used: at,
+            used: numbered(out, at, b'E', n),
+        },
+        Found::Over => Put {
+            next: bridge,
+            used: Text::bytes_to(out, at, b"E\tover\n"),
         },
     }
 }
 
-// A byte of the input, and the lines of what is found at it.
-fn taken(out: &mut [u8], at: usize, scanner: Scanner, bridge: Bridge, b: u8) -> Went
-    requires { good bridge ≡ true }
-    ensures { Takes scanner bridge b out.old at result out.new }
-{
-    let scan = scanner.byte(b);
-    let next = scan.next;
-    let at_it = scan.found;
-    if let Found::Nothing = at_it {
-        return Went {
-            scanner: next,
-            bridge: bridge,
-            used: at,
-            on: !next.ended,
-            well: true,
-        };
-    }
-    let put = found(out, at, bridge, at_it);
-    let after = put.next;
-    Went {
-        scanner: next,
-        bridge: after,
-        used: put.used,
-        on: !next.ended,
-        well: true,
+impl Bridging {
+    // A byte of the input, and the lines of what is found at it.
+    fn byte(self, out: &mut [u8], at: usize, b: u8) -> Taken
+        requires { good self.bridge ≡ true }
+        ensures { Takes self b out.old at result out.new }
+    {
+        let scan = self.scanner.byte(b);
+        let put = found(out, at, self.bridge, scan.found);
+        Taken {
+            next: Bridging {
+                scanner: scan.next,
+                bridge: put.next,
+            },
+            used: put.used,
+        }
     }
 }
 
-// The same, where it has room: what has been put is shown before a byte that might have none.
-fn byte(streams: Streams, turn: &mut u64, out: &mut [u8], went: Went, b: u8) -> Went
-    requires { (good went.bridge ≡ true) × (went.used ≤ length out.old) × (most ≤ length out.old) × (went.on ≡ true) }
-    ensures { Steps b turn.old went out.old turn.new result out.new }
-{
-    let scanner = went.scanner;
-    let bridge = went.bridge;
-    let used = went.used;
-    if out.len() - used >= MOST {
-        return taken(out, used, scanner, bridge, b);
+impl Filter for Bridging {
+    ghost program = { mbridge };
+
+    ghost rest = { rest_of };
+
+    ghost reads = { Ready };
+
+    ghost ends = { λ s. good s.bridge ≡ true };
+
+    ghost left = { λ s. most_bytes - passed s.scanner };
+
+    ghost room = { λ _. 2 * most };
+
+    ghost may_end = { λ s ready. ready.sound };
+
+    ghost room_grows = { Prim.search rules };
+
+    // The bytes of a read, one by one: what has been put is shown before a byte that might have no room, and at the end.
+    fn feed(
+        self,
+        system: &mut System,
+        bytes: &[u8],
+        out: &mut [u8],
+    ) -> Result<Step<Bridging>, Failure> {
+        let mut here = self;
+        let mut used = 0;
+        for b in bytes {
+            if out.len() - used < MOST {
+                system.show(b"mbridge: standard output", &out[..used])?;
+                used = 0;
+            }
+            let taken = here.byte(out, used, *b);
+            here = taken.next;
+            used = taken.used;
+        }
+        system.show(b"mbridge: standard output", &out[..used])?;
+        let over = here.scanner.ended;
+        Ok(if over {
+            Step::Over(here)
+        } else {
+            Step::More(here)
+        })
     }
-    if shell::show(streams, turn, b"mbridge: standard output", &out[..used]) {
-        return taken(out, 0, scanner, bridge, b);
-    }
-    Went {
-        scanner: scanner,
-        bridge: bridge,
-        used: 0,
-        on: false,
-        well: false,
+
+    // The last line, which may lack its newline, and the end.
+    fn finish(self, system: &mut System, out: &mut [u8]) -> Result<(), Failure> {
+        let closed = self.scanner.closed();
+        let put = found(out, 0, self.bridge, closed.found);
+        let end = closed.next.end();
+        let all = found(out, put.used, put.next, end.found);
+        system.show(b"mbridge: standard output", &out[..all.used])
     }
 }
 
-// What is left to be shown at the end of a block.
-fn shown(streams: Streams, turn: &mut u64, out: &[u8], went: Went) -> Went
-    requires { Midway turn.old went out.now [] }
-    ensures { Left turn.new result × (result.scanner ≡ went.scanner) × (result.on ≡ true → went.on ≡ true) }
+// WHAT IS HANDED OUT IS THE RECORDING OF V: nothing is read once the recording has ended.
+fn whole(system: &mut System, input: &mut [u8], out: &mut [u8]) -> Result<(), Failure>
+    requires { Trace system.old.turn [] [] [] × (0 < length input.old) × (2 * most ≤ length out.old) }
+    ensures { Ends mbridge system.new.turn (is_ok result) }
 {
-    if !went.well {
-        return went;
-    }
-    let scanner = went.scanner;
-    let bridge = went.bridge;
-    let used = went.used;
-    let is_shown = shell::show(streams, turn, b"mbridge: standard output", &out[..used]);
-    Went {
-        scanner: scanner,
-        bridge: bridge,
-        used: 0,
-        on: is_shown & went.on,
-        well: is_shown,
-    }
-}
-
-// The bytes of a block, one by one, until a write fails or the recording has ended.
-fn bytes(
-    streams: Streams,
-    turn: &mut u64,
-    out: &mut [u8],
-    scanner: Scanner,
-    bridge: Bridge,
-    input: &[u8],
-) -> Went
-    requires ready { Ready scanner bridge × (0 < length input.now) × (most ≤ length out.old) }
-    requires stands { Stands mbridge turn.old (λ q. rest_of scanner bridge (input.now ++ q)) silent }
-    ensures left { Left turn.new result }
-    ensures scanner_bound { result.on ≡ true → most_bytes - passed result.scanner < most_bytes - passed scanner }
-{
-    let mut here = Went {
-        scanner: scanner,
-        bridge: bridge,
-        used: 0,
-        on: true,
-        well: true,
+    let bridging = Bridging {
+        scanner: Lister::fresh().scanner,
+        bridge: Bridge::fresh(b'U').bridge,
     };
+<<<<<<< HEAD
     let mut i: usize = 0;
     while (i < input.len()) & here.on {
         here = byte(streams, turn, out, here, input[i]);
@@ -297,12 +279,14 @@ fn whole(streams: Streams, turn: &mut u64, input: &mut [u8], out: &mut [u8]) -> 
         went = block(streams, turn, input, out, went.scanner, went.bridge);
     }
     went.well
+=======
+    shell::run(bridging, system, b"mbridge: standard input", input, out)
+>>>>>>> ca85268e8682ecf966127f05b092e43df933abf9
 }
 
 fn main(rt: HostRuntime) {
-    let streams = Streams::of(rt.stdin(), rt.stdout(), rt.stderr());
-    let mut turn = shell::start();
+    let mut system = System::of(rt.stdin(), rt.stdout(), rt.stderr());
     let mut input = [0u8; 4096];
     let mut out = [0u8; 16384];
-    whole(streams, &mut turn, &mut input, &mut out);
+    let _ = whole(&mut system, &mut input, &mut out);
 }

@@ -9,17 +9,13 @@ use text::Text;
 use yard::Yard;
 
 // The first word that cannot be sent is told.
+#[tactic(auto, unfolding(crate::specs::Hearing::judged_by))]
 fn judged(verdict: Verdict, can: bool, line: u32) -> Verdict
     ensures { result ≡ judged_by verdict can line }
 {
-    if can {
-        return verdict;
-    }
     match verdict {
-        Verdict::Yes => Verdict::No(line),
-        Verdict::No(n) => Verdict::No(n),
-        Verdict::Bad(n) => Verdict::Bad(n),
-        Verdict::Over => Verdict::Over,
+        Verdict::Yes if !can => Verdict::No(line),
+        told => told,
     }
 }
 
@@ -70,8 +66,6 @@ impl Judge {
     pub(crate) fn unheard() -> Judge
         ensures { result ≡ unheard }
     {
-        let new = Yard::fresh(b'U');
-        let yard = new.yard;
         Judge {
             scanner: Scanner {
                 line: 0,
@@ -79,7 +73,7 @@ impl Judge {
                 held: [0, 0, 0, 0, 0],
                 count: 0,
             },
-            yard: yard,
+            yard: Yard::fresh(b'U').yard,
             verdict: Verdict::Yes,
         }
     }
@@ -88,46 +82,31 @@ impl Judge {
     fn heard(self, next: Scanner, found: Found) -> Judge
         ensures { result ≡ heard self next found }
     {
-        let yard = self.yard;
-        let verdict = self.verdict;
+        let here = Judge {
+            scanner: next,
+            ..self
+        };
         match found {
-            Found::Nothing => Judge {
-                scanner: next,
-                yard: yard,
-                verdict: verdict,
+            Found::Nothing | Found::End => here,
+            Found::Format(letter) => Judge {
+                yard: Yard::fresh(letter).yard,
+                ..here
             },
-            Found::Format(letter) => {
-                let new = Yard::fresh(letter);
-                let fresh = new.yard;
-                Judge {
-                    scanner: next,
-                    yard: fresh,
-                    verdict: verdict,
-                }
-            }
             Found::Word(line, word) => {
-                let j = yard.step(word);
-                let after = j.next;
+                let told = self.yard.step(word);
                 Judge {
-                    scanner: next,
-                    yard: after,
-                    verdict: judged(verdict, j.can == 1, line),
+                    yard: told.next,
+                    verdict: judged(self.verdict, told.can == 1, line),
+                    ..here
                 }
             }
             Found::Bad(n) => Judge {
-                scanner: next,
-                yard: yard,
                 verdict: Verdict::Bad(n),
+                ..here
             },
             Found::Over => Judge {
-                scanner: next,
-                yard: yard,
                 verdict: Verdict::Over,
-            },
-            Found::End => Judge {
-                scanner: next,
-                yard: yard,
-                verdict: verdict,
+                ..here
             },
         }
     }
@@ -136,11 +115,8 @@ impl Judge {
     fn byte(self, b: u8) -> Judge
         ensures { result ≡ behind_byte self b }
     {
-        let scanner = self.scanner;
-        let s = scanner.byte(b);
-        let next = s.next;
-        let found = s.found;
-        self.heard(next, found)
+        let scan = self.scanner.byte(b);
+        self.heard(scan.next, scan.found)
     }
 
     // Bytes, one after the other.
@@ -148,10 +124,8 @@ impl Judge {
         ensures { result ≡ behind_bytes self bytes.now }
     {
         let mut judge = self;
-        let mut at: usize = 0;
-        while at < bytes.len() {
-            judge = judge.byte(bytes[at]);
-            at = at + 1;
+        for b in bytes {
+            judge = judge.byte(*b);
         }
         judge
     }
@@ -160,14 +134,9 @@ impl Judge {
     pub(crate) fn last(self) -> Judge
         ensures { result ≡ last_of self }
     {
-        let scanner = self.scanner;
-        let s = scanner.closed();
-        let closed = s.next;
-        let found = s.found;
-        let judge = self.heard(closed, found);
-        let e = closed.end();
-        let next = e.next;
-        let end = e.found;
-        judge.heard(next, end)
+        let closed = self.scanner.closed();
+        let end = closed.next.end();
+        self.heard(closed.next, closed.found)
+            .heard(end.next, end.found)
     }
 }

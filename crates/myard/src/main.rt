@@ -1,17 +1,18 @@
 // myard: whether the recording on standard input is a line that a box of ours can send, to standard output.
 #![tactic(auto)]
 
-ghost use Rattle.std.specs.Prelude.{◌-◌, ◌<◌, ◌≡◌, true, false, [], length};
+ghost use Rattle.std.specs.Prelude.{◌-◌, ◌<◌, ◌≡◌, [], length, is_ok};
+ghost use Rattle.std.proofs.Common.{rules};
 ghost use Rattle.shell.specs.Outside.{Trace};
-ghost use Rattle.shell.specs.Standing.{Closes, Ends};
+ghost use Rattle.shell.specs.Standing.{Ends};
 ghost use Rattle.listing.specs.Scanning.{passed, most_bytes};
 ghost use Rattle.myard.specs.Hearing.{said_of};
 ghost use Rattle.myard.specs.Program.{myard};
-ghost use Rattle.myard.specs.Blocks.{On, Within, Left};
+ghost use Rattle.myard.specs.Blocks.{Within};
 
 use crate::judging::line_for;
 use listing::Scanner;
-use shell::Streams;
+use shell::{Failure, Filter, Step, System};
 use yard::Yard;
 
 mod judging;
@@ -33,86 +34,63 @@ pub(crate) struct Judge {
     pub verdict: Verdict,
 }
 
-// How far the recording has been judged, whether more is to be read, and whether each read went well.
-#[derive(Clone, Copy, Drop)]
-struct Went {
-    next: Judge,
-    on: bool,
-    well: bool,
+impl Filter for Judge {
+    ghost program = { myard };
+
+    ghost rest = { said_of };
+
+    ghost reads = { Within };
+
+    ghost ends = { λ _. Unit {0} };
+
+    ghost left = { λ j. most_bytes - passed j.scanner };
+
+    ghost room = { λ _. 0 };
+
+    ghost may_end = { λ j within. tt };
+
+    ghost room_grows = { Prim.search rules };
+
+    // What a read brought is judged, and nothing is read once the recording has ended.
+    fn feed(
+        self,
+        system: &mut System,
+        bytes: &[u8],
+        out: &mut [u8],
+    ) -> Result<Step<Judge>, Failure> {
+        let next = self.bytes(bytes);
+        let over = next.scanner.ended;
+        Ok(if over {
+            Step::Over(next)
+        } else {
+            Step::More(next)
+        })
+    }
+
+    // What is said at the end, where all reads went well.
+    fn finish(self, system: &mut System, out: &mut [u8]) -> Result<(), Failure> {
+        let text = line_for(self.last().verdict);
+        system.show(b"myard: standard output", &text.bytes[..text.len])
+    }
 }
 
-// A block of the input: what a read brought is judged, and more is to be read where the recording has not ended. Where it brought nothing the input is over
-// or cannot be read.
-fn block(streams: Streams, turn: &mut u64, judge: Judge, input: &mut [u8]) -> Went
-    requires within { Within judge × (0 < length input.old) }
-    requires on { On turn.old (said_of judge) }
-    ensures left { Left turn.new result }
-    ensures scanner_bound { result.on ≡ true → most_bytes - passed result.next.scanner < most_bytes - passed judge.scanner }
-{
-    let got = shell::more(streams, turn, b"myard: standard input", input);
-    let n = got.count;
-    if n == 0 {
-        return Went {
-            next: judge,
-            on: false,
-            well: got.well,
-        };
-    }
-    let next = judge.bytes(&input[..n]);
-    let scanner = next.scanner;
-    Went {
-        next: next,
-        on: !scanner.ended,
-        well: true,
-    }
-}
-
-// The blocks, one after the other, until the input is over or the recording has ended: nothing is read after its end.
-fn blocks(streams: Streams, turn: &mut u64, input: &mut [u8]) -> Went
-    requires trace { Trace turn.old [] [] [] }
+// WHAT IS HANDED OUT IS THE JUDGEMENT OF THE RECORDING.
+fn whole(system: &mut System, input: &mut [u8]) -> Result<(), Failure>
+    requires trace { Trace system.old.turn [] [] [] }
     requires input_nonzero { 0 < length input.old }
-    ensures { Left turn.new result × (result.on ≡ false) }
+    ensures { Ends myard system.new.turn (is_ok result) }
 {
-    let mut went = Went {
-        next: Judge::unheard(),
-        on: true,
-        well: true,
-    };
-    while went.on {
-        went = block(streams, turn, went.next, input);
-    }
-    went
-}
-
-// What is said at the end.
-fn say(streams: Streams, turn: &mut u64, judge: Judge) -> bool
-    requires { Closes myard turn.old (said_of judge []) [] }
-    ensures { Ends myard turn.new result }
-{
-    let last = judge.last();
-    let verdict = last.verdict;
-    let text = line_for(verdict);
-    let bytes = text.bytes;
-    let n = text.len;
-    shell::show(streams, turn, b"myard: standard output", &bytes[..n])
-}
-
-// All of it, said where all reads went well: WHAT IS HANDED OUT IS THE JUDGEMENT OF THE RECORDING.
-fn whole(streams: Streams, turn: &mut u64, input: &mut [u8]) -> bool
-    requires trace { Trace turn.old [] [] [] }
-    requires input_nonzero { 0 < length input.old }
-    ensures { Ends myard turn.new result }
-{
-    let went = blocks(streams, turn, input);
-    if went.well {
-        return say(streams, turn, went.next);
-    }
-    false
+    shell::run(
+        Judge::unheard(),
+        system,
+        b"myard: standard input",
+        input,
+        &mut [],
+    )
 }
 
 fn main(rt: HostRuntime) {
-    let streams = Streams::of(rt.stdin(), rt.stdout(), rt.stderr());
-    let mut turn = shell::start();
+    let mut system = System::of(rt.stdin(), rt.stdout(), rt.stderr());
     let mut input = [0u8; 4096];
-    whole(streams, &mut turn, &mut input);
+    let _ = whole(&mut system, &mut input);
 }

@@ -18,11 +18,10 @@ use Rattle.puck.proofs.Refusals as device_refusals
 use Rattle.puck.proofs.Goodness as device_goodness
 use Rattle.puckreader.specs.Rules.{refusing}
 use Rattle.puckreader.specs.Good as readers
-use Rattle.puckreader.specs.Line.{reports_in, reads_line, whole, Bounds}
+use Rattle.puckreader.specs.Line.{PuckReading, reports_in, reads_line, whole, Bounds}
 use Rattle.puckreader.specs.Promises as reader
 use Rattle.puckreader.specs.declared.PuckReader.{PuckReader}
 use Rattle.puckreader.specs.State.{PuckRead}
-use Rattle.puckreader.specs.declared.PuckReading.{PuckReading}
 use Rattle.puckreader.proofs.Permitted as permitted
 use Rattle.puckreader.proofs.Refusals as refusals
 use Rattle.puckreader.proofs.Goodness as goodness

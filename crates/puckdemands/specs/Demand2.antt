@@ -28,12 +28,11 @@ use Rattle.puck.proofs.Goodness.{made_is_good}
 use Rattle.puck.proofs.Sentences as sentences
 use Rattle.puckreader.specs.State.{PuckRead, fresh, kept_in}
 use Rattle.puckreader.specs.Good as readers
-use Rattle.puckreader.specs.Line.{report_of, bytes_reported, dropped_in, byte_in, Found}
+use Rattle.puckreader.specs.Line.{PuckReading, report_of, bytes_reported, dropped_in, byte_in, Found}
 use Rattle.puckreader.specs.Promises as reader
 use Rattle.puckreader.specs.Runs.{StepsPromise, answers, reader_after}
 use Rattle.puckreader.specs.HandedOut.{handing, Took}
 use Rattle.puckreader.specs.declared.PuckReader.{PuckReader}
-use Rattle.puckreader.specs.declared.PuckReading.{PuckReading}
 use Rattle.puckreader.specs.declared.PuckAnswer.TheVariants.{Nothing, Movement, Test}
 use Rattle.puckreader.proofs.There as there_and_back
 use Rattle.puckreader.proofs.Counts as counts

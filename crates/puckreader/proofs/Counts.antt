@@ -11,10 +11,9 @@ use Rattle.fold.proofs.Calls.{call_line, places_sum}
 use Rattle.wire.specs.Numbers.{success}
 use Rattle.puckreader.specs.State.{PuckRead}
 use Rattle.puckreader.specs.Good.{good}
-use Rattle.puckreader.specs.Line.{Long, reading, report_of, handed_out, bytes_reported, dropped_in, byte_in, reads, reads_line, Found}
+use Rattle.puckreader.specs.Line.{PuckReading, Long, reading, report_of, handed_out, bytes_reported, dropped_in, byte_in, reads, reads_line, Found}
 use Rattle.puckreader.specs.Promises.{StepPromise, ReadPromise}
 use Rattle.puckreader.specs.declared.PuckReader.{PuckReader}
-use Rattle.puckreader.specs.declared.PuckReading.{PuckReading}
 use Rattle.puckreader.proofs.Kept.{held}
 use Rattle.puckreader.proofs.Counting.{lawful, word_counts, line_counts}
 use Rattle.puckreader.proofs.Permitted.{step_is}

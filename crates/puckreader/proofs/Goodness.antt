@@ -8,10 +8,9 @@ use Rattle.fold.proofs.Calls as calls
 use Rattle.puckreader.specs.State.{PuckRead}
 use Rattle.puckreader.specs.Good.{good}
 use Rattle.puckreader.specs.Rules.{word_of}
-use Rattle.puckreader.specs.Line.{reads_line}
+use Rattle.puckreader.specs.Line.{PuckReading, reads_line}
 use Rattle.puckreader.specs.Promises.{FreshPromise, StepPromise, ReadPromise, step_of}
 use Rattle.puckreader.specs.declared.PuckReader.{PuckReader}
-use Rattle.puckreader.specs.declared.PuckReading.{PuckReading}
 use Rattle.puckreader.proofs.Kept.{none, held_good}
 use Rattle.puckreader.proofs.Word.{word_good}
 use Rattle.puckreader.proofs.Counting.{lawful}

@@ -25,12 +25,11 @@ use Rattle.vsxxx.specs.Reports.{PuckReport, movement, self_test, six_of, puck_fr
 use Rattle.vsxxx.proofs.Framed.{puck_marked, held_framed, held_shown}
 use Rattle.puckreader.specs.State.{PuckRead, kept_in, told}
 use Rattle.puckreader.specs.Good.{good}
-use Rattle.puckreader.specs.Line.{Long, report_of, handed_out, numbers, reads, reads_line}
+use Rattle.puckreader.specs.Line.{PuckReading, Long, report_of, handed_out, numbers, reads, reads_line}
 use Rattle.puckreader.specs.Promises.{FreshPromise, ReadPromise}
 use Rattle.puckreader.specs.Runs.{StepsPromise, answers}
 use Rattle.puckreader.specs.HandedOut.{handing, Took, HandsOut, HandsOutAt, SoundLine, SoundGoing, finished_reports, Replaced, Within, EndsAt}
 use Rattle.puckreader.specs.declared.PuckReader.{PuckReader}
-use Rattle.puckreader.specs.declared.PuckReading.{PuckReading}
 use Rattle.puckreader.specs.declared.PuckAnswer.{PuckAnswer}
 use Rattle.puckreader.specs.declared.PuckAnswer.TheVariants.{Nothing}
 use Rattle.puckreader.proofs.Kept.{held}

@@ -7,10 +7,9 @@ use lib.ListN.{length}
 use lib.IntN.{ℤ}
 use Rattle.fold.specs.Calls.{unused, as_one}
 use Rattle.fold.proofs.Calls as calls
-use Rattle.puckreader.specs.Line.{whole, reads_line}
+use Rattle.puckreader.specs.Line.{PuckReading, whole, reads_line}
 use Rattle.puckreader.specs.Promises.{ReadPromise}
 use Rattle.puckreader.specs.declared.PuckReader.{PuckReader}
-use Rattle.puckreader.specs.declared.PuckReading.{PuckReading}
 use Rattle.puckreader.proofs.Counting.{lawful}
 
 pub joining : (r : PuckReader) (p q : List ℕ) (out : List ℤ) (a b c : PuckReading) (x y z : List ℤ)

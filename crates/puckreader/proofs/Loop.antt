@@ -17,9 +17,8 @@ use Rattle.fold.proofs.Loops as loops
 use Rattle.puckreader.specs.State.{PuckRead}
 use Rattle.puckreader.specs.Rules.{word_of}
 use Rattle.puckreader.specs.Good.{good}
-use Rattle.puckreader.specs.Line.{report_of, reports_in, dropped_in, numbers, reads, reads_line, whole, Begins}
+use Rattle.puckreader.specs.Line.{PuckReading, report_of, reports_in, dropped_in, numbers, reads, reads_line, whole, Begins}
 use Rattle.puckreader.specs.declared.PuckReader.{PuckReader}
-use Rattle.puckreader.specs.declared.PuckReading.{PuckReading}
 use Rattle.puckreader.proofs.Kept.{held, count_small}
 use Rattle.puckreader.proofs.Counting.{lawful, line_counts, bytes_few}
 

@@ -8,10 +8,9 @@ use lib.Dec.{eqb}
 use lib.IntN.{ℤ, pos, nat_abs}
 use Rattle.vsxxx.specs.SelfTests.{fatal}
 use Rattle.puckreader.specs.State.{PuckRead, numbers_of}
-use Rattle.puckreader.specs.Line.{Long, reading}
+use Rattle.puckreader.specs.Line.{PuckReading, Long, reading}
 use Rattle.puckreader.specs.Promises.{Step, FreshPromise, GoodPromise, StepPromise, ReadPromise, step_of}
 use Rattle.puckreader.specs.declared.PuckReader.{PuckReader}
-use Rattle.puckreader.specs.declared.PuckReading.{PuckReading}
 use Rattle.puckreader.specs.declared.PuckAnswer.{PuckAnswer}
 use Rattle.puckreader.specs.declared.PuckAnswer.TheVariants.{Nothing, Movement, Test, Dropped}
 

@@ -19,10 +19,9 @@ use Rattle.wire.specs.Numbers.{success, bad_state, bad_word, accepted, refusal}
 use Rattle.puckreader.specs.State.{PuckRead}
 use Rattle.puckreader.specs.Rules.{refusing, word_of}
 use Rattle.puckreader.specs.Good.{good}
-use Rattle.puckreader.specs.Line.{reads_line, whole}
+use Rattle.puckreader.specs.Line.{PuckReading, reads_line, whole}
 use Rattle.puckreader.specs.Promises.{StepPromise, StepRefusal, ReadPromise, ReadRefusal, before_bad, step_of}
 use Rattle.puckreader.specs.declared.PuckReader.{PuckReader}
-use Rattle.puckreader.specs.declared.PuckReading.{PuckReading}
 use Rattle.puckreader.proofs.Counting.{lawful}
 use Rattle.puckreader.proofs.Word.{by_rules}
 use Rattle.puckreader.proofs.Permitted.{step_is}

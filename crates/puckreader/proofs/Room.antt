@@ -14,10 +14,9 @@ use Rattle.wire.specs.Numbers.{success}
 use Rattle.puckreader.specs.State.{PuckRead}
 use Rattle.puckreader.specs.Good.{good}
 use Rattle.puckreader.specs.Rules.{word_of}
-use Rattle.puckreader.specs.Line.{Long, reports_in, reads_line, whole, Bounds}
+use Rattle.puckreader.specs.Line.{PuckReading, Long, reports_in, reads_line, whole, Bounds}
 use Rattle.puckreader.specs.Promises.{StepPromise, ReadPromise}
 use Rattle.puckreader.specs.declared.PuckReader.{PuckReader}
-use Rattle.puckreader.specs.declared.PuckReading.{PuckReading}
 use Rattle.puckreader.proofs.Counting.{lawful, bytes_few}
 use Rattle.puckreader.proofs.Counts.{read_counts}
 use Rattle.puckreader.proofs.Permitted.{step_is}

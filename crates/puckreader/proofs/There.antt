@@ -36,12 +36,11 @@ use Rattle.vsxxx.proofs.Framed.{puck_marked, held_framed, held_shown}
 use Rattle.puckreader.specs.State.{PuckRead, fresh, kept_in, told}
 use Rattle.puckreader.specs.Rules.{answered, word_of}
 use Rattle.puckreader.specs.Good.{good}
-use Rattle.puckreader.specs.Line.{reads, handed_out}
+use Rattle.puckreader.specs.Line.{PuckReading, reads, handed_out}
 use Rattle.puckreader.specs.Promises.{StepPromise, ReadPromise}
 use Rattle.puckreader.specs.Runs.{StepsPromise, answers, reader_after}
 use Rattle.puckreader.specs.HandedOut.{handing, Took}
 use Rattle.puckreader.specs.declared.PuckReader.{PuckReader}
-use Rattle.puckreader.specs.declared.PuckReading.{PuckReading}
 use Rattle.puckreader.specs.declared.PuckAnswer.{PuckAnswer}
 use Rattle.puckreader.specs.declared.PuckAnswer.TheVariants.{Nothing, Movement, Test, Dropped}
 use Rattle.puckreader.proofs.Kept.{Held, none, one, two, three, held, held_good, keep_none, keep_one, keep_two, keep_move, keep_test}

@@ -11,7 +11,7 @@ use Rattle.numbers.specs.Bits.{number, bit, bits}
 use Rattle.frames.specs.Frame.{move_of}
 use Rattle.fold.specs.Fold.{run}
 use Rattle.fold.specs.Calls.{sum, line, call}
-use Rattle.puckreader.specs.Line.{Long}
+use Rattle.puckreader.specs.Line.{PuckReading, Long}
 use Rattle.wire.specs.Places.{like, fits_first, fits_later}
 use Rattle.vsxxx.specs.SelfTests.{test_of, is_test, is_buttons}
 use Rattle.vsxxx.specs.Reports.{size_from, fits_start, fits_behind}
@@ -20,7 +20,6 @@ use Rattle.puckreader.specs.Rules.{word_of}
 use Rattle.puckreader.specs.Good.{good}
 use Rattle.puckreader.specs.Promises.{Step, FreshPromise, GoodPromise, StepPromise, ReadPromise, step_of}
 use Rattle.puckreader.specs.declared.PuckReader.{PuckReader}
-use Rattle.puckreader.specs.declared.PuckReading.{PuckReading}
 
 -- a fresh reader that has a byte; and one that counts one
 pub fresh_with_byte : FreshPromise (reader (0xA0 ∷ 0 ∷ 0 ∷ []) 0) → ⊥

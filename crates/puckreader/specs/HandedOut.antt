@@ -5,11 +5,10 @@ use Rattle.frames.specs.Words.{line_words}
 use Rattle.wire.specs.Numbers.{success}
 use Rattle.vsxxx.specs.Reports.{PuckReport, movement, self_test, six_of, PuckMessage, puck_bytes, HeldByPuck, shown_by_puck}
 use Rattle.puckreader.specs.State.{PuckRead}
-use Rattle.puckreader.specs.Line.{handed_out, numbers}
+use Rattle.puckreader.specs.Line.{PuckReading, handed_out, numbers}
 use Rattle.puckreader.specs.Promises.{FreshPromise, ReadPromise}
 use Rattle.puckreader.specs.Runs.{StepsPromise, answers}
 use Rattle.puckreader.specs.declared.PuckReader.{PuckReader}
-use Rattle.puckreader.specs.declared.PuckReading.{PuckReading}
 use Rattle.puckreader.specs.declared.PuckAnswer.{PuckAnswer}
 use Rattle.puckreader.specs.declared.PuckAnswer.TheVariants.{Nothing, Movement, Test}
 

@@ -1,15 +1,17 @@
 -- "Over many words": a line of words, word by word, and a lent slice; what is counted.
-use Rattle.std.specs.Prelude.{ℕ, ◌+◌, ◌*◌, ◌≤◌, ◌≡◌, cond, List, [], ◌∷◌, ◌++◌, length, take, drop, ℤ}
+use Rattle.std.specs.Prelude.{ℕ, ◌+◌, ◌*◌, ◌≤◌, ◌≡◌, cond, List, [], ◌∷◌, ◌++◌, length, take, drop, ℤ, Option, None, Some}
 use Rattle.frames.specs.Words.{is_byte}
 use Rattle.fold.specs.Fold.{Machine}
 use Rattle.fold.specs.Calls.{Call, Counts, counts, reporting}
 use Rattle.fold.specs.Calls as calls
-use Rattle.wire.specs.Numbers.{bad_state}
+use Rattle.wire.specs.Numbers.{success, bad_state}
+use Rattle.wire.specs.Refusals.{number_of}
+use Rattle.wire.specs.declared.refusal.Refusal.{Refusal}
 use Rattle.vsxxx.specs.Reports.{PuckReport, movement, self_test, six_of, size_of_report}
 use Rattle.puckreader.specs.Rules.{word_of}
 use Rattle.puckreader.specs.Good.{good}
 use Rattle.puckreader.specs.declared.PuckReader.{PuckReader}
-use Rattle.puckreader.specs.declared.PuckReading.{PuckReading}
+use Rattle.puckreader.specs.declared.PuckReading as declared
 use Rattle.puckreader.specs.declared.PuckAnswer.{PuckAnswer}
 use Rattle.puckreader.specs.declared.PuckAnswer.TheVariants.{Nothing, Movement, Test, Dropped}
 
@@ -63,6 +65,21 @@ reads_line = record { machine = reads; tally = reporting 6 reports_in dropped_in
 -- what it gives back ("words taken, reports written, bytes dropped"), and every number of the lent slice after it
 abbrev pub Long : Type 0
 Long = calls.Long PuckReader Counts ℤ
+
+-- the answer by itself: a number, 0 where it is not refused, the reader, and the counts
+pub record PuckReading : Type 0 where
+  pub refusal : ℕ
+  pub next : PuckReader
+  pub taken : ℕ
+  pub reports : ℕ
+  pub dropped : ℕ
+
+abbrev pub number_if : Option Refusal → ℕ
+number_if None = success
+number_if (Some e) = number_of e
+
+abbrev pub reading_in : declared.PuckReading → PuckReading
+reading_in a = record { refusal = number_if a.refusal; next = a.next; taken = a.taken; reports = a.reports; dropped = a.dropped }
 
 abbrev pub whole : PuckReading → List ℤ → Long
 whole a out = record { refusal = a.refusal; next = a.next; taken = a.taken; counts = counts a.reports a.dropped; out = out }

@@ -5,9 +5,8 @@ use Rattle.wire.specs.Numbers.{bad_state, bad_word, RefusesRightly}
 use Rattle.puckreader.specs.State.{PuckRead, fresh, numbers_of}
 use Rattle.puckreader.specs.Rules.{refusing, word_of}
 use Rattle.puckreader.specs.Good as readers
-use Rattle.puckreader.specs.Line.{Long, whole, reads_line}
+use Rattle.puckreader.specs.Line.{PuckReading, Long, whole, reads_line}
 use Rattle.puckreader.specs.declared.PuckReader.{PuckReader}
-use Rattle.puckreader.specs.declared.PuckReading.{PuckReading}
 
 abbrev pub FreshPromise : PuckReader → Type 0
 FreshPromise r = r ≡ fresh

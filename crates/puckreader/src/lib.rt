@@ -2,11 +2,13 @@
 #![tactic(auto)]
 
 ghost use Rattle.puckreader.specs.Rules.{read_in};
+ghost use Rattle.puckreader.specs.Line.{reading_in};
 ghost use Rattle.puckreader.specs.Promises.{FreshPromise, StepPromise, ReadPromise};
 
+use crate::line::reading;
 use crate::rules::holding;
 use vsxxx::SelfTest;
-use wire::{BAD_STATE, Refusal, Report};
+use wire::{Refusal, Report};
 
 mod good;
 mod line;
@@ -36,10 +38,10 @@ pub struct PuckStep {
     pub answer: PuckAnswer,
 }
 
-// What a long read gives back: also the words taken, the reports written and the bytes dropped.
+// What a long read gives back: why it is refused, if it is, the words taken, the reports written and the bytes dropped.
 #[derive(Clone, Copy, Drop)]
 pub struct PuckReading {
-    pub refusal: u8,
+    pub refusal: Option<Refusal>,
     pub next: PuckReader,
     pub taken: usize,
     pub reports: usize,
@@ -66,16 +68,10 @@ impl PuckReader {
 
     // A line of words, and the numbers of its reports to a lent slice.
     pub fn read(self, words: &[u16], out: &mut [i16]) -> PuckReading
-        ensures { ReadPromise self words.now out.old result out.new }
+        ensures { ReadPromise self words.now out.old (reading_in result) out.new }
     {
         if !self.good() {
-            return PuckReading {
-                refusal: BAD_STATE,
-                next: self,
-                taken: 0,
-                reports: 0,
-                dropped: 0,
-            };
+            return reading(Some(Refusal::BadState), self, 0, 0, 0);
         }
         self.line(words, out)
     }

@@ -2,12 +2,12 @@
 ghost use Rattle.std.specs.Prelude.{◌≡◌, ℕ, true, ◌≤◌, List, [], ◌∷◌, ◌++◌, cond, leb, pos, length, drop};
 ghost use Rattle.vsxxx.specs.Reports.{movement, self_test, six_of};
 ghost use Rattle.fold.specs.Calls.{line};
-ghost use Rattle.puckreader.specs.Line.{whole, reads_line, Begins};
+ghost use Rattle.puckreader.specs.Line.{reading_in, whole, reads_line, Begins};
 ghost use Rattle.puckreader.specs.Good.{good};
 
 use crate::{PuckAnswer, PuckReader, PuckReading};
 use vsxxx::SelfTest;
-use wire::{Report, SUCCESS};
+use wire::{Refusal, Report};
 
 // An error of so much or more is fatal.
 const FATAL: u8 = 0x20;
@@ -58,8 +58,8 @@ fn put_test(out: &mut [i16], t: SelfTest)
 }
 
 // A line of which words, reports and bytes are counted so far.
-fn reading(
-    refusal: u8,
+pub(crate) fn reading(
+    refusal: Option<Refusal>,
     next: PuckReader,
     taken: usize,
     reports: usize,
@@ -80,29 +80,29 @@ impl PuckReader {
     // One word, and its report to the front of the places that are left. Where it is refused or its report has no room, it isn't taken.
     fn first(self, word: u16, out: &mut [i16]) -> PuckReading
         requires { good self ≡ true }
-        ensures begins { (words : List ℕ) → Begins self (word ∷ words) out.old result out.new }
+        ensures begins { (words : List ℕ) → Begins self (word ∷ words) out.old (reading_in result) out.new }
         ensures one { result.taken ≤ 1 }
     {
         let step = match self.word(word) {
             Ok(step) => step,
-            Err(refusal) => return reading(refusal.number(), self, 0, 0, 0),
+            Err(refusal) => return reading(Some(refusal), self, 0, 0, 0),
         };
         match step.answer {
-            PuckAnswer::Nothing => reading(SUCCESS, step.next, 1, 0, 0),
-            PuckAnswer::Dropped(k) => reading(SUCCESS, step.next, 1, 0, k as usize),
+            PuckAnswer::Nothing => reading(None, step.next, 1, 0, 0),
+            PuckAnswer::Dropped(k) => reading(None, step.next, 1, 0, k as usize),
             PuckAnswer::Movement(r) => {
                 if out.len() < 6 {
-                    return reading(SUCCESS, self, 0, 0, 0);
+                    return reading(None, self, 0, 0, 0);
                 }
                 put_movement(out, r);
-                reading(SUCCESS, step.next, 1, 1, 0)
+                reading(None, step.next, 1, 1, 0)
             }
             PuckAnswer::Test(t) => {
                 if out.len() < 6 {
-                    return reading(SUCCESS, self, 0, 0, 0);
+                    return reading(None, self, 0, 0, 0);
                 }
                 put_test(out, t);
-                reading(SUCCESS, step.next, 1, 1, 0)
+                reading(None, step.next, 1, 1, 0)
             }
         }
     }
@@ -110,7 +110,7 @@ impl PuckReader {
     // The words of a line, one by one, each with the reader that came back and the places that are left.
     pub(crate) fn line(self, words: &[u16], out: &mut [i16]) -> PuckReading
         requires { good self ≡ true }
-        ensures { whole result out.new ≡ line reads_line self words.now out.old }
+        ensures { whole (reading_in result) out.new ≡ line reads_line self words.now out.old }
     {
         let mut r = self;
         let mut used = 0;
@@ -126,6 +126,6 @@ impl PuckReader {
             reports += t.reports;
             dropped += t.dropped;
         }
-        reading(SUCCESS, r, words.len(), reports, dropped)
+        reading(None, r, words.len(), reports, dropped)
     }
 }

@@ -10,6 +10,11 @@ mod pieces;
 mod rewriting;
 mod steps;
 
+// What is given back for a faulty line, and for a line number that does not fit the other width: the numbers of wire's refusals.
+pub(crate) const FAULTY_LINE: u8 = 7;
+
+pub(crate) const TOO_WIDE: u8 = 15;
+
 // The kinds of fields: the number of a line, a count, a number, buttons, and `over`.
 #[derive(Clone, Copy, Drop)]
 pub(crate) enum Kind {

@@ -7,8 +7,9 @@ ghost use Rattle.readback.specs.Parts.{Begins};
 ghost use Rattle.readback.specs.Promises.{FreshPromise, ReadPromise, FinishPromise};
 
 use crate::items::numbers;
-use crate::{Back, Readback};
+use crate::{Back, FAULTY_LINE, Readback};
 use listing::Item;
+use wire::BAD_STATE;
 
 // The bytes of the longest line, without its newline.
 pub(crate) const LONGEST: usize = 26;
@@ -52,7 +53,7 @@ impl Readback {
         ensures { ReadPromise self input.now out.old result out.new }
     {
         if !self.good() {
-            return back(6, self, 0, 0, 0);
+            return back(BAD_STATE, self, 0, 0, 0);
         }
         self.lines(input, out)
     }
@@ -62,12 +63,12 @@ impl Readback {
         ensures { FinishPromise self left result }
     {
         if !self.good() {
-            return back(6, self, 0, 0, 0);
+            return back(BAD_STATE, self, 0, 0, 0);
         }
         if (self.ended == 1) & (left == 0) {
             return back(0, self, 0, 0, 0);
         }
-        back(7, self, 0, 0, self.lines + 1)
+        back(FAULTY_LINE, self, 0, 0, self.lines + 1)
     }
 
     // The first line of a piece, and its item to the front of the places that are left.
@@ -80,10 +81,10 @@ impl Readback {
             if n <= LONGEST {
                 return back(0, self, 0, 0, 0);
             }
-            return back(7, self, 0, 0, self.lines + 1);
+            return back(FAULTY_LINE, self, 0, 0, self.lines + 1);
         }
         let Some(s) = self.step(&input[..n]) else {
-            return back(7, self, 0, 0, self.lines + 1);
+            return back(FAULTY_LINE, self, 0, 0, self.lines + 1);
         };
         match s.given {
             None => back(0, s.next, n + 1, 0, 0),

@@ -8,8 +8,9 @@ ghost use Rattle.readback.specs.Parts.{Rewrites};
 ghost use Rattle.readback.specs.Promises.{RewritePromise};
 
 use crate::pieces::LONGEST;
-use crate::{Readback, Rewritten};
+use crate::{FAULTY_LINE, Readback, Rewritten, TOO_WIDE};
 use listing::Item;
+use wire::BAD_STATE;
 
 // The other of the two widths.
 fn other_width(width: u8) -> u8
@@ -66,7 +67,7 @@ impl Readback {
         ensures { RewritePromise self input.now out.old result out.new }
     {
         if !self.good() {
-            return rewritten(6, self, 0, 0, 0);
+            return rewritten(BAD_STATE, self, 0, 0, 0);
         }
         self.rewrite_lines(input, out)
     }
@@ -81,14 +82,14 @@ impl Readback {
             if n <= LONGEST {
                 return rewritten(0, self, 0, 0, 0);
             }
-            return rewritten(7, self, 0, 0, self.lines + 1);
+            return rewritten(FAULTY_LINE, self, 0, 0, self.lines + 1);
         }
         let Some(s) = self.step(&input[..n]) else {
-            return rewritten(7, self, 0, 0, self.lines + 1);
+            return rewritten(FAULTY_LINE, self, 0, 0, self.lines + 1);
         };
         let width = other_width(s.next.width);
         if !given_fits(width, s.given) {
-            return rewritten(15, self, 0, 0, self.lines + 1);
+            return rewritten(TOO_WIDE, self, 0, 0, self.lines + 1);
         }
         let text = listing::line_at(s.given, s.next.salvage == 1, width);
         if !text.put(out, 0) {

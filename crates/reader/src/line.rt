@@ -108,6 +108,7 @@ impl Reader {
         requires { (letter ≡ self.format) × (good self ≡ true) }
         ensures { Begins self words.now out.old result out.new }
     {
+        let awaits = !wire::marked(letter);
         let mut r = self;
         let mut at: usize = 0;
         let mut dropped: usize = 0;
@@ -123,7 +124,7 @@ impl Reader {
             if (t.reports != 0) | (word == SILENCE) {
                 return reading(SUCCESS, r, at, t.reports, dropped);
             }
-            if !wire::marked(letter) & (t.dropped != 0) & (word <= 255) {
+            if awaits & (t.dropped != 0) & (word <= 255) {
                 let n = alike(0, 255, &words[at..]);
                 at += n;
                 dropped += n;

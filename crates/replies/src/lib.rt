@@ -79,7 +79,8 @@ pub struct ToldStep {
     pub answer: Answer,
 }
 
-// What a long read gives back: also the words taken, the reports written, the bytes dropped, and what became of the reply, of which there is at most one.
+// What a long read gives back: also the words taken, the reports written, the bytes dropped, and what became of the reply, of which there is at most one. Its
+// refusal is a number, that of the report reader's own long read, which is given on; a name here would only be looked up from that number.
 #[derive(Clone, Copy, Drop)]
 pub struct HeardLine {
     pub refusal: u8,

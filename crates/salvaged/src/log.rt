@@ -13,9 +13,9 @@ fn made(letter: u8, count: usize, alone: Option<Item>) -> Heard
     ensures { result ≡ record { letter = letter; count = count; alone = alone } }
 {
     Heard {
-        letter: letter,
-        count: count,
-        alone: alone,
+        letter,
+        count,
+        alone,
     }
 }
 
@@ -63,10 +63,16 @@ fn hear(log: Heard, found: Found, words: &mut [u16]) -> Heard
     requires { Fine log words.old × Numbered found }
     ensures { Hears (heard (log_in log words.old) found) result words.new }
 {
+<<<<<<< HEAD
     let alone = log.alone;
     match alone {
         None => news(log, found, words),
         Some(_) => log,
+=======
+    match log.alone {
+        Given::Nothing => news(log, found, words),
+        Given::One(_) => log,
+>>>>>>> ca85268e8682ecf966127f05b092e43df933abf9
     }
 }
 
@@ -76,12 +82,8 @@ fn end(scanner: Scanner, log: Heard, words: &mut [u16]) -> Heard
     ensures { Hears (heard (heard (log_in log words.old) (closed_of scanner).found) (end_of (closed_of scanner).next).found) result words.new }
 {
     let closed = scanner.closed();
-    let last = closed.found;
-    let behind = hear(log, last, words);
-    let next = closed.next;
-    let ended = next.end();
-    let over = ended.found;
-    hear(behind, over, words)
+    let behind = hear(log, closed.found, words);
+    hear(behind, closed.next.end().found, words)
 }
 
 // The log of an input, byte by byte. Most of them find nothing, and leave the log where it is.
@@ -95,6 +97,7 @@ pub(crate) fn read(input: &[u8], words: &mut [u16]) -> Heard
         held: [0, 0, 0, 0, 0],
         count: 0,
     };
+<<<<<<< HEAD
     let mut log = made(0, 0, None);
     let mut at: usize = 0;
     while at < input.len() {
@@ -104,8 +107,15 @@ pub(crate) fn read(input: &[u8], words: &mut [u16]) -> Heard
         at = at + 1;
         let found = scan.found;
         match found {
+=======
+    let mut log = made(0, 0, Given::Nothing);
+    for byte in input {
+        let scan = scanner.byte(*byte);
+        scanner = scan.next;
+        match scan.found {
+>>>>>>> ca85268e8682ecf966127f05b092e43df933abf9
             Found::Nothing => {}
-            _ => log = hear(log, found, words),
+            found => log = hear(log, found, words),
         }
     }
     end(scanner, log, words)

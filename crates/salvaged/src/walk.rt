@@ -16,11 +16,7 @@ use listing::Item;
 fn reached(at: usize, left: usize, told: Salvaged) -> Step
     ensures { result ≡ record { at = at; left = left; told = told } }
 {
-    Step {
-        at: at,
-        left: left,
-        told: told,
-    }
+    Step { at, left, told }
 }
 
 // The byte of a word.
@@ -86,7 +82,7 @@ fn step(letter: u8, size: usize, words: &[u16], s: Step, out: &mut [u8]) -> Step
     reached(at + 1, 0, left_out(told, at, left, out))
 }
 
-// The words, from the first to the last.
+// The words, from the first to the last. A step is a run or a word, which no `for` takes.
 fn walk(letter: u8, size: usize, words: &[u16], told: Salvaged, out: &mut [u8]) -> Salvaged
     requires { Words letter size words.now }
     ensures { Adds (lines_in letter words.now (pieces (size_by letter) (valid_by letter) words.now)) told out.old result out.new }
@@ -95,8 +91,7 @@ fn walk(letter: u8, size: usize, words: &[u16], told: Salvaged, out: &mut [u8]) 
     while s.at < words.len() {
         s = step(letter, size, words, s, out);
     }
-    let last = s.told;
-    left_out(last, s.at, s.left, out)
+    left_out(s.told, s.at, s.left, out)
 }
 
 // What stands alone, or what the words fall into and then `H` and 0.

@@ -1,3 +1,4 @@
+<<<<<<< HEAD
 use Rattle.bridge.proofs.Goodness.{fresh_or}
 use borrow.Author.Rules.{rules}
 use native.Mathlib.Omega.{arith}
@@ -18,26 +19,18 @@ loop-went-init c =
     let lister = c.fresh-lister in
     let bridge = c.unwrap_or_default-bridge in
     (starts c.args.turn.now c.requires.0 lister.result.scanner bridge.result (ap (λ (m : Lister). m.scanner) lister.ensures) (fresh_or _ _ bridge.ensures ∙ ap (λ (n : NewBridge). n.bridge) c.fresh.ensures), refl, refl)
+=======
+-- It begins at the first byte.
+use Rattle.std.proofs.Common.{ap}
+use Rattle.listing.specs.declared.Lister.{Lister}
+use Rattle.bridge.specs.declared.NewBridge.{NewBridge}
+use Rattle.mbridge.proofs.Turns.{starts, is_ready}
+use Rattle.mbridge.proofs.whole.Goals as goal
 
-pub block-went-requires : goal.block-went-requires
-block-went-requires c =
-    let l = c.loop-went in
-    let y = c.loop-went-test.true in
-    record {
-      ready = (l.invariant.0.ready y, omega (arith, l.invariant.1, c.requires.1), omega (arith, l.invariant.2, c.requires.2));
-      stands = l.invariant.0.stands y;
-    }
+pub run-requires-clause-reads : goal.run-requires-clause-reads
+run-requires-clause-reads c = is_ready _ (ap (λ (m : Lister). m.scanner) c.fresh.ensures) (ap (λ (n : NewBridge). n.bridge) c.fresh-2.ensures)
+>>>>>>> ca85268e8682ecf966127f05b092e43df933abf9
 
-pub loop-went-smaller : goal.loop-went-smaller
-loop-went-smaller c =
-    let l = c.loop-went in
-    let b = c.block-went in
-    rw c.loop-went-test.true (falls_off b.result.on (most_bytes - passed b.result.scanner) (most_bytes - passed l.went.scanner) b.ensures.scanner_bound)
-
-pub loop-went-preserved : goal.loop-went-preserved
-loop-went-preserved c =
-    let l = c.loop-went in
-    let b = c.block-went in
-    let same_input : length b.new.input ≡ length l.input = search rules in
-    let same_out : length b.new.out ≡ length l.out = search rules in
-    (b.ensures.left, same_input ∙ l.invariant.1, same_out ∙ l.invariant.2)
+pub run-requires-clause-stands : goal.run-requires-clause-stands
+run-requires-clause-stands c =
+    starts _ (ap (λ (m : Lister). m.scanner) c.fresh.ensures) (ap (λ (n : NewBridge). n.bridge) c.fresh-2.ensures) c.args.system.now.turn c.requires.0

@@ -44,4 +44,4 @@ returns c =
     let k = c.convert-converted in
     let all = word_all c.args.bridge c.args.w c.requires _ k.result k.new.out (omega arith) k.ensures in
     let text : take (3 * k.result.sent) k.new.out ≡ bytes_all (given c.args.bridge (word_of c.args.bridge.reader c.args.w)).sent = rw all.1 all.2 in
-    record { next = all.0; lines = c.lines-end.ensures ∙ ap (λ (l : List ℕ). filled_by (slice c.args.out.now c.args.at) (byte_lines l)) text }
+    record { next = all.0; lines = c.lines-used.ensures ∙ ap (λ (l : List ℕ). filled_by (slice c.args.out.now c.args.at) (byte_lines l)) text }

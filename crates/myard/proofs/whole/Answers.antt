@@ -1,12 +1,6 @@
--- It is said only where all reads went well.
-use borrow.Author.Rules.{rules}
-use Rattle.shell.proofs.Laws as standing
-use Rattle.myard.specs.Program.{myard}
-use Rattle.myard.proofs.Turns.{closes}
+-- It begins at the first byte.
+use Rattle.myard.proofs.Turns.{begins}
 use Rattle.myard.proofs.whole.Goals as goal
 
-pub say-requires : goal.say-requires
-say-requires c = let b = c.blocks-went in closes b.new.turn b.result b.ensures.0 b.ensures.1 c.if-went.true
-
-pub returns : goal.returns
-returns c = let b = c.blocks-went in standing.fails myard b.new.turn (b.ensures.0.failed c.if-went.false)
+pub run-requires-clause-stands : goal.run-requires-clause-stands
+run-requires-clause-stands c = begins c.args.system.now.turn c.requires.trace c.unheard.result c.unheard.ensures

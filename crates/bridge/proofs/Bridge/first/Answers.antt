@@ -14,7 +14,7 @@ pub returns-in-Err-clause-begins : goal.returns-in-Err-clause-begins
 returns-in-Err-clause-begins c words =
     let r = c.args.self.reader in
     let word = step_is r c.args.word (read_in r (Err c.in-Err.refusal)) c.in-Err.ensures ∙ step_word r c.args.word (good_reader c.args.self c.requires) in
-    rw (c.converted.ensures, c.number.ensures) (stopping words c.args.out.now c.requires word (λ z. absurd (never_success c.in-Err.refusal z)))
+    rw c.converted.ensures (stopping words c.args.out.now c.requires word (λ z. absurd (never_success c.in-Err.refusal z)))
 
 pub returns-in-Nothing-clause-begins : goal.returns-in-Nothing-clause-begins
 returns-in-Nothing-clause-begins c words =

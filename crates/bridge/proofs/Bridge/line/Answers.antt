@@ -6,7 +6,7 @@ use lib.ListN.{length}
 use Rattle.fold.proofs.Loops as loops
 use Rattle.wire.proofs.Letters.{at_most_five}
 use Rattle.reader.proofs.Parts.{below_size_lem}
-use Rattle.bridge.specs.Line.{converts}
+use Rattle.bridge.specs.Line.{converted_in, converts}
 use Rattle.bridge.proofs.Keeps.{good_reader}
 use Rattle.bridge.proofs.Counted.{lawful}
 use Rattle.bridge.proofs.Loop.{far, more, ends_before}
@@ -21,29 +21,29 @@ slice_bounds-first-count c = omega (arith, far c.loop-at.invariant.stands)
 pub returns-then-t-eq0 : goal.returns-then-t-eq0
 returns-then-t-eq0 c =
     let here : c.loop-at.at < length c.args.words.now = omega arith in
-    rw c.converted.ensures (ends_before c.loop-at.invariant.stands here c.first-t.ensures.begins c.if-t-eq0.true)
+    rw c.converted.ensures (ends_before {a = converted_in c.first-t.result} c.loop-at.invariant.stands here c.first-t.ensures.begins c.if-t-eq0.true)
 
 pub overflow_add-reports : goal.overflow_add-reports
 overflow_add-reports c =
     let here : c.loop-at.at < length c.args.words.now = omega arith in
-    omega (arith, far (more c.loop-at.invariant.stands here c.first-t.ensures.begins c.first-t.ensures.one c.if-t-eq0.false), c.well_formed.1.0.1)
+    omega (arith, far (more {a = converted_in c.first-t.result} c.loop-at.invariant.stands here c.first-t.ensures.begins c.first-t.ensures.one c.if-t-eq0.false), c.well_formed.1.0.1)
 
 pub overflow_add-sent : goal.overflow_add-sent
 overflow_add-sent c =
     let here : c.loop-at.at < length c.args.words.now = omega arith in
-    omega (arith, far (more c.loop-at.invariant.stands here c.first-t.ensures.begins c.first-t.ensures.one c.if-t-eq0.false), c.well_formed.1.1.0.1)
+    omega (arith, far (more {a = converted_in c.first-t.result} c.loop-at.invariant.stands here c.first-t.ensures.begins c.first-t.ensures.one c.if-t-eq0.false), c.well_formed.1.1.0.1)
 
 pub overflow_add-dropped : goal.overflow_add-dropped
 overflow_add-dropped c =
     let here : c.loop-at.at < length c.args.words.now = omega arith in
     let r = c.args.self.reader in
-    omega (arith, far (more c.loop-at.invariant.stands here c.first-t.ensures.begins c.first-t.ensures.one c.if-t-eq0.false), below_size_lem r (good_reader c.args.self c.requires), at_most_five r.format, c.well_formed.1.0.1)
+    omega (arith, far (more {a = converted_in c.first-t.result} c.loop-at.invariant.stands here c.first-t.ensures.begins c.first-t.ensures.one c.if-t-eq0.false), below_size_lem r (good_reader c.args.self c.requires), at_most_five r.format, c.well_formed.1.0.1)
 
 pub loop-at-preserved : goal.loop-at-preserved
 loop-at-preserved c =
     let here : c.loop-at.at < length c.args.words.now = omega arith in
     record {
-      stands = more c.loop-at.invariant.stands here c.first-t.ensures.begins c.first-t.ensures.one c.if-t-eq0.false;
+      stands = more {a = converted_in c.first-t.result} c.loop-at.invariant.stands here c.first-t.ensures.begins c.first-t.ensures.one c.if-t-eq0.false;
       sound = (c.first-t.ensures.begins []).sound;
     }
 

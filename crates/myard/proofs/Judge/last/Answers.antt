@@ -1,8 +1,7 @@
--- `last`: the last line, and the end.
-use borrow.Author.Rules.{rules}
+-- The last line, and the end.
 use Rattle.myard.specs.Hearing.{last_of}
 use Rattle.myard.proofs.Judge.last.Goals as goal
 
 pub returns : goal.returns
 unfolding last_of
-returns c = rw (c.heard.ensures, c.end-e.ensures, c.heard-judge.ensures, c.closed-s.ensures)
+returns c = rw (c.heard-2.ensures, c.heard.ensures, c.end-end.ensures, c.closed-closed.ensures)

@@ -1,5 +1,4 @@
 -- `line_for`: each verdict.
-use borrow.Author.Rules.{rules}
 use Rattle.myard.proofs.judging.line_for.Goals as goal
 
 pub returns-in-Yes : goal.returns-in-Yes

@@ -1,5 +1,4 @@
 -- `numbered`: a letter, a tab and a decimal, all of which a text holds.
-use borrow.Author.Rules.{rules}
 use native.Mathlib.Omega.{arith}
 use mathlib.Core.Path.{◌∙◌}
 use mathlib.Core.List.{[], ◌∷◌}

@@ -1,5 +1,4 @@
 -- `over`, byte by byte.
-use borrow.Author.Rules.{rules}
 use native.Mathlib.Omega.{arith}
 use Rattle.myard.proofs.judging.over.Goals as goal
 

@@ -1,5 +1,4 @@
 -- `yes`, byte by byte.
-use borrow.Author.Rules.{rules}
 use native.Mathlib.Omega.{arith}
 use Rattle.myard.proofs.judging.yes.Goals as goal
 

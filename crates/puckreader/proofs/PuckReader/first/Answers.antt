@@ -7,7 +7,7 @@ use Rattle.puckreader.proofs.PuckReader.first.Goals as goal
 
 pub returns-in-Err-clause-begins : goal.returns-in-Err-clause-begins
 returns-in-Err-clause-begins c words =
-    rw (c.reading.ensures, c.number.ensures) (stopping words c.args.out.now c.requires c.in-Err.ensures (λ z. absurd (never_success c.in-Err.refusal z)))
+    rw c.reading.ensures (stopping words c.args.out.now c.requires c.in-Err.ensures (λ z. absurd (never_success c.in-Err.refusal z)))
 
 pub returns-then-out-lt6-clause-begins : goal.returns-then-out-lt6-clause-begins
 returns-then-out-lt6-clause-begins c words =

@@ -4,7 +4,7 @@ use mathlib.Core.List.{[]}
 use native.Mathlib.Omega.{arith}
 use lib.ListN.{length}
 use Rattle.fold.proofs.Loops as loops
-use Rattle.puckreader.specs.Line.{reads_line}
+use Rattle.puckreader.specs.Line.{reading_in, reads_line}
 use Rattle.puckreader.proofs.Counting.{lawful}
 use Rattle.puckreader.proofs.Loop.{few, far, more, ends_before}
 use Rattle.puckreader.proofs.PuckReader.line.Goals as goal
@@ -15,23 +15,23 @@ loop-at-init c = record { stands = loops.stands_none reads_line lawful c.args.se
 pub returns-then-t-eq0 : goal.returns-then-t-eq0
 returns-then-t-eq0 c =
     let here : c.loop-at.at < length c.args.words.now = omega arith in
-    rw c.reading.ensures (ends_before c.loop-at.invariant.stands here c.first-t.ensures.begins c.if-t-eq0.true)
+    rw c.reading.ensures (ends_before {a = reading_in c.first-t.result} c.loop-at.invariant.stands here c.first-t.ensures.begins c.if-t-eq0.true)
 
 pub overflow_add-reports : goal.overflow_add-reports
 overflow_add-reports c =
     let here : c.loop-at.at < length c.args.words.now = omega arith in
-    omega (arith, far (more c.loop-at.invariant.stands here c.first-t.ensures.begins c.first-t.ensures.one c.if-t-eq0.false), c.well_formed.1.1.0.1)
+    omega (arith, far (more {a = reading_in c.first-t.result} c.loop-at.invariant.stands here c.first-t.ensures.begins c.first-t.ensures.one c.if-t-eq0.false), c.well_formed.1.1.0.1)
 
 pub overflow_add-dropped : goal.overflow_add-dropped
 overflow_add-dropped c =
     let here : c.loop-at.at < length c.args.words.now = omega arith in
-    omega (arith, few (more c.loop-at.invariant.stands here c.first-t.ensures.begins c.first-t.ensures.one c.if-t-eq0.false) c.requires, c.well_formed.1.0.1)
+    omega (arith, few (more {a = reading_in c.first-t.result} c.loop-at.invariant.stands here c.first-t.ensures.begins c.first-t.ensures.one c.if-t-eq0.false) c.requires, c.well_formed.1.0.1)
 
 pub loop-at-preserved : goal.loop-at-preserved
 loop-at-preserved c =
     let here : c.loop-at.at < length c.args.words.now = omega arith in
     record {
-      stands = more c.loop-at.invariant.stands here c.first-t.ensures.begins c.first-t.ensures.one c.if-t-eq0.false;
+      stands = more {a = reading_in c.first-t.result} c.loop-at.invariant.stands here c.first-t.ensures.begins c.first-t.ensures.one c.if-t-eq0.false;
       sound = (c.first-t.ensures.begins []).sound;
     }
 

@@ -6,7 +6,7 @@ use Rattle.puckreader.proofs.PuckReader.read.Goals as goal
 
 pub returns-then-not-good : goal.returns-then-not-good
 unfolding call
-returns-then-not-good c = rw (sym c.good.ensures ∙ not-true _ c.if-not-good.true-raw)
+returns-then-not-good c = rw (c.reading.ensures, sym c.good.ensures ∙ not-true _ c.if-not-good.true-raw)
 
 pub line-requires : goal.line-requires
 line-requires c = sym c.good.ensures ∙ not-false _ c.if-not-good.false-raw

@@ -1,5 +1,4 @@
 -- `answers`: 6 for a reader that is not good, and then the line.
-use borrow.Author.Rules.{rules}
 use mathlib.Core.Path.{sym, ◌∙◌}
 use borrow.Author.Tests.{not-true, not-false}
 use Rattle.fold.specs.Calls.{call}

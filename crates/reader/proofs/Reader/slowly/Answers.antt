@@ -61,8 +61,8 @@ returns-then-t-word c =
     let k = stays in
     rw c.reading-then-t-word.ensures (record { stands = turn; stops = λ e. absurd (c.if-t-eq0.false (omega arith)); sound = k.0; same_format = k.1 })
 
-pub offset_bounds-words-at-then-marked-t : goal.offset_bounds-words-at-then-marked-t
-offset_bounds-words-at-then-marked-t c =
+pub offset_bounds-words-at-then-awaits-t : goal.offset_bounds-words-at-then-awaits-t
+offset_bounds-words-at-then-awaits-t c =
     let turn : let l = c.loop-at in
     let a = c.args in
     let t = c.first-t.result in
@@ -85,8 +85,8 @@ slice_bounds-alike-start c =
     Stands a.self a.words.now a.out.now t.next (l.at + t.taken) (5 * t.reports) t.reports (l.dropped + t.dropped) c.first-t.new.out = let i = c.loop-at.invariant in took i.0 i.1 i.2 c.first-t.ensures.0 in
     omega (arith, (far turn).within)
 
-pub overflow_add-at-then-marked-t : goal.overflow_add-at-then-marked-t
-overflow_add-at-then-marked-t c =
+pub overflow_add-at-then-awaits-t : goal.overflow_add-at-then-awaits-t
+overflow_add-at-then-awaits-t c =
     let none : c.first-t.result.reports ≡ 0 = let t = c.first-t.result in eqb-true t.reports 0 (not-false _ (neither (not (eqb t.reports 0)) _ c.if-t-word.false).0) in
     let lost : let l = c.loop-at in
     let a = c.args in
@@ -96,14 +96,14 @@ overflow_add-at-then-marked-t c =
     let i = l.invariant in
     let some = eqb f.result.dropped 0 in
     let byte = leb (get_or c.args.words.now l.at 0) 255 in
-    let both = left (not c.marked.result && not some) byte c.if-marked-t.true in
-    skipped i.0 i.1 i.2 f.ensures.0 none f.ensures.1 (sym (c.marked.ensures ∙ ap marked_by (c.requires.0 ∙ sym i.2)) ∙ not-true _ (left (not c.marked.result) (not some) both))
-    (λ e. holds (sym (not-true _ (right (not c.marked.result) (not some) both)) ∙ eq-eqb _ _ e))
-    (leb-true _ 255 (right (not c.marked.result && not some) byte c.if-marked-t.true)) c.alike-n.ensures in
+    let both = left (not c.marked-awaits.result && not some) byte c.if-awaits-t.true in
+    skipped i.0 i.1 i.2 f.ensures.0 none f.ensures.1 (sym (c.marked-awaits.ensures ∙ ap marked_by (c.requires.0 ∙ sym i.2)) ∙ not-true _ (left (not c.marked-awaits.result) (not some) both))
+    (λ e. holds (sym (not-true _ (right (not c.marked-awaits.result) (not some) both)) ∙ eq-eqb _ _ e))
+    (leb-true _ 255 (right (not c.marked-awaits.result && not some) byte c.if-awaits-t.true)) c.alike-n.ensures in
     omega (arith, (far lost).within, c.well_formed.1.1.0.1)
 
-pub overflow_add-dropped-then-marked-t : goal.overflow_add-dropped-then-marked-t
-overflow_add-dropped-then-marked-t c =
+pub overflow_add-dropped-then-awaits-t : goal.overflow_add-dropped-then-awaits-t
+overflow_add-dropped-then-awaits-t c =
     let none : c.first-t.result.reports ≡ 0 = let t = c.first-t.result in eqb-true t.reports 0 (not-false _ (neither (not (eqb t.reports 0)) _ c.if-t-word.false).0) in
     let lost : let l = c.loop-at in
     let a = c.args in
@@ -113,14 +113,14 @@ overflow_add-dropped-then-marked-t c =
     let i = l.invariant in
     let some = eqb f.result.dropped 0 in
     let byte = leb (get_or c.args.words.now l.at 0) 255 in
-    let both = left (not c.marked.result && not some) byte c.if-marked-t.true in
-    skipped i.0 i.1 i.2 f.ensures.0 none f.ensures.1 (sym (c.marked.ensures ∙ ap marked_by (c.requires.0 ∙ sym i.2)) ∙ not-true _ (left (not c.marked.result) (not some) both))
-    (λ e. holds (sym (not-true _ (right (not c.marked.result) (not some) both)) ∙ eq-eqb _ _ e))
-    (leb-true _ 255 (right (not c.marked.result && not some) byte c.if-marked-t.true)) c.alike-n.ensures in
+    let both = left (not c.marked-awaits.result && not some) byte c.if-awaits-t.true in
+    skipped i.0 i.1 i.2 f.ensures.0 none f.ensures.1 (sym (c.marked-awaits.ensures ∙ ap marked_by (c.requires.0 ∙ sym i.2)) ∙ not-true _ (left (not c.marked-awaits.result) (not some) both))
+    (λ e. holds (sym (not-true _ (right (not c.marked-awaits.result) (not some) both)) ∙ eq-eqb _ _ e))
+    (leb-true _ 255 (right (not c.marked-awaits.result && not some) byte c.if-awaits-t.true)) c.alike-n.ensures in
     omega (arith, (far lost).few, below_size_lem c.args.self c.requires.1, at_most_five c.args.self.format, c.well_formed.1.1.0.1)
 
-pub loop-at-smaller-then-marked-t : goal.loop-at-smaller-then-marked-t
-loop-at-smaller-then-marked-t c =
+pub loop-at-smaller-then-awaits-t : goal.loop-at-smaller-then-awaits-t
+loop-at-smaller-then-awaits-t c =
     let none : c.first-t.result.reports ≡ 0 = let t = c.first-t.result in eqb-true t.reports 0 (not-false _ (neither (not (eqb t.reports 0)) _ c.if-t-word.false).0) in
     let lost : let l = c.loop-at in
     let a = c.args in
@@ -130,14 +130,14 @@ loop-at-smaller-then-marked-t c =
     let i = l.invariant in
     let some = eqb f.result.dropped 0 in
     let byte = leb (get_or c.args.words.now l.at 0) 255 in
-    let both = left (not c.marked.result && not some) byte c.if-marked-t.true in
-    skipped i.0 i.1 i.2 f.ensures.0 none f.ensures.1 (sym (c.marked.ensures ∙ ap marked_by (c.requires.0 ∙ sym i.2)) ∙ not-true _ (left (not c.marked.result) (not some) both))
-    (λ e. holds (sym (not-true _ (right (not c.marked.result) (not some) both)) ∙ eq-eqb _ _ e))
-    (leb-true _ 255 (right (not c.marked.result && not some) byte c.if-marked-t.true)) c.alike-n.ensures in
+    let both = left (not c.marked-awaits.result && not some) byte c.if-awaits-t.true in
+    skipped i.0 i.1 i.2 f.ensures.0 none f.ensures.1 (sym (c.marked-awaits.ensures ∙ ap marked_by (c.requires.0 ∙ sym i.2)) ∙ not-true _ (left (not c.marked-awaits.result) (not some) both))
+    (λ e. holds (sym (not-true _ (right (not c.marked-awaits.result) (not some) both)) ∙ eq-eqb _ _ e))
+    (leb-true _ 255 (right (not c.marked-awaits.result && not some) byte c.if-awaits-t.true)) c.alike-n.ensures in
     omega (arith, (far lost).within)
 
-pub loop-at-preserved-then-marked-t : goal.loop-at-preserved-then-marked-t
-loop-at-preserved-then-marked-t c =
+pub loop-at-preserved-then-awaits-t : goal.loop-at-preserved-then-awaits-t
+loop-at-preserved-then-awaits-t c =
     let stays : let u = c.first-t.result.next in
     (good u ≡ true) × (u.format ≡ c.args.self.format) = let i = c.loop-at.invariant in
     let b = c.first-t.ensures.0 in
@@ -151,10 +151,10 @@ loop-at-preserved-then-marked-t c =
     let i = l.invariant in
     let some = eqb f.result.dropped 0 in
     let byte = leb (get_or c.args.words.now l.at 0) 255 in
-    let both = left (not c.marked.result && not some) byte c.if-marked-t.true in
-    skipped i.0 i.1 i.2 f.ensures.0 none f.ensures.1 (sym (c.marked.ensures ∙ ap marked_by (c.requires.0 ∙ sym i.2)) ∙ not-true _ (left (not c.marked.result) (not some) both))
-    (λ e. holds (sym (not-true _ (right (not c.marked.result) (not some) both)) ∙ eq-eqb _ _ e))
-    (leb-true _ 255 (right (not c.marked.result && not some) byte c.if-marked-t.true)) c.alike-n.ensures in
+    let both = left (not c.marked-awaits.result && not some) byte c.if-awaits-t.true in
+    skipped i.0 i.1 i.2 f.ensures.0 none f.ensures.1 (sym (c.marked-awaits.ensures ∙ ap marked_by (c.requires.0 ∙ sym i.2)) ∙ not-true _ (left (not c.marked-awaits.result) (not some) both))
+    (λ e. holds (sym (not-true _ (right (not c.marked-awaits.result) (not some) both)) ∙ eq-eqb _ _ e))
+    (leb-true _ 255 (right (not c.marked-awaits.result && not some) byte c.if-awaits-t.true)) c.alike-n.ensures in
     let k = stays in
     (lost, k.0, k.1, far lost, λ e. absurd (c.if-t-eq0.false (omega arith)))
 

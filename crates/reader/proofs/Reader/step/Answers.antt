@@ -1,9 +1,6 @@
 -- `step`: a reader that is not good is refused, and then the word.
-use borrow.Author.Rules.{rules}
-use mathlib.Core.Path.{◌≡◌, ap, sym, ◌∙◌}
+use mathlib.Core.Path.{ap, sym, ◌∙◌}
 use borrow.Author.Tests.{not-true, not-false}
-use Rattle.reader.specs.State.{read_in}
-use Rattle.reader.specs.Rules.{word_of}
 use Rattle.reader.specs.Promises.{outcome, step_of}
 use Rattle.reader.proofs.Reader.step.Goals as goal
 

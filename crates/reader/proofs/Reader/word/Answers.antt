@@ -1,5 +1,5 @@
 -- `word`: a byte as it entered, a break, a silence, or none of these.
-use mathlib.Core.Path.{refl, sym, ap}
+use mathlib.Core.Path.{refl, ap}
 use Rattle.wire.specs.Line.{marked_by}
 use borrow.Author.Tests.{le-leb, lt-leb, ne_eqb}
 use Rattle.reader.specs.Rules.{break_of, silence_of, word_of}

@@ -6,11 +6,11 @@ pub hear-behind-requires : goal.hear-behind-requires
 hear-behind-requires c = (c.requires, rw c.closed-closed.ensures (closed_numbered c.args.scanner))
 
 pub hear-requires : goal.hear-requires
-hear-requires c = (c.hear-behind.ensures.fine, rw c.end-ended.ensures (end_numbered _))
+hear-requires c = (c.hear-behind.ensures.fine, rw c.end.ensures (end_numbered _))
 
 pub returns : goal.returns
 returns c =
     let closed = c.closed-closed in
-    let end = c.end-ended in
+    let end = c.end in
     then _ (rw closed.ensures at c.hear-behind.ensures)
     (rw (end.ensures, closed.ensures) at c.hear.ensures)
