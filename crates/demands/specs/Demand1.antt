@@ -78,7 +78,7 @@ use Rattle.bridge.specs.Line as bridge_line
 use Rattle.bridge.specs.Promises as bridge
 use Rattle.bridge.specs.declared.Bridge.{Bridge}
 use Rattle.bridge.specs.Promises.{NewBridge}
-use Rattle.bridge.specs.declared.Converted.{Converted}
+use Rattle.bridge.specs.Line.{Converted}
 use Rattle.bridge.proofs.Permitted as bridge_answers
 use Rattle.bridge.proofs.Refusals as bridge_refusals
 use Rattle.bridge.proofs.Goodness as bridge_goodness

@@ -27,7 +27,7 @@ use Rattle.yard.specs.declared.Checked.{Checked}
 use Rattle.bridge.specs.Promises as bridge
 use Rattle.bridge.specs.declared.Bridge.{Bridge}
 use Rattle.bridge.specs.Promises.{NewBridge}
-use Rattle.bridge.specs.declared.Converted.{Converted}
+use Rattle.bridge.specs.Line.{Converted}
 use Rattle.salvage.specs.Picking.{marked_format, long_log}
 use Rattle.salvage.specs.Promises as salvage
 use Rattle.salvage.specs.declared.Picked.{Picked}

@@ -31,10 +31,9 @@ use Rattle.listing.proofs.Few.{Numbered, numbered_byte, numbered_closed}
 use Rattle.bridge.specs.Remembered.{movement}
 use Rattle.bridge.specs.Splitting.{count_of, rest, report_v, split, becomes, bytes_all}
 use Rattle.bridge.specs.Good.{good}
-use Rattle.bridge.specs.Line.{Long, sent_for, given, behind, whole, bridges, converts}
+use Rattle.bridge.specs.Line.{Converted, Long, sent_for, given, behind, whole, bridges, converts}
 use Rattle.bridge.specs.Promises.{ConvertPromise, fresh_of}
 use Rattle.bridge.specs.declared.Bridge.{Bridge}
-use Rattle.bridge.specs.declared.Converted.{Converted}
 use Rattle.bridge.specs.declared.Move.{Move}
 use Rattle.bridge.proofs.Writing.{accepted_v, three_each, split_length}
 use Rattle.bridge.proofs.Keeps.{word_keeps}

@@ -23,7 +23,6 @@ loop-went-init c =
 -- It begins at the first byte.
 use Rattle.std.proofs.Common.{ap}
 use Rattle.listing.specs.declared.Lister.{Lister}
-use Rattle.bridge.specs.declared.NewBridge.{NewBridge}
 use Rattle.mbridge.proofs.Turns.{starts, is_ready}
 use Rattle.mbridge.proofs.whole.Goals as goal
 
