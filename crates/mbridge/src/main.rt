@@ -81,11 +81,6 @@ fn word(out: &mut [u8], at: usize, bridge: Bridge, n: u32, w: u16) -> Put
 fn format(out: &mut [u8], at: usize, bridge: Bridge, letter: u8) -> Put
     ensures { Puts bridge (Found.Format letter) out.old at result out.new }
 {
-<<<<<<< HEAD
-    let next = Bridge::fresh(letter).unwrap_or_default();
-    let end = Text::bytes_to(out, at, b"F\tV\n");
-=======
->>>>>>> ca85268e8682ecf966127f05b092e43df933abf9
     Put {
         next: Bridge::fresh(letter).bridge,
         used: Text::bytes_to(out, at, b"F\tV\n"),
@@ -196,92 +191,7 @@ fn whole(system: &mut System, input: &mut [u8], out: &mut [u8]) -> Result<(), Fa
         scanner: Lister::fresh().scanner,
         bridge: Bridge::fresh(b'U').bridge,
     };
-<<<<<<< HEAD
-    let mut i: usize = 0;
-    while (i < input.len()) & here.on {
-        here = byte(streams, turn, out, here, input[i]);
-        i = i + 1;
-    }
-    shown(streams, turn, out, here)
-}
-
-// The last line, which may lack its newline, and the end.
-fn last(streams: Streams, turn: &mut u64, out: &mut [u8], scanner: Scanner, bridge: Bridge) -> bool
-    requires { (good bridge ≡ true) × (2 * most ≤ length out.old) × Closes mbridge turn.old (rest_of scanner bridge []) [] }
-    ensures { Ends mbridge turn.new result }
-{
-    let closed = scanner.closed();
-    let next = closed.next;
-    let on_it = closed.found;
-    let put = found(out, 0, bridge, on_it);
-    let end = next.end();
-    let at_end = end.found;
-    let all = found(out, put.used, put.next, at_end);
-    let used = all.used;
-    shell::show(streams, turn, b"mbridge: standard output", &out[..used])
-}
-
-// A block of the input: what a read brought, and where it brought nothing the input is over or cannot be read.
-fn block(
-    streams: Streams,
-    turn: &mut u64,
-    input: &mut [u8],
-    out: &mut [u8],
-    scanner: Scanner,
-    bridge: Bridge,
-) -> Went
-    requires ready { Ready scanner bridge × (0 < length input.old) × (2 * most ≤ length out.old) }
-    requires stands { Stands mbridge turn.old (rest_of scanner bridge) silent }
-    ensures left { Left turn.new result }
-    ensures scanner_bound { result.on ≡ true → most_bytes - passed result.scanner < most_bytes - passed scanner }
-{
-    let got = shell::more(streams, turn, b"mbridge: standard input", input);
-    let n = got.count;
-    if n > 0 {
-        return bytes(streams, turn, out, scanner, bridge, &input[..n]);
-    }
-    if got.well {
-        let is_shown = last(streams, turn, out, scanner, bridge);
-        return Went {
-            scanner: scanner,
-            bridge: bridge,
-            used: 0,
-            on: false,
-            well: is_shown,
-        };
-    }
-    Went {
-        scanner: scanner,
-        bridge: bridge,
-        used: 0,
-        on: false,
-        well: false,
-    }
-}
-
-// The blocks, one after the other, until the input is over, a read or a write fails, or the recording has ended: WHAT IS HANDED OUT IS THE
-// RECORDING OF V.
-fn whole(streams: Streams, turn: &mut u64, input: &mut [u8], out: &mut [u8]) -> bool
-    requires { Trace turn.old [] [] [] × (0 < length input.old) × (2 * most ≤ length out.old) }
-    ensures { Ends mbridge turn.new result }
-{
-    let lister = Lister::fresh();
-    let scanner = lister.scanner;
-    let bridge = Bridge::fresh(b'U').unwrap_or_default();
-    let mut went = Went {
-        scanner: scanner,
-        bridge: bridge,
-        used: 0,
-        on: true,
-        well: true,
-    };
-    while went.on {
-        went = block(streams, turn, input, out, went.scanner, went.bridge);
-    }
-    went.well
-=======
     shell::run(bridging, system, b"mbridge: standard input", input, out)
->>>>>>> ca85268e8682ecf966127f05b092e43df933abf9
 }
 
 fn main(rt: HostRuntime) {

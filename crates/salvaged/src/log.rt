@@ -63,16 +63,9 @@ fn hear(log: Heard, found: Found, words: &mut [u16]) -> Heard
     requires { Fine log words.old × Numbered found }
     ensures { Hears (heard (log_in log words.old) found) result words.new }
 {
-<<<<<<< HEAD
-    let alone = log.alone;
-    match alone {
+    match log.alone {
         None => news(log, found, words),
         Some(_) => log,
-=======
-    match log.alone {
-        Given::Nothing => news(log, found, words),
-        Given::One(_) => log,
->>>>>>> ca85268e8682ecf966127f05b092e43df933abf9
     }
 }
 
@@ -97,23 +90,11 @@ pub(crate) fn read(input: &[u8], words: &mut [u16]) -> Heard
         held: [0, 0, 0, 0, 0],
         count: 0,
     };
-<<<<<<< HEAD
     let mut log = made(0, 0, None);
-    let mut at: usize = 0;
-    while at < input.len() {
-        let scan = scanner.byte(input[at]);
-        let next = scan.next;
-        scanner = next;
-        at = at + 1;
-        let found = scan.found;
-        match found {
-=======
-    let mut log = made(0, 0, Given::Nothing);
     for byte in input {
         let scan = scanner.byte(*byte);
         scanner = scan.next;
         match scan.found {
->>>>>>> ca85268e8682ecf966127f05b092e43df933abf9
             Found::Nothing => {}
             found => log = hear(log, found, words),
         }
