@@ -51,7 +51,6 @@ impl Lister {
     pub fn fresh() -> Lister
         ensures { FreshPromise result }
     {
-        let new = Reader::fresh(b'U');
         Lister {
             scanner: Scanner {
                 line: 0,
@@ -59,7 +58,7 @@ impl Lister {
                 held: [0; 5],
                 count: 0,
             },
-            reader: new.reader,
+            reader: Reader::default(),
         }
     }
 

@@ -62,10 +62,15 @@ fn answered(letter: u8, n: u32, answer: Answer) -> Option<Item>
 fn word(reader: Reader, n: u32, word: u16) -> Gave
     ensures { result ≡ word_gave reader n word }
 {
-    let read = reader.step(word);
-    Gave {
-        next: read.next,
-        given: answered(reader.format, n, read.answer),
+    match reader.step(word) {
+        Ok(step) => Gave {
+            next: step.next,
+            given: answered(reader.format, n, step.answer),
+        },
+        Err(_) => Gave {
+            next: reader,
+            given: None,
+        },
     }
 }
 
@@ -74,7 +79,7 @@ fn format(letter: u8) -> Gave
     ensures { result ≡ format_gave letter }
 {
     Gave {
-        next: Reader::fresh(letter).reader,
+        next: Reader::fresh(letter).unwrap_or_default(),
         given: None,
     }
 }
