@@ -1,4 +1,5 @@
 -- The loop over the lines of a piece, of any machine that follows the reading: where it stands, the first line of what is left, and how it goes on and ends.
+use mathlib.Core.Logic.{◌⊎◌, inl, inr}
 use Rattle.listing.specs.declared.Item.{Item}
 use Rattle.std.proofs.Common.{Option, None, Some}
 use Prim.Native.Nat.{ℕ, suc, ◌+◌, ◌-◌, ◌*◌, ◌<◌, ◌≤◌}
@@ -18,7 +19,7 @@ use Rattle.text.specs.Lengths.{length_to}
 use Rattle.listing.specs.Lines.{newline}
 use Rattle.listing.specs.Items.{items_in}
 use Rattle.readback.specs.Items.{all_numbers}
-use Rattle.readback.specs.Steps.{step_of, good, Step}
+use Rattle.readback.specs.Steps.{step_of, good, Step, faulty}
 use Rattle.readback.specs.Pieces.{cut_in, bytes_in, body_of, faulty_line, reads, longest, lines_of, items_among, back, fault_at, whole, read_lines, pieces_of}
 use Rattle.readback.specs.Parts.{Stands, Begin, Begins}
 use Rattle.readback.specs.declared.Readback.{Readback}
@@ -208,3 +209,10 @@ module _ {r₀ : Readback} {input : List ℕ} {out₀ : List ℤ} {r : Readback}
 
     pub more_read : StandsRead r₀ input out₀ t.next (at + t.taken) (used + 5 * t.items) (items + t.items) (take used out ++ last)
     more_read = record { stands = more reads reading_follows s.stands b; five = omega (arith, s.five) }
+
+-- a faulty line at the front of a piece
+module _ {A X : Type 0} (m : MachineOver (List ℕ) Readback A X) (f : Follows m) (r : Readback) (piece : List ℕ) (out : List X) (g : good r ≡ true) (some : 0 < length piece) where
+  pub fault_stop : ((length_to newline piece ≡ length piece) × (longest < length piece)) ⊎ ((length_to newline piece < length piece) × (faulty r ≡ step_of r (take (length_to newline piece) piece)))
+      → Begin m r piece out faulty_line r 0 0 (r.lines + 1) out
+  fault_stop (inl long) = long_stop m f r piece out g some long.0 long.1
+  fault_stop (inr here) = faulty_stop m f r piece out g (faulty r) here.0 here.1 refl

@@ -1,12 +1,27 @@
 -- A part of a piece, taken apart by a machine over lines: where it stands behind it.
-use Rattle.std.specs.Prelude.{ℕ, ◌*◌, ◌≡◌, true, List, [], ℤ, length, take, drop}
+use Rattle.std.specs.Prelude.{ℕ, ◌+◌, ◌*◌, ◌<◌, ◌≤◌, ◌≡◌, ◌⊎◌, true, List, [], ℤ, length, take, drop, Option, Some, None, Result, Ok, Err}
 use Rattle.fold.specs.Fold.{MachineOver, ran, run, Part}
-use Rattle.readback.specs.Steps.{good}
-use Rattle.readback.specs.Pieces.{bytes_in, reads, lines_of, fault_at}
+use Rattle.text.specs.Lengths.{length_to}
+use Rattle.listing.specs.Lines.{newline}
+use Rattle.readback.specs.Steps.{good, faulty, step_of}
+use Rattle.readback.specs.Pieces.{bytes_in, reads, lines_of, fault_at, longest}
 use Rattle.readback.specs.Rewriting.{rewrites}
 use Rattle.readback.specs.declared.Readback.{Readback}
+use Rattle.readback.specs.declared.Front.{Front}
+use Rattle.readback.specs.declared.Faulty.{Faulty}
 use Rattle.readback.specs.declared.Back.{Back}
 use Rattle.readback.specs.declared.Rewritten.{Rewritten}
+
+-- the line at the front of a piece, as it is answered: not whole yet, and not too long; one that may stand there; or a faulty one, too long for any or out of place
+abbrev pub Fronts : Readback → List ℕ → Result (Option Front) Faulty → Type 0
+Fronts r piece (Ok None) = (length_to newline piece ≡ length piece) × (length piece ≤ longest)
+Fronts r piece (Ok (Some f)) =
+    (length_to newline piece < length piece)
+    × (record { good = true; next = f.next; given = f.given } ≡ step_of r (take (length_to newline piece) piece))
+    × (f.taken ≡ length_to newline piece + 1)
+Fronts r piece (Err e) =
+    ((length_to newline piece ≡ length piece) × (longest < length piece))
+    ⊎ ((length_to newline piece < length piece) × (faulty r ≡ step_of r (take (length_to newline piece) piece)))
 
 module _ {A X : Type 0} (m : MachineOver (List ℕ) Readback A X) where
   -- so many bytes at the front of a piece are taken, whole lines: the reader behind them, and so many places of the slice used

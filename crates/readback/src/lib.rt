@@ -15,6 +15,18 @@ pub(crate) const FAULTY_LINE: u8 = 7;
 
 pub(crate) const TOO_WIDE: u8 = 15;
 
+// A line is faulty.
+#[derive(Clone, Copy, Drop)]
+pub(crate) struct Faulty;
+
+// The line at the front of a piece: the next reader, its item, if it has one, and its bytes with the newline.
+#[derive(Clone, Copy, Drop)]
+pub(crate) struct Front {
+    pub next: Readback,
+    pub given: Option<Item>,
+    pub taken: usize,
+}
+
 // The kinds of fields: the number of a line, a count, a number, buttons, and `over`.
 #[derive(Clone, Copy, Drop)]
 pub(crate) enum Kind {

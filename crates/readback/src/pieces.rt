@@ -3,16 +3,16 @@ ghost use Rattle.std.specs.Prelude.{◌≡◌, true, ◌++◌, ◌<◌, ◌≤�
 ghost use Rattle.readback.specs.Items.{Small, numbers_of};
 ghost use Rattle.readback.specs.Steps.{good};
 ghost use Rattle.readback.specs.Pieces.{back, whole, read_lines, pieces_of};
-ghost use Rattle.readback.specs.Parts.{Begins};
+ghost use Rattle.readback.specs.Parts.{Fronts, Begins};
 ghost use Rattle.readback.specs.Promises.{FreshPromise, ReadPromise, FinishPromise};
 
 use crate::items::numbers;
-use crate::{Back, FAULTY_LINE, Readback};
+use crate::{Back, FAULTY_LINE, Faulty, Front, Readback};
 use listing::Item;
 use wire::BAD_STATE;
 
 // The bytes of the longest line, without its newline.
-pub(crate) const LONGEST: usize = 26;
+const LONGEST: usize = 26;
 
 // The five numbers of an item, to the front of a slice.
 fn put(out: &mut [i32], item: Item)
@@ -71,29 +71,44 @@ impl Readback {
         back(FAULTY_LINE, self, 0, 0, self.lines + 1)
     }
 
+    // The line at the front of a piece: none where it is not whole yet, and faulty where it may not stand there or is longer than any.
+    pub(crate) fn front(self, input: &[u8]) -> Result<Option<Front>, Faulty>
+        requires { (good self ≡ true) × (0 < length input.now) }
+        ensures { Fronts self input.now result }
+    {
+        let n = text::length_to(input, b'\n');
+        if n == input.len() {
+            return if n <= LONGEST { Ok(None) } else { Err(Faulty) };
+        }
+        match self.step(&input[..n]) {
+            Some(line) => Ok(Some(Front {
+                next: line.next,
+                given: line.given,
+                taken: n + 1,
+            })),
+            None => Err(Faulty),
+        }
+    }
+
     // The first line of a piece, and its item to the front of the places that are left.
     fn first(self, input: &[u8], out: &mut [i32]) -> Back
         requires { (good self ≡ true) × (0 < length input.now) }
         ensures { Begins self input.now out.old result out.new }
     {
-        let n = text::length_to(input, b'\n');
-        if n == input.len() {
-            if n <= LONGEST {
-                return back(0, self, 0, 0, 0);
-            }
-            return back(FAULTY_LINE, self, 0, 0, self.lines + 1);
-        }
-        let Some(s) = self.step(&input[..n]) else {
+        let Ok(front) = self.front(input) else {
             return back(FAULTY_LINE, self, 0, 0, self.lines + 1);
         };
-        match s.given {
-            None => back(0, s.next, n + 1, 0, 0),
+        let Some(line) = front else {
+            return back(0, self, 0, 0, 0);
+        };
+        match line.given {
+            None => back(0, line.next, line.taken, 0, 0),
             Some(item) => {
                 if out.len() < 5 {
                     return back(0, self, 0, 0, 0);
                 }
                 put(out, item);
-                back(0, s.next, n + 1, 1, 0)
+                back(0, line.next, line.taken, 1, 0)
             }
         }
     }

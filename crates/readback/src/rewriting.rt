@@ -7,7 +7,6 @@ ghost use Rattle.readback.specs.Pieces.{pieces_of};
 ghost use Rattle.readback.specs.Parts.{Rewrites};
 ghost use Rattle.readback.specs.Promises.{RewritePromise};
 
-use crate::pieces::LONGEST;
 use crate::{FAULTY_LINE, Readback, Rewritten, TOO_WIDE};
 use listing::Item;
 use wire::BAD_STATE;
@@ -77,25 +76,21 @@ impl Readback {
         requires { (good self ≡ true) × (0 < length input.now) }
         ensures { Rewrites self input.now out.old result out.new }
     {
-        let n = text::length_to(input, b'\n');
-        if n == input.len() {
-            if n <= LONGEST {
-                return rewritten(0, self, 0, 0, 0);
-            }
-            return rewritten(FAULTY_LINE, self, 0, 0, self.lines + 1);
-        }
-        let Some(s) = self.step(&input[..n]) else {
+        let Ok(front) = self.front(input) else {
             return rewritten(FAULTY_LINE, self, 0, 0, self.lines + 1);
         };
-        let width = other_width(s.next.width);
-        if !given_fits(width, s.given) {
+        let Some(line) = front else {
+            return rewritten(0, self, 0, 0, 0);
+        };
+        let width = other_width(line.next.width);
+        if !given_fits(width, line.given) {
             return rewritten(TOO_WIDE, self, 0, 0, self.lines + 1);
         }
-        let text = listing::line_at(s.given, s.next.salvage == 1, width);
+        let text = listing::line_at(line.given, line.next.salvage == 1, width);
         if !text.put(out, 0) {
             return rewritten(0, self, 0, 0, 0);
         }
-        rewritten(0, s.next, n + 1, text.len, 0)
+        rewritten(0, line.next, line.taken, text.len, 0)
     }
 
     // The lines, one after the other.
