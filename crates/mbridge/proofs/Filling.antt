@@ -7,7 +7,7 @@ use native.Mathlib.Numerals.{add-one}
 use lib.IntN.{pos}
 use lib.ListN.{length, take, drop, get_or, length-append, length-drop, drop_of_length-le}
 use lib.Seq.{drop-cons, take_at, length-take-le}
-use Rattle.text.specs.Growth.{slice, filled, filled_by}
+use Rattle.text.specs.Growth.{slice, filled_by}
 use Rattle.text.specs.Decimals.{plain, decimal_of, places_of}
 use Rattle.text.specs.declared.Text.{Text}
 use Rattle.text.proofs.Filled.{both_filled, filled_all}

@@ -3,7 +3,6 @@ use Rattle.std.specs.Prelude.{ℕ, ◌≤◌, ◌≡◌, true, List, ◌++◌, l
 use Rattle.text.specs.Growth.{slice, filled_by}
 use Rattle.listing.specs.Scanning.{scanned_byte}
 use Rattle.listing.specs.declared.Found.{Found}
-use Rattle.listing.specs.declared.Scanner.{Scanner}
 use Rattle.listing.proofs.Scanned.{all_found}
 use Rattle.listing.proofs.Ended.{Within}
 use Rattle.bridge.specs.Good.{good}

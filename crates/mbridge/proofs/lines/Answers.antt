@@ -9,8 +9,7 @@ loop-b-preserved c =
     let l = c.loop-b in
     let k = c.numbered-end in
     let bytes = c.args.bytes.now in
-    let long : length k.new.out ≡ length l.out = search rules in
-    (
+    let long : length k.new.out ≡ length l.out = search rules in (
       lines_again (slice l.out l.end) (slice k.new.out k.result) (filled_by (slice c.args.out.now c.args.at) (byte_lines bytes)) bytes l.b-index c.loop-b-test.true k.ensures l.invariant.0,
       long ∙ l.invariant.1,
     )

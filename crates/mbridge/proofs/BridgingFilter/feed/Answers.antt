@@ -26,10 +26,10 @@ loop-b-preserved c =
     let below : i < length bytes = omega arith in
     let ready : Stands mbridge j.system.turn (λ (q : List ℕ). take j.used l.out ++ rest_of l.here (drop i bytes ++ q)) silent × (j.used + most ≤ length l.out) =
     elim j.branch [
-      then-out-used-lt-MOST+in_ok-show w ↦
-        rw (w.system-is, w.used-is)
-        (emptied l.system.turn w.show.new.self.turn l.here l.used l.out (drop i bytes) m w.in_ok-show.ensures.handed, omega (arith, l.invariant.long, c.requires.room.1))
-    | else-out-used-lt-MOST w ↦ rw (w.system-is, w.used-is) (m.stands, omega (arith, m.room, w.if-out-used-lt-MOST.false))
+      | then-out-used-lt-MOST+in_ok-show w ↦
+          rw (w.system-is, w.used-is)
+          (emptied l.system.turn w.show.new.self.turn l.here l.used l.out (drop i bytes) m w.in_ok-show.ensures.handed, omega (arith, l.invariant.long, c.requires.room.1))
+      | else-out-used-lt-MOST w ↦ rw (w.system-is, w.used-is) (m.stands, omega (arith, m.room, w.if-out-used-lt-MOST.false))
     ] in
     let stands = rw (drop-cons bytes i 0 below) at ready.0 in
     let same : length k.new.out ≡ length l.out = search rules in
