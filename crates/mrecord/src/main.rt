@@ -200,6 +200,7 @@ fn third(count: usize, word: &[u8]) -> Option<bool> {
 
 fn main(rt: HostRuntime) {
     let mut system = System::of(rt.stdin(), rt.stdout(), rt.stderr());
+    // Fixed buffers, a word with its length: there is no heap.
     let mut input = [0u8; 512];
     let mut out = [0u8; 4608];
     let mut first_word = [0u8; 8];

@@ -14,7 +14,7 @@ struct Day {
 }
 
 fn is_leap(year: u32) -> bool {
-    (year % 4 == 0) & ((year % 100 != 0) | (year % 400 == 0))
+    year % 4 == 0 && (year % 100 != 0 || year % 400 == 0)
 }
 
 fn year_days(year: u32) -> u32

@@ -75,35 +75,25 @@ fn digit(down: bool) -> u8
 fn left_of(buttons: i32) -> bool
     ensures { (b : Buttons) → Stand buttons b → result ≡ b.left }
 {
-    (buttons == 4)
-        | (buttons == 5)
-        | (buttons == 6)
-        | (buttons == 7)
-        | (buttons == 12)
-        | (buttons == 13)
+    matches!(buttons, 4 | 5 | 6 | 7 | 12 | 13)
 }
 
 fn right_of(buttons: i32) -> bool
     ensures { (b : Buttons) → Stand buttons b → result ≡ b.right }
 {
-    (buttons == 1)
-        | (buttons == 3)
-        | (buttons == 5)
-        | (buttons == 7)
-        | (buttons == 9)
-        | (buttons == 13)
+    matches!(buttons, 1 | 3 | 5 | 7 | 9 | 13)
 }
 
 fn down_of(buttons: i32) -> bool
     ensures { (b : Buttons) → Stand buttons b → result ≡ is_down b.middle }
 {
-    (buttons == 2) | (buttons == 3) | (buttons == 6) | (buttons == 7)
+    matches!(buttons, 2 | 3 | 6 | 7)
 }
 
 fn unknown_of(buttons: i32) -> bool
     ensures { (b : Buttons) → Stand buttons b → result ≡ is_unknown b.middle }
 {
-    (buttons == 8) | (buttons == 9) | (buttons == 12) | (buttons == 13)
+    matches!(buttons, 8 | 9 | 12 | 13)
 }
 
 // The middle button: `?` where it is not known.
@@ -111,27 +101,25 @@ fn middle_of(buttons: i32) -> u8
     ensures { (b : Buttons) → Stand buttons b → result ≡ middle_of b.middle }
 {
     if unknown_of(buttons) {
-        return b'?';
+        b'?'
+    } else {
+        digit(down_of(buttons))
     }
-    digit(down_of(buttons))
 }
 
 // The three buttons, each in a cell of its own.
 fn pressed(row: Text, buttons: i32) -> Text
     ensures { (b : Buttons) → Stand buttons b → result ≡ grown_by row (buttons_of b) }
 {
-    let left = digit(left_of(buttons));
-    let middle = middle_of(buttons);
-    let right = digit(right_of(buttons));
     row.with(b',')
-        .with(left)
+        .with(digit(left_of(buttons)))
         .with(b',')
-        .with(middle)
+        .with(middle_of(buttons))
         .with(b',')
-        .with(right)
+        .with(digit(right_of(buttons)))
 }
 
-// The row of an item.
+// The row of an item, from the five numbers that a read writes for it, as C has them too.
 fn row(kind: i32, line: i32, a: i32, b: i32, c: i32) -> Text
     ensures { (i : Item) → Five kind line a b c i → result ≡ text_of (row_of i) }
 {
@@ -153,7 +141,7 @@ fn row(kind: i32, line: i32, a: i32, b: i32, c: i32) -> Text
     }
 }
 
-// The rows of items, five numbers each, to a buffer from a place on, and the place behind them.
+// The rows of so many items, five numbers each, to a buffer from a place on, and the place behind them.
 fn rows(items: &[i32], count: usize, out: &mut [u8], at: usize) -> usize
     requires among { (is : List Item) × Among count items.now is }
     requires count_in_bounds { at + 40 * count ≤ length out.old }
@@ -190,6 +178,7 @@ fn opened(begins: bool, out: &mut [u8]) -> usize
 }
 
 // What is held and what was read: its rows are written, and the rest is held. With five places for each byte all lines are taken.
+// The whole buffer comes with how much of it is filled, since what is not taken is moved to its front.
 fn listed(
     system: &mut System,
     reader: Readback,
@@ -313,6 +302,7 @@ fn whole(
 
 fn main(rt: HostRuntime) {
     let mut system = System::of(rt.stdin(), rt.stdout(), rt.stderr());
+    // Fixed buffers: there is no heap.
     let mut input = [0u8; 4096];
     let mut items = [0i32; 20480];
     let mut out = [0u8; 163880];

@@ -302,6 +302,7 @@ fn second(count: usize, word: &[u8]) -> Option<u8> {
 
 fn main(rt: HostRuntime) {
     let mut system = System::of(rt.stdin(), rt.stdout(), rt.stderr());
+    // Fixed buffers, a word with its length: there is no heap.
     let mut input = [0u8; 256];
     let mut out = [0u8; 36864];
     let mut first_word = [0u8; 8];

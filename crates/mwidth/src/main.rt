@@ -32,6 +32,7 @@ enum Next {
 }
 
 // What is held and what was read: its lines at the other width are written, and the rest is held. With forty places for each byte all lines are taken.
+// The whole buffer comes with how much of it is filled, since what is not taken is moved to its front.
 fn listed(
     system: &mut System,
     reader: Readback,
@@ -134,6 +135,7 @@ fn whole(system: &mut System, input: &mut [u8], out: &mut [u8]) -> Result<(), Fa
 
 fn main(rt: HostRuntime) {
     let mut system = System::of(rt.stdin(), rt.stdout(), rt.stderr());
+    // Fixed buffers: there is no heap.
     let mut input = [0u8; 4096];
     let mut out = [0u8; 163840];
     let _ = whole(&mut system, &mut input, &mut out);

@@ -1,14 +1,11 @@
 -- The row has room.
 use native.Mathlib.Omega.{arith}
-use mathlib.Core.Path.{refl, ◌∙◌, ap}
+use mathlib.Core.Path.{◌∙◌, ap}
 use mathlib.Core.Bool.{true}
 use Rattle.text.specs.Growth.{grown_by}
 use Rattle.mtable.specs.Table.{salvage_row}
 use Rattle.mtable.proofs.Lines.{put_first}
 use Rattle.mtable.proofs.opened.Goals as goal
-
-pub returns-then-not-begins : goal.returns-then-not-begins
-returns-then-not-begins c = rw c.if-not-begins.true (record { there = omega arith; so = refl }, omega arith)
 
 pub returns : goal.returns
 returns c =
