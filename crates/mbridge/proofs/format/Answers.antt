@@ -1,6 +1,6 @@
 -- A fresh bridge, and the line of V.
 use mathlib.Core.Path.{ap}
-use Rattle.bridge.specs.declared.NewBridge.{NewBridge}
+use Rattle.bridge.specs.Promises.{NewBridge}
 use Rattle.mbridge.specs.Recording.{bridge_behind, lines_for}
 use Rattle.mbridge.proofs.format.Goals as goal
 
