@@ -7,13 +7,11 @@ use lib.ListN.{length, get_or}
 use lib.Dec.{eqb}
 use lib.IntN.{ℤ, pos, nat_abs}
 use Rattle.reader.specs.State.{numbers_of, NewReader, Read}
-use Rattle.reader.specs.Line.{Long, reading}
-use Rattle.reader.specs.Telling.{Told, answers_in}
+use Rattle.reader.specs.Line.{Reading, Long, reading}
+use Rattle.reader.specs.Telling.{Answers, Told, answers_in}
 use Rattle.reader.specs.Promises.{Step, FreshPromise, GoodPromise, StepPromise, ReadPromise, AnswersPromise, step_of}
 use Rattle.reader.specs.Runs.{steps_of, StepsPromise}
 use Rattle.reader.specs.declared.Reader.{Reader}
-use Rattle.reader.specs.declared.Reading.{Reading}
-use Rattle.reader.specs.declared.Answers.{Answers}
 use Rattle.reader.specs.declared.Answer.{Answer}
 use Rattle.reader.specs.declared.Answer.TheVariants as answer
 
