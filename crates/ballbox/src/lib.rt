@@ -44,7 +44,7 @@ pub(crate) const MOST_BUTTONS: u8 = 7;
 
 // A movement or a place, x and y.
 #[repr(C)]
-#[derive(Clone, Copy, Drop)]
+#[derive(Clone, Copy, Debug, PartialEq, Eq, Drop)]
 pub struct Pair {
     pub x: i16,
     pub y: i16,

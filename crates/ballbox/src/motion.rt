@@ -2,7 +2,7 @@
 ghost use Rattle.std.specs.Prelude.{◌≡◌, ◌+ℤ◌, ◌-ℤ◌};
 ghost use Rattle.numbers.specs.Signed.{held_sum, sum_excess};
 ghost use Rattle.ballbox.specs.Thrown.{bounded};
-ghost use Rattle.ballbox.specs.Motion.{placed_at, counted, counted_over, placed, apart, has_moved};
+ghost use Rattle.ballbox.specs.Motion.{placed_at, counted, counted_over, placed, has_moved};
 
 use crate::thrown::both;
 use crate::{Bounded, BoundedPair, Pair, Track};
@@ -77,13 +77,6 @@ impl Pair {
         let y = placed_at(self.y, dy);
         Pair { x, y }
     }
-
-    // Whether two pairs differ.
-    fn apart(self, other: Pair) -> bool
-        ensures { result ≡ apart self other }
-    {
-        ((self.x < other.x) | (other.x < self.x)) | ((self.y < other.y) | (other.y < self.y))
-    }
 }
 
 impl Track {
@@ -92,9 +85,9 @@ impl Track {
         ensures { result ≡ has_moved letter self }
     {
         if letter == FORMAT_A {
-            self.position.apart(self.last)
+            self.position != self.last
         } else {
-            self.counter.apart(Pair { x: 0, y: 0 })
+            self.counter != Pair { x: 0, y: 0 }
         }
     }
 }

@@ -3,8 +3,7 @@ use crate::{Stand, draws, mixes};
 use reader::{Reader, Reading};
 
 fn fresh_of(letter: u8) -> Reader {
-    let new = Reader::fresh(letter);
-    new.reader
+    Reader::fresh(letter).unwrap_or_default()
 }
 
 pub(crate) fn first() -> Stand<Reader> {

@@ -104,10 +104,7 @@ fn motion(bytes: &[u8]) -> Order
         return Order::Bad;
     }
     let start = n + 1;
-    motion_of(
-        number(&bytes[0..n], PLAIN),
-        number(&bytes[start..], PLAIN),
-    )
+    motion_of(number(&bytes[0..n], PLAIN), number(&bytes[start..], PLAIN))
 }
 
 // A letter and what stands behind its tab.

@@ -32,8 +32,7 @@ fn call(reader: Reader, cut: Cut, words: &[u16], out: &mut [i16]) -> Reading
 
 // The whole line, from a fresh reader on; each call has the reader that came back from the one before.
 pub(crate) fn passed(letter: u8, cut: Cut, words: &[u16], out: &mut [i16]) -> Pass {
-    let new = Reader::fresh(letter);
-    let mut next = new.reader;
+    let mut next = Reader::fresh(letter).unwrap_or_default();
     let mut rest = words;
     let mut calls: usize = 0;
     let mut taken: usize = 0;

@@ -195,13 +195,18 @@ fn answer(output: Stdout, a: Answer) {
 
 // The reader after a word.
 fn heard(output: Stdout, r: Reader, word: u16) -> Reader {
-    let read = r.step(word);
-    let told = read.answer;
     print::say(output, b", ");
     print::word(output, word);
-    refusal(output, read.refusal);
-    answer(output, told);
-    read.next
+    match r.step(word) {
+        Ok(step) => {
+            answer(output, step.answer);
+            step.next
+        }
+        Err(refused) => {
+            refusal(output, refused.number());
+            r
+        }
+    }
 }
 
 // What the yard check says of words: that they are a box's, or from which on, the first being 0, they are no box's.
@@ -218,8 +223,7 @@ fn judged(output: Stdout, letter: u8, words: &[u16]) {
 
 // A fresh reader's answers to words, one after the other, and what the yard check says of them.
 pub(crate) fn answers(output: Stdout, letter: u8, words: &[u16]) {
-    let new = Reader::fresh(letter);
-    let mut next = new.reader;
+    let mut next = Reader::fresh(letter).unwrap_or_default();
     for word in words {
         next = heard(output, next, *word);
     }

@@ -3,7 +3,6 @@ use Rattle.std.specs.Prelude.{ℕ, cond, List, [], ◌∷◌, ℤ, pos, nat_abs,
 use Rattle.std.specs.Int.Signed.{lt_z}
 use Rattle.wire.specs.Line.{known}
 use Rattle.text.specs.Decimals.{plain, number_in}
-use Rattle.text.specs.declared.Number.TheVariants as number
 
 -- a letter of the table, alone
 abbrev pub letter_in : List ℕ → Option ℕ
@@ -16,8 +15,8 @@ abbrev pub small_in : ℤ → Option ℕ
 small_in x = cond (lt_z x (pos 1)) None (cond (lt_z (pos 255) x) None (Some (nat_abs x)))
 
 abbrev pub small_of : Option ℤ → Option ℕ
-small_of number.None = None
-small_of (number.Is x) = small_in x
+small_of None = None
+small_of (Some x) = small_in x
 
 abbrev pub tenths_in : List ℕ → Option ℕ
 tenths_in word = small_of (number_in plain word)

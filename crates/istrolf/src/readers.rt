@@ -1,11 +1,12 @@
 // The reader for C: line words in, reports out.
 ghost use Rattle.std.specs.Prelude.{◌≡◌};
-ghost use Rattle.istrolf.specs.Readers.{packed, unpacked, stands, no_report, packed_read, refused_read, packed_reading, refused_reading};
+ghost use Rattle.reader.specs.State.{read_in};
+ghost use Rattle.istrolf.specs.Readers.{packed, unpacked, stands, no_report, answered, packed_read, refused_read, packed_reading, refused_reading};
 ghost use Rattle.istrolf.specs.Promises.{FreshReaderPromise, ReaderStepPromise, ReadPromise};
 
 use crate::{FreshReader, HeldReader, ReadWord, ReadWords};
-use reader::{Answer, Read, Reader, Reading};
-use wire::{BAD_STATE, Report};
+use reader::{Answer, Reader, Reading, Step};
+use wire::{BAD_STATE, Refusal, Report, SUCCESS};
 
 pub(crate) fn packed(reader: Reader) -> HeldReader
     ensures { result ≡ packed reader }
@@ -50,33 +51,41 @@ pub(crate) fn no_report() -> Report
     }
 }
 
-fn packed_read(read: Read) -> ReadWord
-    ensures { result ≡ packed_read read }
+fn answered(refusal: u8, next: HeldReader, answer: Answer) -> ReadWord
+    ensures { result ≡ answered refusal next answer }
 {
-    let next = packed(read.next);
-    let answer = read.answer;
     match answer {
         Answer::Nothing => ReadWord {
-            refusal: read.refusal,
+            refusal,
             reports: 0,
             dropped: 0,
-            next: next,
+            next,
             report: no_report(),
         },
         Answer::Report(report) => ReadWord {
-            refusal: read.refusal,
+            refusal,
             reports: 1,
             dropped: 0,
-            next: next,
-            report: report,
+            next,
+            report,
         },
         Answer::Dropped(count) => ReadWord {
-            refusal: read.refusal,
+            refusal,
             reports: 0,
             dropped: count,
-            next: next,
+            next,
             report: no_report(),
         },
+    }
+}
+
+// What a step of a reader gave back.
+fn packed_read(reader: Reader, read: Result<Step, Refusal>) -> ReadWord
+    ensures { result ≡ packed_read (read_in reader read) }
+{
+    match read {
+        Ok(step) => answered(SUCCESS, packed(step.next), step.answer),
+        Err(refusal) => answered(refusal.number(), packed(reader), Answer::Nothing),
     }
 }
 
@@ -121,11 +130,15 @@ fn refused_reading(held: HeldReader) -> ReadWords
 pub fn istrolf_reader_fresh(letter: u8) -> FreshReader
     ensures { FreshReaderPromise letter result }
 {
-    let fresh = Reader::fresh(letter);
-    let reader = packed(fresh.reader);
-    FreshReader {
-        refusal: fresh.refusal,
-        reader: reader,
+    match Reader::fresh(letter) {
+        Ok(reader) => FreshReader {
+            refusal: SUCCESS,
+            reader: packed(reader),
+        },
+        Err(refusal) => FreshReader {
+            refusal: refusal.number(),
+            reader: packed(Reader::default()),
+        },
     }
 }
 
@@ -136,7 +149,8 @@ pub fn istrolf_reader_step(held: HeldReader, word: u16) -> ReadWord
     if !stands(held) {
         return refused_read(held);
     }
-    packed_read(unpacked(held).step(word))
+    let reader = unpacked(held);
+    packed_read(reader, reader.step(word))
 }
 
 // A line of words, and the numbers of its reports to a lent slice.

@@ -82,7 +82,7 @@ fn format(out: &mut [u8], at: usize, bridge: Bridge, letter: u8) -> Put
     ensures { Puts bridge (Found.Format letter) out.old at result out.new }
 {
     Put {
-        next: Bridge::fresh(letter).bridge,
+        next: Bridge::fresh(letter).unwrap_or_default(),
         used: Text::bytes_to(out, at, b"F\tV\n"),
     }
 }
@@ -189,7 +189,7 @@ fn whole(system: &mut System, input: &mut [u8], out: &mut [u8]) -> Result<(), Fa
 {
     let bridging = Bridging {
         scanner: Lister::fresh().scanner,
-        bridge: Bridge::fresh(b'U').bridge,
+        bridge: Bridge::fresh(b'U').unwrap_or_default(),
     };
     shell::run(bridging, system, b"mbridge: standard input", input, out)
 }

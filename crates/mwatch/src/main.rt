@@ -181,14 +181,16 @@ impl Teller for Look {
     ghost most = { 144 };
 
     fn word(&mut self, word: u16, out: &mut [u8], at: usize) -> usize {
-        let read = self.reader.step(word);
-        match read.answer {
+        let Ok(step) = self.reader.step(word) else {
+            return at;
+        };
+        match step.answer {
             Answer::Nothing => {
-                self.reader = read.next;
+                self.reader = step.next;
                 at
             }
-            Answer::Report(report) => self.report(read.next, report, out, at),
-            Answer::Dropped(lost) => self.dropped(read.next, lost, out, at),
+            Answer::Report(report) => self.report(step.next, report, out, at),
+            Answer::Dropped(lost) => self.dropped(step.next, lost, out, at),
         }
     }
 
@@ -237,7 +239,7 @@ fn fresh(letter: u8, tenths: u8) -> Session<Look>
     Session {
         port: Port::fresh(tenths as u32),
         teller: Look {
-            reader: Reader::fresh(letter).reader,
+            reader: Reader::fresh(letter).unwrap_or_default(),
             watch: Watch::fresh(),
             reports: 0,
             presses: 0,

@@ -207,12 +207,8 @@ pub promised_rightly : (c q : ℕ) {p : Port} → p ≡ opened c q → (a : Arri
 promised_rightly c q is a sure calls = rw (calls_tell calls, is) (heard_from_the_start c q a sure)
 
 -- A loss that is told within a mark is told as if before it: the word of the mark is the same, and stands behind the 256.
-abbrev SomeWord : Option ℕ → Type 0
-SomeWord None = ⊥
-SomeWord (Some w) = Unit {0}
-
 a_word : {w : ℕ} {A : Type 0} → Some w ≡ None → A
-a_word e = absurd (subst SomeWord e tt)
+a_word e = cc
 
 by_mark : (p : Port) (b : ℕ) (t u v w : Bool) → eqb p.held 0 ≡ t → eqb p.held 1 ≡ u → eqb b mark ≡ v → eqb b 0 ≡ w
     → (byte_of p b).given ≡ None

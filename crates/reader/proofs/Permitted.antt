@@ -6,14 +6,25 @@ use mathlib.Core.List.{List, [], ◌∷◌}
 use lib.ListN.{length, get_or}
 use lib.Dec.{eqb}
 use lib.IntN.{ℤ, pos, nat_abs}
-use Rattle.reader.specs.State.{numbers_of, NewReader, Read}
+use Rattle.std.specs.Prelude.{Result, Ok, Err}
+use Rattle.std.specs.Result.{ResultUnwrapsOrElse}
+use Rattle.wire.specs.Line.{letter_of}
+use Rattle.wire.specs.declared.refusal.Refusal.{Refusal}
+use Rattle.wire.specs.declared.Format.TheVariants.{FiveByte}
+use Rattle.reader.specs.State.{fresh, numbers_of, NewReader, Read, new_in}
 use Rattle.reader.specs.Line.{Reading, Long, reading}
 use Rattle.reader.specs.Telling.{Answers, Told, answers_in}
-use Rattle.reader.specs.Promises.{Step, FreshPromise, GoodPromise, StepPromise, ReadPromise, AnswersPromise, step_of}
+use Rattle.reader.specs.Promises.{Step, FreshPromise, GoodPromise, StepPromise, ReadPromise, AnswersPromise, fresh_of, step_of}
 use Rattle.reader.specs.Runs.{steps_of, StepsPromise}
 use Rattle.reader.specs.declared.Reader.{Reader}
 use Rattle.reader.specs.declared.Answer.{Answer}
 use Rattle.reader.specs.declared.Answer.TheVariants as answer
+
+-- a new reader, or a fresh one of U where there is none of a letter
+pub fresh_or_default : (letter : ℕ) (n : Result Reader Refusal) {r : Reader} → FreshPromise letter (new_in n) → ResultUnwrapsOrElse n (λ u. u ≡ fresh (letter_of FiveByte)) r
+    → r ≡ (fresh_of letter).reader
+fresh_or_default letter (Ok u) e d = d ∙ ap (λ (a : NewReader). a.reader) e
+fresh_or_default letter (Err refusal) e d = d ∙ ap (λ (a : NewReader). a.reader) e
 
 -- an answer is told by its numbers
 abbrev told : List ℤ → Answer

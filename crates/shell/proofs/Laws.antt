@@ -1,5 +1,5 @@
 -- How a program goes on: it begins, reads, writes and ends.
-use Rattle.std.proofs.Common.{◌≡◌, ℕ, suc, ◌<◌, Bool, true, false, cond, List, [], ◌++◌, length, take, drop, sym, refl, ap, ◌∙◌, subst, inl, inr, true≢false, append_assoc, append-nil, arith, take-append-drop}
+use Rattle.std.proofs.Common.{◌≡◌, ℕ, ◌<◌, Bool, true, false, List, [], ◌++◌, length, take, drop, sym, refl, ap, ◌∙◌, subst, inl, inr, true≢false, append_assoc, append-nil, take-append-drop}
 use lib.Seq.{take-length}
 use Rattle.shell.specs.Outside.{Trace, Over, heard_in, Reads, Misses, Hears, Handed, Said}
 use Rattle.shell.specs.Standing.{Program, Stands, Closes, Settled, Fronts, Done, Failed, unread, unwritten, unsaid, Ends, Left, Leaves}
@@ -10,11 +10,6 @@ split n outs bytes left =
     ap (λ (l : List ℕ). outs ++ (l ++ left)) (sym (take-append-drop n bytes))
     ∙ ap (λ (l : List ℕ). outs ++ l) (append_assoc (take n bytes) (drop n bytes) left)
     ∙ sym (append_assoc outs (take n bytes) (drop n bytes ++ left))
-
--- a loop that goes on only where a number falls
-pub falls_off : (on : Bool) (next here : ℕ) → (on ≡ true → next < here) → cond on (suc next) 0 < suc here
-falls_off true next here h = omega (arith, h refl)
-falls_off false next here h = omega arith
 
 module _ (p : Program) where
   pub begins : (t : ℕ) → Trace t [] [] [] → Stands p t p.writes p.says

@@ -103,7 +103,10 @@ pub fn known(letter: u8) -> bool
 pub fn size(letter: u8) -> usize
     ensures { SizePromise letter result }
 {
-    format_of(letter).map_or(0, |f| f.size())
+    match format_of(letter) {
+        Some(f) => f.size(),
+        None => 0,
+    }
 }
 
 // Whether the first byte of a report is marked.
@@ -112,20 +115,29 @@ pub fn size(letter: u8) -> usize
 pub fn marked(letter: u8) -> bool
     ensures { MarkedPromise letter result }
 {
-    format_of(letter).is_some_and(|f| f.is_marked())
+    match format_of(letter) {
+        Some(f) => f.is_marked(),
+        None => false,
+    }
 }
 
-// Whether a byte is valid at a place of a report: 0 is the first, any other a later one. The place is looked at before the format, since the reads of
-// damaged lines and the yard's cost up to a tenth more the other way round (bench/guard).
+// Whether a byte is valid at a place of a report: 0 is the first, any other a later one. The place is looked at before the format: the other way round
+// the calls of the yard cost a sixth more (bench/guard).
 #[tactic(auto, unfolding(crate::specs::Places::fits_by, crate::specs::Places::fits_at))]
 #[inline(always)]
 pub fn fits(letter: u8, place: u8, byte: u8) -> bool
     ensures { FitsPromise letter place byte result }
 {
     if place == 0 {
-        format_of(letter).is_some_and(|f| f.fits_first(byte))
+        match format_of(letter) {
+            Some(f) => f.fits_first(byte),
+            None => false,
+        }
     } else {
-        format_of(letter).is_some_and(|f| f.fits_later(byte))
+        match format_of(letter) {
+            Some(f) => f.fits_later(byte),
+            None => false,
+        }
     }
 }
 
@@ -135,7 +147,10 @@ pub fn fits(letter: u8, place: u8, byte: u8) -> bool
 pub fn report_of(letter: u8, bytes: [u8; 5]) -> Report
     ensures { ReportPromise letter bytes result }
 {
-    format_of(letter).map_or(report(0, 0, 0), |f| report_in(f, bytes))
+    match format_of(letter) {
+        Some(f) => report_in(f, bytes),
+        None => report(0, 0, 0),
+    }
 }
 
 // Writes a report's bytes at the front of a buffer, and nothing after them. A refusal writes nothing. Each letter has a

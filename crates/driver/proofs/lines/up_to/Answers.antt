@@ -10,23 +10,23 @@ use Rattle.driver.proofs.Reading.{not_up_to, is_up_to}
 use Rattle.driver.proofs.lines.up_to.Goals as goal
 
 pub returns-in-None : goal.returns-in-None
-returns-in-None c = λ says. rw (sym c.read.ensures ∙ c.in-None.is)
+returns-in-None c = λ says. rw (sym c.in-None.ensures)
 
 pub overflow_cast-result : goal.overflow_cast-result
-overflow_cast-result c = let x = c.in-Is.x in
+overflow_cast-result c = let x = c.in-Some.x in
     let same : to_z w64 (of_z w64 x) ≡ x = search rules in
     let bound = to_z_pos w64 {n = c.args.bound} (omega (arith, c.ranges.bound.fits)) in
     let b = is_up_to c.args.bound (λ n. order.Slots n) x (rw (same, c.from.ensures, bound) at c.if-x-from.false) in rw (same, b.0) (tt, record { fits = omega (arith, b.1) })
 
 pub returns-then-x-from : goal.returns-then-x-from
-returns-then-x-from c = let x = c.in-Is.x in
+returns-then-x-from c = let x = c.in-Some.x in
     let same : to_z w64 (of_z w64 x) ≡ x = search rules in
     let bound = to_z_pos w64 {n = c.args.bound} (omega (arith, c.ranges.bound.fits)) in
-    λ says. rw (sym c.read.ensures ∙ c.in-Is.is) (sym (not_up_to c.args.bound says x (rw (same, c.from.ensures, bound) at c.if-x-from.true)))
+    λ says. rw (sym c.in-Some.ensures) (sym (not_up_to c.args.bound says x (rw (same, c.from.ensures, bound) at c.if-x-from.true)))
 
 pub returns-else-x-from : goal.returns-else-x-from
-returns-else-x-from c = let x = c.in-Is.x in
+returns-else-x-from c = let x = c.in-Some.x in
     let same : to_z w64 (of_z w64 x) ≡ x = search rules in
     let bound = to_z_pos w64 {n = c.args.bound} (omega (arith, c.ranges.bound.fits)) in
     let b = is_up_to c.args.bound (λ n. order.Slots n) x (rw (same, c.from.ensures, bound) at c.if-x-from.false) in
-    rw same (b.1, λ says. rw (sym c.read.ensures ∙ c.in-Is.is) (sym (is_up_to c.args.bound says x (rw (same, c.from.ensures, bound) at c.if-x-from.false)).2))
+    rw same (b.1, λ says. rw (sym c.in-Some.ensures) (sym (is_up_to c.args.bound says x (rw (same, c.from.ensures, bound) at c.if-x-from.false)).2))
