@@ -1,12 +1,12 @@
 // The bridge for C: line words of any format in, bytes of V out.
 ghost use Rattle.std.specs.Prelude.{◌≡◌};
-ghost use Rattle.bridge.specs.Line.{number_if, converted_in};
+ghost use Rattle.bridge.specs.Line.{converted_in};
 ghost use Rattle.istrolf.specs.Bridges.{packed, unpacked, stands, packed_converted, refused_converted};
 ghost use Rattle.istrolf.specs.Promises.{FreshBridgePromise, ConvertPromise};
 
 use crate::{ConvertedWords, FreshBridge, HeldBridge, readers};
 use bridge::{Base, Bridge, Converted, Past};
-use wire::{BAD_STATE, Refusal, SUCCESS};
+use wire::{BAD_STATE, SUCCESS};
 
 fn packed(bridge: Bridge) -> HeldBridge
     ensures { result ≡ packed bridge }
@@ -49,21 +49,11 @@ fn stands(held: HeldBridge) -> bool
     readers::stands(held.reader) & (held.based <= 1) & (held.middle <= 1)
 }
 
-// The number of a refusal, and 0 where there is none.
-pub(crate) fn number_if(refusal: Option<Refusal>) -> u8
-    ensures { result ≡ number_if refusal }
-{
-    match refusal {
-        None => SUCCESS,
-        Some(refusal) => refusal.number(),
-    }
-}
-
 fn packed_converted(converted: Converted) -> ConvertedWords
     ensures { result ≡ packed_converted (converted_in converted) }
 {
     ConvertedWords {
-        refusal: number_if(converted.refusal),
+        refusal: readers::number_if(converted.refusal),
         next: packed(converted.next),
         taken: converted.taken,
         reports: converted.reports,

@@ -1,6 +1,7 @@
 // The reader for C: line words in, reports out.
 ghost use Rattle.std.specs.Prelude.{◌≡◌};
 ghost use Rattle.reader.specs.State.{read_in};
+ghost use Rattle.reader.specs.Line.{number_if, reading_in};
 ghost use Rattle.istrolf.specs.Readers.{packed, unpacked, stands, no_report, answered, packed_read, refused_read, packed_reading, refused_reading};
 ghost use Rattle.istrolf.specs.Promises.{FreshReaderPromise, ReaderStepPromise, ReadPromise};
 
@@ -101,13 +102,22 @@ fn refused_read(held: HeldReader) -> ReadWord
     }
 }
 
-fn packed_reading(reading: Reading) -> ReadWords
-    ensures { result ≡ packed_reading reading }
+// The number of a refusal, and 0 where there is none.
+pub(crate) fn number_if(refusal: Option<Refusal>) -> u8
+    ensures { result ≡ number_if refusal }
 {
-    let next = packed(reading.next);
+    match refusal {
+        None => SUCCESS,
+        Some(refusal) => refusal.number(),
+    }
+}
+
+fn packed_reading(reading: Reading) -> ReadWords
+    ensures { result ≡ packed_reading (reading_in reading) }
+{
     ReadWords {
-        refusal: reading.refusal,
-        next: next,
+        refusal: number_if(reading.refusal),
+        next: packed(reading.next),
         taken: reading.taken,
         reports: reading.reports,
         dropped: reading.dropped,

@@ -2,11 +2,12 @@
 ghost use Rattle.std.specs.Prelude.{◌≡◌};
 ghost use Rattle.replies.specs.declared.Asked.TheVariants.{Command, Waking};
 ghost use Rattle.replies.specs.Rules.{heard_in};
+ghost use Rattle.replies.specs.Line.{heard_line_in};
 ghost use Rattle.replies.specs.Promises.{telling_in};
 ghost use Rattle.istrolf.specs.Told.{kind_number, kind_of, packed, unpacked, stands, replied, packed_reply, own_of, packed_heard, refused_heard, packed_line, refused_line, packed_telling, refused_telling};
 ghost use Rattle.istrolf.specs.Promises.{FreshToldPromise, TellPromise, ToldStepPromise, ToldReadPromise};
 
-use crate::readers::no_report;
+use crate::readers::{no_report, number_if};
 use crate::{FreshTold, HeardWord, HeardWords, HeldReply, HeldTold, Own, ToldCommand, readers};
 use reader::Answer;
 use replies::{Asked, Awaited, Came, HeardLine, Kind, Reply, Told, ToldReader, ToldStep};
@@ -168,15 +169,12 @@ fn refused_heard(held: HeldTold) -> HeardWord
 }
 
 fn packed_line(line: HeardLine) -> HeardWords
-    ensures { result ≡ packed_line line }
+    ensures { result ≡ packed_line (heard_line_in line) }
 {
-    let became = line.reply;
-    let reply = packed_reply(became);
-    let next = packed(line.next);
     HeardWords {
-        refusal: line.refusal,
-        reply: reply,
-        next: next,
+        refusal: number_if(line.refusal),
+        reply: packed_reply(line.reply),
+        next: packed(line.next),
         taken: line.taken,
         reports: line.reports,
         dropped: line.dropped,

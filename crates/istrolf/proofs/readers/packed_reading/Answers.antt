@@ -1,5 +1,5 @@
--- The next reader packed.
+-- The number of the refusal, and the next reader packed.
 use Rattle.istrolf.proofs.readers.packed_reading.Goals as goal
 
 pub returns : goal.returns
-returns c = rw c.packed-next.ensures
+returns c = rw (c.number_if.ensures, c.packed.ensures)

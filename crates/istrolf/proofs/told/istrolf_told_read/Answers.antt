@@ -2,6 +2,7 @@
 use mathlib.Core.Path.{ap, sym, ◌∙◌}
 use borrow.Author.Tests.{not-true, not-false}
 use Rattle.replies.specs.declared.ToldReader.{ToldReader}
+use Rattle.replies.specs.Line.{heard_line_in}
 use Rattle.replies.specs.Promises as replies
 use Rattle.replies.proofs.Permitted.{read_is}
 use Rattle.istrolf.specs.Told.{whole, packed_long}
@@ -17,6 +18,6 @@ returns-then-not-stands c = let a = c.args in
 pub returns : goal.returns
 unfolding told_read_of
 returns c = let a = c.args in
-    let i = read_is c.unpacked.result a.words.now a.out.now c.read.result c.read.new.out c.read.ensures ∙ ap (λ (r : ToldReader). replies.read_of r a.words.now a.out.now) c.unpacked.ensures in
+    let i = read_is c.unpacked.result a.words.now a.out.now (heard_line_in c.read.result) c.read.new.out c.read.ensures ∙ ap (λ (r : ToldReader). replies.read_of r a.words.now a.out.now) c.unpacked.ensures in
     simp (sym c.stands.ensures ∙ not-false _ c.if-not-stands.false-raw)
     (ap (λ (w : HeardWords). whole w c.read.new.out) c.packed_line.ensures ∙ ap packed_long i)
