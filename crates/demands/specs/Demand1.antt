@@ -21,13 +21,11 @@ use Rattle.reader.specs.State.{fresh, NewReader, Read}
 use Rattle.reader.specs.Good as readers
 use Rattle.reader.specs.Rules.{refusing}
 use Rattle.fold.specs.Calls.{stopped, with_refusal}
-use Rattle.reader.specs.Line.{Long, whole, reads_line}
+use Rattle.reader.specs.Line.{Reading, Long, whole, reads_line}
 use Rattle.reader.specs.Promises as reader
-use Rattle.reader.specs.Telling.{Told, told, tells_line}
+use Rattle.reader.specs.Telling.{Answers, Told, told, tells_line}
 use Rattle.reader.specs.Promises.{ReadPromise, AnswersPromise, before_bad, told_before_bad, new_reader}
 use Rattle.reader.specs.declared.Reader.{Reader}
-use Rattle.reader.specs.declared.Reading.{Reading}
-use Rattle.reader.specs.declared.Answers.{Answers}
 use Rattle.reader.proofs.Permitted as permitted
 use Rattle.reader.proofs.Refusals as refusals
 use Rattle.reader.proofs.Goodness as goodness

@@ -18,13 +18,12 @@ use Rattle.wire.proofs.Answers.{accepted_written}
 use Rattle.reader.specs.State.{ready, kept_in, five_of, Read}
 use Rattle.reader.specs.Good as readers
 use Rattle.reader.specs.Rules.{entered}
-use Rattle.reader.specs.Line.{Long, reading}
+use Rattle.reader.specs.Line.{Reading, Long, reading}
 use Rattle.reader.specs.Counts.{byte_in, bytes_in, reports_in, dropped_in}
 use Rattle.reader.specs.Promises as reader
 use Rattle.reader.specs.Promises.{ReadPromise}
 use Rattle.reader.specs.Runs.{StepsPromise, answers, reader_after}
 use Rattle.reader.specs.declared.Reader.{Reader}
-use Rattle.reader.specs.declared.Reading.{Reading}
 use Rattle.reader.specs.declared.Answer.TheVariants as answer
 use Rattle.reader.proofs.There as there
 use Rattle.reader.proofs.Back as back

@@ -16,7 +16,6 @@ use Rattle.reader.specs.Promises.{ReadPromise}
 use Rattle.reader.specs.Runs.{StepsPromise}
 use Rattle.reader.specs.declared.Reader.{Reader}
 use Rattle.reader.specs.State.{Read}
-use Rattle.reader.specs.declared.Reading.{Reading}
 use Rattle.reader.specs.DamagedLines.{Within, EndsAt, HandsOut, HandsOutAt}
 use Rattle.reader.proofs.EighthBit as reader
 use Rattle.ballbox.specs.declared.BallBox.{BallBox}
@@ -29,6 +28,7 @@ use Rattle.demands.specs.Computing.{computing}
 use Rattle.demands.specs.Worked.{slots, SendsWords, run_of, press}
 use Rattle.demands.specs.Turned.{turned_none, turned_both, turned_length, turned_parts, turned_left, in_one_long, turned_at, turned_out}
 use Rattle.demands.specs.Demand3.{Run, Front, from_then_on, sent, still_going, set_box, as_sent_lem, marked, exactly}
+use Rattle.reader.specs.Line.{Reading}
 
 -- a line, and the same with bit 7 of any of its bytes turned over, are answered alike, word by word
 pub turned_steps : (r : Reader) {u v : List ℕ} (a b : List Read)

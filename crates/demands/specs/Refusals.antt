@@ -10,8 +10,6 @@ use Rattle.wire.specs.declared.Report.{Report}
 use Rattle.reader.specs.Promises as reader
 use Rattle.reader.specs.declared.Reader.{Reader}
 use Rattle.reader.specs.State.{NewReader, Read}
-use Rattle.reader.specs.declared.Reading.{Reading}
-use Rattle.reader.specs.declared.Answers.{Answers}
 use Rattle.ballbox.specs.Promises as box
 use Rattle.ballbox.specs.declared.BallBox.{BallBox}
 use Rattle.ballbox.specs.declared.Event.{Event}
@@ -48,9 +46,11 @@ use Rattle.replies.specs.Promises.{Telling, NewToldReader, no_reply}
 use Rattle.replies.specs.declared.Asked.{Asked}
 use Rattle.replies.specs.declared.ToldReader.{ToldReader}
 use Rattle.replies.specs.Rules.{Heard}
-use Rattle.replies.specs.declared.HeardLine.{HeardLine}
 use Rattle.demands.specs.Demand1 as one
 use Rattle.demands.specs.Replies as replies
+use Rattle.reader.specs.Line.{Reading}
+use Rattle.reader.specs.Telling.{Answers}
+use Rattle.replies.specs.Line.{HeardLine}
 
 -- "Tested in that order, where they apply": 6; 12, "tested after 6"; 1; 7, "tested after 1"; 13, "after 1"; 14, "after
 -- 13"; 3; 8 to 11, "in 2's old place"; 5; 4; and 15, "last in order"

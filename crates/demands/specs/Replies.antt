@@ -32,7 +32,7 @@ use Rattle.replies.specs.Accepted.{seven_bytes, seven_letters, mode_letters}
 use Rattle.replies.specs.Good.{good}
 use Rattle.replies.specs.Rules.{Heard, kind_of, refusing}
 use Rattle.fold.specs.Calls.{stopped, unused, as_one, with_refusal, after}
-use Rattle.replies.specs.Line.{Long, whole, hears_line, Bounds}
+use Rattle.replies.specs.Line.{HeardLine, Long, whole, hears_line, Bounds}
 use Rattle.replies.specs.Counts.{whole_bytes, broken_bytes}
 use Rattle.replies.specs.Promises.{Telling, NewToldReader, FreshPromise, GoodPromise, TellPromise, StepPromise, ReadPromise, no_reply, telling_of, before_bad}
 use Rattle.tellings.specs.Items.{Item, telling, as_items, words_in, Done, ItemsPromise}
@@ -43,7 +43,6 @@ use Rattle.replies.specs.declared.Asked.{Asked}
 use Rattle.replies.specs.declared.Asked.TheVariants.{Command, Waking}
 use Rattle.replies.specs.declared.Reply.TheVariants as reply
 use Rattle.replies.specs.declared.ToldReader.{ToldReader}
-use Rattle.replies.specs.declared.HeardLine.{HeardLine}
 use Rattle.replies.proofs.Permitted as permitted
 use Rattle.replies.proofs.Refusals as refusals
 use Rattle.replies.proofs.Goodness as goodness

@@ -10,12 +10,11 @@ use Rattle.wire.specs.Encoder.{refusal_of, Encoded}
 use Rattle.wire.specs.Promises.{EncodePromise}
 use Rattle.wire.specs.declared.Report.{Report}
 use Rattle.wire.specs.declared.Format.TheVariants.{Microsoft}
-use Rattle.reader.specs.Line.{Long, reading}
+use Rattle.reader.specs.Line.{Reading, Long, reading}
 use Rattle.reader.specs.Counts.{bytes_in}
 use Rattle.reader.specs.Promises as reader
 use Rattle.reader.specs.declared.Reader.{Reader}
 use Rattle.reader.specs.State.{NewReader, Read}
-use Rattle.reader.specs.declared.Reading.{Reading}
 use Rattle.reader.proofs.Useless.{skipping_the_rest}
 use Rattle.ballbox.specs.Box.{fresh_box}
 use Rattle.ballbox.specs.Commands.{letter_p}

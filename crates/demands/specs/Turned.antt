@@ -8,13 +8,12 @@ use Rattle.wire.specs.Line.{letter_of, named_by, known}
 use Rattle.wire.specs.declared.Report.{Report}
 use Rattle.wire.specs.declared.Format.TheVariants.{Microsoft}
 use Rattle.reader.specs.Promises.{FreshPromise, ReadPromise, fresh_of, read_of}
-use Rattle.reader.specs.Line.{reading}
+use Rattle.reader.specs.Line.{Reading, reading}
 use Rattle.reader.specs.Runs.{steps_of, StepsPromise}
 use Rattle.reader.specs.EighthBit.{TurnedOver, none, stays, turns}
 use Rattle.reader.specs.DamagedLines.{Took, HandsOut, HandsOutAt}
 use Rattle.reader.specs.declared.Reader.{Reader}
 use Rattle.reader.specs.State.{NewReader, Read}
-use Rattle.reader.specs.declared.Reading.{Reading}
 use Rattle.reader.proofs.EighthBit.{turned_steps, turned_read}
 use Rattle.reader.proofs.Handed.{permitted}
 

@@ -7,13 +7,13 @@ use Rattle.reader.specs.Counts.{numbers}
 use Rattle.reader.specs.Promises.{ReadPromise}
 use Rattle.reader.specs.DamagedLines.{HandsOutBy}
 use Rattle.reader.specs.declared.Reader.{Reader}
-use Rattle.reader.specs.declared.Reading.{Reading}
 use Rattle.saves.specs.State.{watching, unaware}
 use Rattle.saves.specs.Rules.{fives}
 use Rattle.saves.specs.Promises.{OverPromise}
 use Rattle.saves.specs.declared.Watch.{Watch}
 use Rattle.saves.specs.declared.Watched.{Watched}
 use Rattle.saves.proofs.Over.{counted, over_known, over_fresh}
+use Rattle.reader.specs.Line.{Reading}
 
 -- the numbers that a long read writes are those that the watch reads
 as_written : (reports : List Report) → numbers reports ≡ fives reports

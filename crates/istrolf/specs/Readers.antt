@@ -2,12 +2,11 @@
 use Rattle.std.specs.Prelude.{ℕ, Bool, List, ℤ, pos}
 use Rattle.wire.specs.Numbers.{bad_state}
 use Rattle.wire.specs.declared.Report.{Report}
-use Rattle.reader.specs.Line.{Long, reading as reading_of}
+use Rattle.reader.specs.Line.{Reading, Long, reading as reading_of}
 use Rattle.reader.specs.declared.Answer.{Answer}
 use Rattle.reader.specs.declared.Answer.TheVariants as answer
 use Rattle.reader.specs.declared.Reader.{Reader}
 use Rattle.reader.specs.State.{NewReader, Read}
-use Rattle.reader.specs.declared.Reading.{Reading}
 use Rattle.ballbox.specs.Marks.{mark, marked, is_mark}
 use Rattle.istrolf.specs.declared.HeldReader.{HeldReader}
 use Rattle.istrolf.specs.declared.FreshReader.{FreshReader}

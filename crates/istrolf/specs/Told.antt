@@ -6,7 +6,7 @@ use Rattle.reader.specs.declared.Answer.{Answer}
 use Rattle.reader.specs.declared.Answer.TheVariants as answer
 use Rattle.replies.specs.Replying.{none, awaiting}
 use Rattle.replies.specs.Rules.{Heard, told_reader}
-use Rattle.replies.specs.Line.{Long, heard_line}
+use Rattle.replies.specs.Line.{HeardLine, Long, heard_line}
 use Rattle.replies.specs.declared.Kind.{Kind}
 use Rattle.replies.specs.declared.Kind.TheVariants as kind
 use Rattle.replies.specs.declared.Came.{Came}
@@ -14,7 +14,6 @@ use Rattle.replies.specs.declared.Reply.{Reply}
 use Rattle.replies.specs.declared.Reply.TheVariants as reply
 use Rattle.replies.specs.declared.ToldReader.{ToldReader}
 use Rattle.replies.specs.Promises.{Telling, NewToldReader}
-use Rattle.replies.specs.declared.HeardLine.{HeardLine}
 use Rattle.istrolf.specs.Readers as readers
 use Rattle.istrolf.specs.declared.HeldTold.{HeldTold}
 use Rattle.istrolf.specs.declared.HeldReply.{HeldReply}

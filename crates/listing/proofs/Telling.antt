@@ -22,12 +22,11 @@ use Rattle.reader.specs.Good.{good}
 use Rattle.reader.specs.Rules.{word_of}
 use Rattle.fold.specs.Calls.{counted, call, stopped}
 use Rattle.fold.specs.Calls as calls
-use Rattle.reader.specs.Telling.{told_in, tells, tells_line, Told, told}
+use Rattle.reader.specs.Telling.{Answers, told_in, tells, tells_line, Told, told}
 use Rattle.reader.specs.Promises.{step_of, AnswersPromise}
 use Rattle.reader.specs.declared.Reader.{Reader}
 use Rattle.reader.specs.State.{Read}
 use Rattle.reader.specs.declared.Answer.{Answer}
-use Rattle.reader.specs.declared.Answers.{Answers}
 use Rattle.reader.specs.declared.Answer.TheVariants as answer
 use Rattle.reader.proofs.Word.{word_format}
 use Rattle.reader.proofs.Keeps.{word_good}

@@ -17,12 +17,11 @@ use Rattle.wire.specs.declared.Format.TheVariants.{FiveByte}
 use Rattle.reader.specs.State.{fresh, NewReader, Read}
 use Rattle.reader.specs.Good.{good}
 use Rattle.reader.specs.Rules.{word_of}
-use Rattle.reader.specs.Line.{Long, reads}
+use Rattle.reader.specs.Line.{Reading, Long, reads}
 use Rattle.reader.specs.Counts.{reports_in, handed_out}
 use Rattle.reader.specs.Promises.{FreshPromise, ReadPromise, fresh_of}
 use Rattle.reader.specs.Runs.{steps_of, StepsPromise, answers, has_silence}
 use Rattle.reader.specs.declared.Reader.{Reader}
-use Rattle.reader.specs.declared.Reading.{Reading}
 use Rattle.numbers.proofs.Choices.{neither}
 use Rattle.numbers.proofs.Tested.{holds}
 use Rattle.reader.proofs.Word.{dropping_reports, by_word, word_format}

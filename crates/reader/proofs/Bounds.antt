@@ -12,11 +12,10 @@ use Rattle.fold.proofs.Laws as fold
 use Rattle.fold.proofs.Calls.{call_line, by_good}
 use Rattle.fold.proofs.Calls as calls
 use Rattle.numbers.proofs.Choices.{cases}
-use Rattle.reader.specs.Line.{reading, reads, reads_line}
+use Rattle.reader.specs.Line.{Reading, reading, reads, reads_line}
 use Rattle.reader.specs.Counts.{byte_in}
 use Rattle.reader.specs.Promises.{ReadPromise}
 use Rattle.reader.specs.declared.Reader.{Reader}
-use Rattle.reader.specs.declared.Reading.{Reading}
 use Rattle.reader.proofs.Counted.{lawful}
 use Rattle.reader.proofs.Word.{word_kept}
 

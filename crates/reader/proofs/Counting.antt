@@ -18,12 +18,11 @@ use Rattle.wire.specs.Line.{size_by}
 use Rattle.wire.specs.Numbers.{bad_state}
 use Rattle.reader.specs.Good.{good}
 use Rattle.reader.specs.Rules.{dropping, break_of, silence_of, word_of}
-use Rattle.reader.specs.Line.{reading, reads, reads_line}
+use Rattle.reader.specs.Line.{Reading, reading, reads, reads_line}
 use Rattle.reader.specs.Counts.{byte_in, bytes_in, reports_in, dropped_in}
 use Rattle.reader.specs.Promises.{StepPromise, ReadPromise, step_of}
 use Rattle.reader.specs.declared.Reader.{Reader}
 use Rattle.reader.specs.State.{Read}
-use Rattle.reader.specs.declared.Reading.{Reading}
 use Rattle.reader.specs.declared.Answer.{Answer}
 use Rattle.reader.specs.declared.Answer.TheVariants.{Nothing, Report, Dropped}
 use Rattle.numbers.proofs.Choices.{cases}

@@ -22,7 +22,6 @@ use Rattle.reader.specs.Counts.{handed_out}
 use Rattle.reader.specs.Promises.{FreshPromise, ReadPromise, fresh_of}
 use Rattle.reader.specs.Runs.{steps_of, StepsPromise, answers}
 use Rattle.reader.specs.declared.Reader.{Reader}
-use Rattle.reader.specs.declared.Reading.{Reading}
 use Rattle.reader.specs.declared.Answer.{Answer}
 use Rattle.reader.specs.declared.Answer.TheVariants.{Nothing, Dropped}
 use Rattle.reader.specs.declared.Answer.TheVariants as answer
@@ -32,6 +31,7 @@ use Rattle.reader.specs.DamagedLines.{no_word, a_break, HandsOutBy, HandsOut, Ha
 use Rattle.reader.proofs.Handed.{permitted}
 use Rattle.reader.proofs.Damaged.{marked, unmarked, exactly}
 use Rattle.reader.proofs.Computing.{computing}
+use Rattle.reader.specs.Line.{Reading}
 
 -- the reader r, or any fresh reader of f, by any steps that are permitted, gives the words these answers
 abbrev pub AnsweredBy : Reader → List ℕ → List Answer → Type 0

@@ -22,7 +22,7 @@ use Rattle.wire.specs.Places.{like, fits_first, fits_later, fits_at, fits_by}
 use Rattle.wire.specs.Messages.{Message, message_bytes, SoundIn, SoundEnd}
 use Rattle.wire.specs.declared.Format.TheVariants.{Microsoft}
 use Rattle.reader.specs.Rules.{entered, word_of}
-use Rattle.reader.specs.Line.{Long, reading, reads}
+use Rattle.reader.specs.Line.{Reading, Long, reading, reads}
 use Rattle.reader.specs.Counts.{written_in}
 use Rattle.reader.specs.Good.{good}
 use Rattle.reader.specs.Promises.{ReadPromise, step_of, read_of}
@@ -30,7 +30,6 @@ use Rattle.reader.specs.Runs.{steps_of, StepsPromise}
 use Rattle.reader.specs.EighthBit.{turned, seven_bits, TurnedOver, none, stays, turns}
 use Rattle.reader.specs.declared.Reader.{Reader}
 use Rattle.reader.specs.State.{Read}
-use Rattle.reader.specs.declared.Reading.{Reading}
 use Rattle.reader.proofs.Entered.{enters_in_v, seven_bits_lem}
 use Rattle.reader.proofs.Framed.{frame_of}
 use Rattle.reader.proofs.Lines.{framed_line, framed_going}

@@ -14,13 +14,11 @@ use Rattle.wire.specs.declared.Format.TheVariants.{FiveByte}
 use Rattle.reader.specs.Good.{good}
 use Rattle.reader.specs.Rules.{word_of}
 use Rattle.reader.specs.Counts.{written_in}
-use Rattle.reader.specs.Line.{Long, reads_line}
-use Rattle.reader.specs.Telling.{Told, told_in, tells_line}
+use Rattle.reader.specs.Line.{Reading, Long, reads_line}
+use Rattle.reader.specs.Telling.{Answers, Told, told_in, tells_line}
 use Rattle.reader.specs.Promises.{FreshPromise, StepPromise, ReadPromise, AnswersPromise, fresh_of, step_of, read_of, answers_of}
 use Rattle.reader.specs.declared.Reader.{Reader}
 use Rattle.reader.specs.State.{NewReader, Read}
-use Rattle.reader.specs.declared.Reading.{Reading}
-use Rattle.reader.specs.declared.Answers.{Answers}
 use Rattle.reader.specs.declared.Answer.{Answer}
 use Rattle.numbers.proofs.Choices.{cases}
 use Rattle.reader.proofs.Word.{word_format}

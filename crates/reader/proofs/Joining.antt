@@ -7,10 +7,9 @@ use lib.ListN.{length}
 use lib.IntN.{ℤ}
 use Rattle.fold.specs.Calls.{unused, as_one}
 use Rattle.fold.proofs.Calls as calls
-use Rattle.reader.specs.Line.{whole, reads_line}
+use Rattle.reader.specs.Line.{Reading, whole, reads_line}
 use Rattle.reader.specs.Promises.{ReadPromise}
 use Rattle.reader.specs.declared.Reader.{Reader}
-use Rattle.reader.specs.declared.Reading.{Reading}
 use Rattle.reader.proofs.Counted.{lawful}
 
 -- of three reads: of p ++ q, of p, and of q with the reader that came back and the unused part of the slice

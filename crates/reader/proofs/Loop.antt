@@ -26,10 +26,9 @@ use Rattle.reader.specs.State.{ready, five_of, Read}
 use Rattle.reader.specs.Good.{good}
 use Rattle.reader.specs.Rules.{answered, byte_of, dropping, silence_of, word_of}
 use Rattle.reader.specs.Counts.{reports_in, dropped_in, written_in}
-use Rattle.reader.specs.Line.{Long, whole, reading, reads, reads_line}
+use Rattle.reader.specs.Line.{Reading, Long, whole, reading, reads, reads_line}
 use Rattle.reader.specs.Parts.{Stands, Begins, first_of, Alike, AwaitsBehind}
 use Rattle.reader.specs.declared.Reader.{Reader}
-use Rattle.reader.specs.declared.Reading.{Reading}
 use Rattle.reader.specs.declared.Answer.{Answer}
 use Rattle.reader.specs.declared.Answer.TheVariants.{Nothing, Dropped}
 use Rattle.reader.proofs.Word.{word_format, lost_awaits}

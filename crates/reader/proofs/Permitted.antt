@@ -12,13 +12,11 @@ use Rattle.wire.specs.Line.{letter_of}
 use Rattle.wire.specs.declared.refusal.Refusal.{Refusal}
 use Rattle.wire.specs.declared.Format.TheVariants.{FiveByte}
 use Rattle.reader.specs.State.{fresh, numbers_of, NewReader, Read, new_in}
-use Rattle.reader.specs.Line.{Long, reading}
-use Rattle.reader.specs.Telling.{Told, answers_in}
+use Rattle.reader.specs.Line.{Reading, Long, reading}
+use Rattle.reader.specs.Telling.{Answers, Told, answers_in}
 use Rattle.reader.specs.Promises.{Step, FreshPromise, GoodPromise, StepPromise, ReadPromise, AnswersPromise, fresh_of, step_of}
 use Rattle.reader.specs.Runs.{steps_of, StepsPromise}
 use Rattle.reader.specs.declared.Reader.{Reader}
-use Rattle.reader.specs.declared.Reading.{Reading}
-use Rattle.reader.specs.declared.Answers.{Answers}
 use Rattle.reader.specs.declared.Answer.{Answer}
 use Rattle.reader.specs.declared.Answer.TheVariants as answer
 

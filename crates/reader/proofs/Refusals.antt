@@ -18,12 +18,10 @@ use Rattle.wire.specs.declared.Format.TheVariants.{FiveByte}
 use Rattle.reader.specs.State.{fresh, NewReader, Read}
 use Rattle.reader.specs.Good.{good}
 use Rattle.reader.specs.Rules.{refusing, word_of}
-use Rattle.reader.specs.Line.{Long, whole, reading, reads_line}
-use Rattle.reader.specs.Telling.{told, tells_line}
+use Rattle.reader.specs.Line.{Reading, Long, whole, reading, reads_line}
+use Rattle.reader.specs.Telling.{Answers, told, tells_line}
 use Rattle.reader.specs.Promises.{FreshPromise, StepPromise, ReadPromise, AnswersPromise, FreshRefusal, StepRefusal, ReadRefusal, AnswersRefusal, new_reader, fresh_of, step_of}
 use Rattle.reader.specs.declared.Reader.{Reader}
-use Rattle.reader.specs.declared.Reading.{Reading}
-use Rattle.reader.specs.declared.Answers.{Answers}
 use Rattle.numbers.proofs.Choices.{cases}
 use Rattle.reader.proofs.Word.{word_number}
 use Rattle.reader.proofs.Counted.{lawful, told_lawful}

@@ -10,12 +10,11 @@ use Rattle.fold.proofs.Calls as calls
 use Rattle.wire.specs.Numbers.{success}
 use Rattle.reader.specs.Good.{good}
 use Rattle.reader.specs.Rules.{word_of}
-use Rattle.reader.specs.Line.{whole, reads_line}
+use Rattle.reader.specs.Line.{Reading, whole, reads_line}
 use Rattle.reader.specs.Counts.{reports_in}
 use Rattle.reader.specs.Promises.{StepPromise, ReadPromise}
 use Rattle.reader.specs.declared.Reader.{Reader}
 use Rattle.reader.specs.State.{Read}
-use Rattle.reader.specs.declared.Reading.{Reading}
 use Rattle.reader.proofs.Counted.{lawful}
 use Rattle.reader.proofs.Permitted.{step_is}
 use Rattle.reader.proofs.Goodness.{step_word}

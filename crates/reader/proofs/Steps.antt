@@ -20,16 +20,14 @@ use Rattle.frames.specs.Words.{silence, line_words}
 use Rattle.wire.specs.Numbers.{success}
 use Rattle.reader.specs.Good.{good}
 use Rattle.reader.specs.Rules.{word_of}
-use Rattle.reader.specs.Line.{Long, whole, reads, reads_line}
-use Rattle.reader.specs.Telling.{Told, told_in, tells, tells_line, told}
+use Rattle.reader.specs.Line.{Reading, Long, whole, reads, reads_line}
+use Rattle.reader.specs.Telling.{Answers, Told, told_in, tells, tells_line, told}
 use Rattle.reader.specs.Counts.{written_in, handed_out, numbers, dropped_among}
 use Rattle.reader.specs.Promises.{step_of, ReadPromise, AnswersPromise}
 use Rattle.reader.specs.DamagedLines.{Took}
 use Rattle.reader.specs.Runs.{steps_of, StepsPromise, answers, reader_after}
 use Rattle.reader.specs.declared.Reader.{Reader}
 use Rattle.reader.specs.State.{Read}
-use Rattle.reader.specs.declared.Reading.{Reading}
-use Rattle.reader.specs.declared.Answers.{Answers}
 use Rattle.reader.specs.declared.Answer.{Answer}
 use Rattle.reader.proofs.Counted.{lawful, told_lawful, sum_is, numbers_written}
 use Rattle.reader.proofs.Keeps.{word_good}

@@ -31,11 +31,10 @@ use Rattle.reader.specs.Good.{good}
 use Rattle.reader.specs.Rules.{answered, keep, byte_of, word_of}
 use Rattle.fold.specs.Calls.{stopped}
 use Rattle.fold.proofs.Calls as calls
-use Rattle.reader.specs.Line.{Long, whole, reads_line}
+use Rattle.reader.specs.Line.{Reading, Long, whole, reads_line}
 use Rattle.reader.specs.Promises.{read_of, ReadPromise}
 use Rattle.reader.specs.Runs.{steps_of, StepsPromise, answers, reader_after}
 use Rattle.reader.specs.declared.Reader.{Reader}
-use Rattle.reader.specs.declared.Reading.{Reading}
 use Rattle.reader.specs.declared.Answer.{Answer}
 use Rattle.reader.specs.declared.Answer.TheVariants as answer
 use Rattle.reader.proofs.Entered.{fit_enters}

@@ -12,8 +12,8 @@ use Rattle.reader.specs.Counts.{handed_out, numbers}
 use Rattle.reader.specs.Promises.{FreshPromise, ReadPromise}
 use Rattle.reader.specs.Runs.{StepsPromise, answers}
 use Rattle.reader.specs.declared.Reader.{Reader}
-use Rattle.reader.specs.declared.Reading.{Reading}
 use Rattle.reader.specs.declared.Answer.TheVariants as answer
+use Rattle.reader.specs.Line.{Reading}
 
 -- what the command that sets a box's format itself gives, in front of the line: no word, or 256
 pub data Given : List ℕ → Type 0 where

@@ -1,14 +1,16 @@
 -- "Over many words": a line of words, word by word, and a lent slice.
-use Rattle.std.specs.Prelude.{List, ℤ}
+use Rattle.std.specs.Prelude.{ℕ, List, ℤ, Option, None, Some}
 use Rattle.fold.specs.Fold.{Machine}
 use Rattle.fold.specs.Calls.{Call, Counts, counts, reporting}
 use Rattle.fold.specs.Calls as calls
-use Rattle.wire.specs.Numbers.{bad_state}
+use Rattle.wire.specs.Numbers.{success, bad_state}
+use Rattle.wire.specs.Refusals.{number_of}
+use Rattle.wire.specs.declared.refusal.Refusal.{Refusal}
 use Rattle.reader.specs.Good.{good}
 use Rattle.reader.specs.Rules.{word_of}
 use Rattle.reader.specs.Counts.{reports_in, dropped_in, written_in}
 use Rattle.reader.specs.declared.Reader.{Reader}
-use Rattle.reader.specs.declared.Reading.{Reading}
+use Rattle.reader.specs.declared.Reading as declared
 use Rattle.reader.specs.declared.Answer.{Answer}
 
 -- the reader as a machine over the words of a line: what one word does, and the numbers that an answer writes
@@ -23,6 +25,22 @@ reads_line = record { machine = reads; tally = reporting 5 reports_in dropped_in
 -- what it gives back ("words taken, reports written, bytes dropped"), and every number of the lent slice after it
 abbrev pub Long : Type 0
 Long = calls.Long Reader Counts ℤ
+
+-- the answer by itself: a number, 0 where it is not refused, the reader, and the counts
+pub record Reading : Type 0 where
+  pub refusal : ℕ
+  pub next : Reader
+  pub taken : ℕ
+  pub reports : ℕ
+  pub dropped : ℕ
+
+-- the number of a refusal, and 0 where there is none
+abbrev pub number_if : Option Refusal → ℕ
+number_if None = success
+number_if (Some e) = number_of e
+
+abbrev pub reading_in : declared.Reading → Reading
+reading_in a = record { refusal = number_if a.refusal; next = a.next; taken = a.taken; reports = a.reports; dropped = a.dropped }
 
 abbrev pub whole : Reading → List ℤ → Long
 whole a out = record { refusal = a.refusal; next = a.next; taken = a.taken; counts = counts a.reports a.dropped; out = out }

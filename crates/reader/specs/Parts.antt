@@ -7,10 +7,9 @@ use Rattle.frames.specs.Words.{is_byte}
 use Rattle.wire.specs.Line.{size_by, marked_by}
 use Rattle.reader.specs.Good.{good}
 use Rattle.reader.specs.Counts.{reports_in, dropped_in, written_in}
-use Rattle.reader.specs.Line.{Long, whole, reads, reads_line}
+use Rattle.reader.specs.Line.{Reading, Long, whole, reads, reads_line}
 use Rattle.reader.specs.declared.Reader.{Reader}
 use Rattle.reader.specs.State.{Read}
-use Rattle.reader.specs.declared.Reading.{Reading}
 
 -- what a reader keeps over a line: that it is good, its format, and fewer bytes than a report of it has
 pub record Sized (size : ℕ) (marked : Bool) (r : Reader) : Type 0 where

@@ -8,11 +8,9 @@ use Rattle.reader.specs.State.{fresh, numbers_of, NewReader, Read}
 use Rattle.reader.specs.Good.{good}
 use Rattle.reader.specs.Rules.{refusing, word_of}
 use Rattle.fold.specs.Calls.{stopped, with_refusal, call}
-use Rattle.reader.specs.Line.{Long, whole, reads_line}
-use Rattle.reader.specs.Telling.{Told, told, tells_line}
+use Rattle.reader.specs.Line.{Reading, Long, whole, reads_line}
+use Rattle.reader.specs.Telling.{Answers, Told, told, tells_line}
 use Rattle.reader.specs.declared.Reader.{Reader}
-use Rattle.reader.specs.declared.Reading.{Reading}
-use Rattle.reader.specs.declared.Answers.{Answers}
 
 -- "a format letter not in the table", 1; "(1 for a new reader: a fresh one of U)"
 abbrev pub new_reader : ℕ → Reader → NewReader

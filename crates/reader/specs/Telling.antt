@@ -7,8 +7,9 @@ use Rattle.wire.specs.Numbers.{bad_state}
 use Rattle.reader.specs.Good.{good}
 use Rattle.reader.specs.State.{five_of}
 use Rattle.reader.specs.Rules.{word_of}
+use Rattle.reader.specs.Line.{number_if}
 use Rattle.reader.specs.declared.Reader.{Reader}
-use Rattle.reader.specs.declared.Answers.{Answers}
+use Rattle.reader.specs.declared.Answers as declared
 use Rattle.reader.specs.declared.Answer.{Answer}
 use Rattle.reader.specs.declared.Answer.TheVariants as answer
 
@@ -36,6 +37,16 @@ tells_line =
 -- what is given back, and every number of the lent slice after it
 abbrev pub Told : Type 0
 Told = calls.Long Reader ℕ ℤ
+
+-- the answer by itself: a number, 0 where it is not refused, the reader, and what is counted
+pub record Answers : Type 0 where
+  pub refusal : ℕ
+  pub next : Reader
+  pub taken : ℕ
+  pub written : ℕ
+
+abbrev pub answers_by : declared.Answers → Answers
+answers_by a = record { refusal = number_if a.refusal; next = a.next; taken = a.taken; written = a.written }
 
 abbrev pub told : Answers → List ℤ → Told
 told a out = record { refusal = a.refusal; next = a.next; taken = a.taken; counts = a.written; out = out }

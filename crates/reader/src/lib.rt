@@ -5,12 +5,14 @@ ghost use Rattle.std.specs.Prelude.{◌≡◌};
 ghost use Rattle.wire.specs.Line.{letter_of};
 ghost use Rattle.wire.specs.declared.Format.TheVariants.{FiveByte};
 ghost use Rattle.reader.specs.State.{fresh, new_in, read_in};
+ghost use Rattle.reader.specs.Line.{reading_in};
+ghost use Rattle.reader.specs.Telling.{answers_by};
 ghost use Rattle.reader.specs.Promises.{FreshPromise, StepPromise, ReadPromise, AnswersPromise};
 
 use crate::line::reading;
 use crate::state::no_bytes;
 use crate::telling::so_far;
-use wire::{BAD_STATE, FORMAT_U, Refusal, Report};
+use wire::{FORMAT_U, Refusal, Report};
 
 mod good;
 mod letters;
@@ -44,20 +46,20 @@ pub struct Step {
     pub answer: Answer,
 }
 
-// What a long read gives back: also the words taken, the reports written and the bytes dropped.
+// What a long read gives back: why it is refused, if it is, the words taken, the reports written and the bytes dropped.
 #[derive(Clone, Copy, Drop)]
 pub struct Reading {
-    pub refusal: u8,
+    pub refusal: Option<Refusal>,
     pub next: Reader,
     pub taken: usize,
     pub reports: usize,
     pub dropped: usize,
 }
 
-// What a telling of answers gives back: the words taken, and the numbers written.
+// What a telling of answers gives back: why it is refused, if it is, the words taken, and the numbers written.
 #[derive(Clone, Copy, Drop)]
 pub struct Answers {
-    pub refusal: u8,
+    pub refusal: Option<Refusal>,
     pub next: Reader,
     pub taken: usize,
     pub written: usize,
@@ -96,20 +98,20 @@ impl Reader {
 
     // A line of words, and the numbers of its reports to a lent slice.
     pub fn read(self, words: &[u16], out: &mut [i16]) -> Reading
-        ensures { ReadPromise self words.now out.old result out.new }
+        ensures { ReadPromise self words.now out.old (reading_in result) out.new }
     {
         if !self.good() {
-            return reading(BAD_STATE, self, 0, 0, 0);
+            return reading(Some(Refusal::BadState), self, 0, 0, 0);
         }
         self.line(words, out)
     }
 
     // A line of words, and what each is answered by to a lent slice: 0 for nothing, the number of bytes dropped, or -1 and the five numbers of a report.
     pub fn answers(self, words: &[u16], out: &mut [i16]) -> Answers
-        ensures { AnswersPromise self words.now out.old result out.new }
+        ensures { AnswersPromise self words.now out.old (answers_by result) out.new }
     {
         if !self.good() {
-            return so_far(BAD_STATE, self, 0, 0);
+            return so_far(Some(Refusal::BadState), self, 0, 0);
         }
         self.told(words, out)
     }

@@ -2,7 +2,7 @@
 ghost use Rattle.std.specs.Prelude.{◌≡◌, true, not, ◌&&◌, ◌*◌, ◌<◌, ◌≤◌, ◌++◌, length, drop, eqb};
 ghost use Rattle.reader.specs.State.{ready, five_of, read_in};
 ghost use Rattle.fold.specs.Calls.{line};
-ghost use Rattle.reader.specs.Line.{whole, reads_line};
+ghost use Rattle.reader.specs.Line.{reading_in, whole, reads_line};
 ghost use Rattle.reader.specs.Good.{good};
 ghost use Rattle.reader.specs.Parts.{Stands, Begins, first_of, Alike, AwaitsBehind};
 
@@ -10,7 +10,7 @@ use crate::letters::by_letter;
 use crate::state::no_bytes;
 use crate::whole::passed;
 use crate::{Answer, Reader, Reading, Step};
-use wire::{Refusal, Report, SILENCE, SUCCESS};
+use wire::{Refusal, Report, SILENCE};
 
 // The five numbers of a report, to the front of a slice.
 #[inline(always)]
@@ -28,7 +28,7 @@ pub(crate) fn put(out: &mut [i16], report: Report)
 // A line of which words, reports and bytes are counted so far.
 #[inline(always)]
 pub(crate) fn reading(
-    refusal: u8,
+    refusal: Option<Refusal>,
     next: Reader,
     taken: usize,
     reports: usize,
@@ -62,22 +62,22 @@ impl Reader {
     // What a word's answer makes of a line that begins with it, and its report to the front of the places that are left.
     #[inline(always)]
     fn counted(self, heard: Result<Step, Refusal>, out: &mut [i16]) -> Reading
-        ensures { whole result out.new ≡ first_of self (read_in self heard) out.old }
+        ensures { whole (reading_in result) out.new ≡ first_of self (read_in self heard) out.old }
     {
         let step = match heard {
             Ok(step) => step,
-            Err(refusal) => return reading(refusal.number(), self, 0, 0, 0),
+            Err(refusal) => return reading(Some(refusal), self, 0, 0, 0),
         };
         let next = step.next;
         match step.answer {
-            Answer::Nothing => reading(SUCCESS, next, 1, 0, 0),
-            Answer::Dropped(k) => reading(SUCCESS, next, 1, 0, k as usize),
+            Answer::Nothing => reading(None, next, 1, 0, 0),
+            Answer::Dropped(k) => reading(None, next, 1, 0, k as usize),
             Answer::Report(report) => {
                 if out.len() < 5 {
-                    return reading(SUCCESS, self, 0, 0, 0);
+                    return reading(None, self, 0, 0, 0);
                 }
                 put(out, report);
-                reading(SUCCESS, next, 1, 1, 0)
+                reading(None, next, 1, 1, 0)
             }
         }
     }
@@ -86,7 +86,7 @@ impl Reader {
     #[inline(always)]
     fn first(self, letter: u8, words: &[u16], out: &mut [i16]) -> Reading
         requires { (letter ≡ self.format) × (good self ≡ true) × (0 < length words.now) }
-        ensures { Begins self words.now out.old result out.new × AwaitsBehind self words.now result }
+        ensures { Begins self words.now out.old (reading_in result) out.new × AwaitsBehind self words.now (reading_in result) }
     {
         let heard = self.word(letter, words[0]);
         self.counted(heard, out)
@@ -106,7 +106,7 @@ impl Reader {
     #[inline(always)]
     fn slowly(self, letter: u8, words: &[u16], out: &mut [i16]) -> Reading
         requires { (letter ≡ self.format) × (good self ≡ true) }
-        ensures { Begins self words.now out.old result out.new }
+        ensures { Begins self words.now out.old (reading_in result) out.new }
     {
         let awaits = !wire::marked(letter);
         let mut r = self;
@@ -122,7 +122,7 @@ impl Reader {
             at += t.taken;
             dropped += t.dropped;
             if (t.reports != 0) | (word == SILENCE) {
-                return reading(SUCCESS, r, at, t.reports, dropped);
+                return reading(None, r, at, t.reports, dropped);
             }
             if awaits & (t.dropped != 0) & (word <= 255) {
                 let n = alike(0, 255, &words[at..]);
@@ -130,14 +130,14 @@ impl Reader {
                 dropped += n;
             }
         }
-        reading(SUCCESS, r, at, 0, dropped)
+        reading(None, r, at, 0, dropped)
     }
 
     // The same, each letter with code of its own.
     #[inline(always)]
     fn one_by_one(self, words: &[u16], out: &mut [i16]) -> Reading
         requires { good self ≡ true }
-        ensures { Begins self words.now out.old result out.new }
+        ensures { Begins self words.now out.old (reading_in result) out.new }
     {
         by_letter!(self.format, letter => self.slowly(letter, words, out))
     }
@@ -150,7 +150,7 @@ impl Reader {
         ensures { Stands self words.now out.old result.next result.taken (5 * result.reports) result.reports result.dropped out.new × (good result.next ≡ true) × (result.next.format ≡ self.format) }
     {
         if !self.is_ready() {
-            return reading(SUCCESS, self, 0, 0, 0);
+            return reading(None, self, 0, 0, 0);
         }
         let ready = no_bytes(self.format, false);
         let mut at: usize = 0;
@@ -170,10 +170,10 @@ impl Reader {
             reports += t.reports;
             dropped += t.dropped;
             if !t.next.is_ready() | (t.taken == 0) {
-                return reading(SUCCESS, t.next, at, reports, dropped);
+                return reading(None, t.next, at, reports, dropped);
             }
         }
-        reading(SUCCESS, ready, at, reports, dropped)
+        reading(None, ready, at, reports, dropped)
     }
 
     // The words of a line: swiftly where the reader is ready, and one by one up to where it may be again, or may go no further. What is left of the line, from
@@ -182,7 +182,7 @@ impl Reader {
     #[inline(always)]
     pub(crate) fn line(self, words: &[u16], out: &mut [i16]) -> Reading
         requires { good self ≡ true }
-        ensures { whole result out.new ≡ line reads_line self words.now out.old }
+        ensures { whole (reading_in result) out.new ≡ line reads_line self words.now out.old }
     {
         let mut r = self;
         let mut at: usize = 0;
@@ -204,6 +204,6 @@ impl Reader {
             reports += t.reports;
             dropped += t.dropped;
         }
-        reading(SUCCESS, r, at, reports, dropped)
+        reading(None, r, at, reports, dropped)
     }
 }

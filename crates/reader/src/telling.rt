@@ -2,16 +2,21 @@
 ghost use Rattle.std.specs.Prelude.{◌≡◌, true};
 ghost use Rattle.fold.specs.Calls.{line};
 ghost use Rattle.reader.specs.Good.{good};
-ghost use Rattle.reader.specs.Telling.{told, tells_line, places_of, front_of};
+ghost use Rattle.reader.specs.Telling.{answers_by, told, tells_line, places_of, front_of};
 
 use crate::letters::by_letter;
 use crate::line::put;
 use crate::{Answer, Answers, Reader};
-use wire::SUCCESS;
+use wire::Refusal;
 
 // What is given back for the words taken so far.
 #[inline(always)]
-pub(crate) fn so_far(refusal: u8, next: Reader, taken: usize, written: usize) -> Answers
+pub(crate) fn so_far(
+    refusal: Option<Refusal>,
+    next: Reader,
+    taken: usize,
+    written: usize,
+) -> Answers
     ensures { result ≡ record { refusal = refusal; next = next; taken = taken; written = written } }
 {
     Answers {
@@ -58,30 +63,30 @@ impl Reader {
     #[inline(always)]
     fn tells(self, letter: u8, words: &[u16], out: &mut [i16]) -> Answers
         requires { (letter ≡ self.format) × (good self ≡ true) }
-        ensures { told result out.new ≡ line tells_line self words.now out.old }
+        ensures { told (answers_by result) out.new ≡ line tells_line self words.now out.old }
     {
         let mut r = self;
         let mut used: usize = 0;
         for (at, word) in words.iter().enumerate() {
             let step = match r.word(letter, *word) {
                 Ok(step) => step,
-                Err(refusal) => return so_far(refusal.number(), r, at, used),
+                Err(refusal) => return so_far(Some(refusal), r, at, used),
             };
             let n = tell(step.answer, &mut out[used..]);
             if n == 0 {
-                return so_far(SUCCESS, r, at, used);
+                return so_far(None, r, at, used);
             }
             r = step.next;
             used += n;
         }
-        so_far(SUCCESS, r, words.len(), used)
+        so_far(None, r, words.len(), used)
     }
 
     // The same, each letter with code of its own.
     #[inline(always)]
     pub(crate) fn told(self, words: &[u16], out: &mut [i16]) -> Answers
         requires { good self ≡ true }
-        ensures { told result out.new ≡ line tells_line self words.now out.old }
+        ensures { told (answers_by result) out.new ≡ line tells_line self words.now out.old }
     {
         by_letter!(self.format, letter => self.tells(letter, words, out))
     }

@@ -21,7 +21,7 @@ use Rattle.reader.proofs.Counted.{reports_first}
 use Rattle.replies.specs.Replying.{is_none, fits, fitting, broken}
 use Rattle.replies.specs.Good.{good}
 use Rattle.replies.specs.Rules.{Heard, kind_of, continues, word_of}
-use Rattle.replies.specs.Line.{Both, hears, or_else, reply_among, told_in, replies_among, own_answers, heard_line}
+use Rattle.replies.specs.Line.{HeardLine, Both, hears, or_else, reply_among, told_in, replies_among, own_answers, heard_line}
 use Rattle.replies.specs.Counts.{whole_bytes, broken_bytes}
 use Rattle.replies.specs.Promises.{Telling, TellPromise, StepPromise, ReadPromise, tell_of}
 use Rattle.replies.specs.declared.Kind.{Kind}
@@ -29,7 +29,6 @@ use Rattle.replies.specs.declared.Asked.{Asked}
 use Rattle.replies.specs.declared.Awaited.{Awaited}
 use Rattle.replies.specs.declared.Reply.{Reply}
 use Rattle.replies.specs.declared.ToldReader.{ToldReader}
-use Rattle.replies.specs.declared.HeardLine.{HeardLine}
 use Rattle.replies.proofs.Word.{word_counts, word_fine, by_word, good_reader}
 use Rattle.replies.proofs.Counted.{or_nothing, sum_is}
 use Rattle.replies.proofs.Permitted.{step_is, read_is}

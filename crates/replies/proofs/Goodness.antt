@@ -18,11 +18,10 @@ use Rattle.reader.proofs.Goodness as report
 use Rattle.replies.specs.Replying.{is_none}
 use Rattle.replies.specs.Good.{good}
 use Rattle.replies.specs.Rules.{Heard, kind_of, word_of}
-use Rattle.replies.specs.Line.{Long, hears, hears_line}
+use Rattle.replies.specs.Line.{HeardLine, Long, hears, hears_line}
 use Rattle.replies.specs.Promises.{Telling, NewToldReader, FreshPromise, TellPromise, StepPromise, ReadPromise, tell_of, step_of, read_of}
 use Rattle.replies.specs.declared.Asked.{Asked}
 use Rattle.replies.specs.declared.ToldReader.{ToldReader}
-use Rattle.replies.specs.declared.HeardLine.{HeardLine}
 use Rattle.replies.proofs.Counted.{or_nothing, or_assoc}
 use Rattle.replies.proofs.Word.{made, awaiting_good, told_fine, word_fine}
 use Rattle.replies.proofs.Permitted.{step_is, read_is}

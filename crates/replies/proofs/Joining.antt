@@ -7,10 +7,9 @@ use lib.ListN.{length}
 use lib.IntN.{ℤ}
 use Rattle.fold.specs.Calls.{unused, as_one}
 use Rattle.fold.proofs.Calls as calls
-use Rattle.replies.specs.Line.{whole, hears_line}
+use Rattle.replies.specs.Line.{HeardLine, whole, hears_line}
 use Rattle.replies.specs.Promises.{ReadPromise}
 use Rattle.replies.specs.declared.ToldReader.{ToldReader}
-use Rattle.replies.specs.declared.HeardLine.{HeardLine}
 use Rattle.replies.proofs.Permitted.{read_is}
 use Rattle.replies.proofs.Goodness.{lawful}
 

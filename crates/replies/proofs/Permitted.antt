@@ -9,14 +9,13 @@ use lib.Dec.{eqb}
 use lib.IntN.{ℤ}
 use Rattle.reader.proofs.Permitted.{by_numbers}
 use Rattle.replies.specs.Replying.{came}
-use Rattle.replies.specs.Line.{Long, counts, whole, heard_line}
+use Rattle.replies.specs.Line.{HeardLine, Long, counts, whole, heard_line}
 use Rattle.replies.specs.Promises.{Telling, NewToldReader, Step, Left, FreshPromise, GoodPromise, TellPromise, StepPromise, ReadPromise, reply_numbers, left, step_of, read_of}
 use Rattle.replies.specs.declared.Asked.{Asked}
 use Rattle.replies.specs.declared.Reply.{Reply}
 use Rattle.replies.specs.declared.Reply.TheVariants as reply
 use Rattle.replies.specs.declared.ToldReader.{ToldReader}
 use Rattle.replies.specs.Rules.{Heard}
-use Rattle.replies.specs.declared.HeardLine.{HeardLine}
 
 -- what became of a reply is told by its numbers
 abbrev reply_of : List ℕ → Option Reply

@@ -22,11 +22,10 @@ use Rattle.reader.proofs.Refusals as refusals
 use Rattle.replies.specs.Replying.{is_none, fitting}
 use Rattle.replies.specs.Good.{good}
 use Rattle.replies.specs.Rules.{Heard, kind_of, refusing, word_of}
-use Rattle.replies.specs.Line.{Long, whole, heard_line, hears_line}
+use Rattle.replies.specs.Line.{HeardLine, Long, whole, heard_line, hears_line}
 use Rattle.replies.specs.Promises.{Telling, TellPromise, StepPromise, ReadPromise, TellRefusal, StepRefusal, ReadRefusal, no_reply, telling_of, tell_of, step_of}
 use Rattle.replies.specs.declared.Asked.{Asked}
 use Rattle.replies.specs.declared.ToldReader.{ToldReader}
-use Rattle.replies.specs.declared.HeardLine.{HeardLine}
 use Rattle.replies.proofs.Word.{good_reader, by_word, word_number}
 use Rattle.replies.proofs.Permitted.{step_is, read_is}
 use Rattle.replies.proofs.Goodness.{lawful, step_word}

@@ -14,11 +14,10 @@ use Rattle.wire.specs.Numbers.{success}
 use Rattle.reader.specs.Counts.{bytes_in, reports_in}
 use Rattle.reader.proofs.Bounds.{one_byte}
 use Rattle.replies.specs.Good.{good}
-use Rattle.replies.specs.Line.{Long, whole, hears_line, Bounds}
+use Rattle.replies.specs.Line.{HeardLine, Long, whole, hears_line, Bounds}
 use Rattle.replies.specs.Promises.{StepPromise, ReadPromise}
 use Rattle.replies.specs.declared.ToldReader.{ToldReader}
 use Rattle.replies.specs.Rules.{Heard}
-use Rattle.replies.specs.declared.HeardLine.{HeardLine}
 use Rattle.replies.proofs.Permitted.{step_is, read_is}
 use Rattle.replies.proofs.Goodness.{lawful, step_word}
 use Rattle.replies.proofs.Refusals.{bad_state_read}

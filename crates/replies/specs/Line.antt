@@ -5,13 +5,14 @@ use Rattle.fold.specs.Fold.{Machine}
 use Rattle.fold.specs.Calls.{Call}
 use Rattle.fold.specs.Calls as calls
 use Rattle.wire.specs.Numbers.{bad_state}
+use Rattle.reader.specs.Line.{number_if}
 use Rattle.reader.specs.Counts.{reports_in, dropped_in, written_in}
 use Rattle.reader.specs.declared.Answer.{Answer}
 use Rattle.replies.specs.Good.{good}
 use Rattle.replies.specs.Rules.{word_of}
 use Rattle.replies.specs.declared.Reply.{Reply}
 use Rattle.replies.specs.declared.ToldReader.{ToldReader}
-use Rattle.replies.specs.declared.HeardLine.{HeardLine}
+use Rattle.replies.specs.declared.HeardLine as declared
 
 -- the answer to a word: what became of the reply, and the report reader's own
 pub record Both : Type 0 where
@@ -76,6 +77,26 @@ hears_line =
 -- what it gives back, and every number of the lent slice after it
 abbrev pub Long : Type 0
 Long = calls.Long ToldReader Counts ℤ
+
+-- the answer by itself: a number, 0 where it is not refused, the reader, the counts, and what became of the reply
+pub record HeardLine : Type 0 where
+  pub refusal : ℕ
+  pub next : ToldReader
+  pub taken : ℕ
+  pub reports : ℕ
+  pub dropped : ℕ
+  pub reply : Option Reply
+
+abbrev pub heard_line_in : declared.HeardLine → HeardLine
+heard_line_in a =
+    record {
+      refusal = number_if a.refusal;
+      next = a.next;
+      taken = a.taken;
+      reports = a.reports;
+      dropped = a.dropped;
+      reply = a.reply;
+    }
 
 abbrev pub whole : HeardLine → List ℤ → Long
 whole a out = record { refusal = a.refusal; next = a.next; taken = a.taken; counts = counts a.reports a.dropped a.reply; out = out }

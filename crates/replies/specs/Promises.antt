@@ -12,13 +12,12 @@ use Rattle.reader.specs.Promises as reader
 use Rattle.replies.specs.Replying.{nothing, is_none}
 use Rattle.replies.specs.Good.{good}
 use Rattle.replies.specs.Rules.{Heard, told_reader, kind_of, telling, refusing, word_of}
-use Rattle.replies.specs.Line.{Long, whole, hears_line}
+use Rattle.replies.specs.Line.{HeardLine, Long, whole, hears_line}
 use Rattle.replies.specs.declared.Asked.{Asked}
 use Rattle.replies.specs.declared.Reply.{Reply}
 use Rattle.replies.specs.declared.Reply.TheVariants as reply
 use Rattle.replies.specs.declared.ToldReader.{ToldReader}
 use Rattle.replies.specs.declared.Told.{Told}
-use Rattle.replies.specs.declared.HeardLine.{HeardLine}
 
 -- "12 for a command that has no reply"
 abbrev pub no_reply : ℕ

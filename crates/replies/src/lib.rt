@@ -4,12 +4,13 @@
 
 ghost use Rattle.std.specs.Prelude.{◌≡◌};
 ghost use Rattle.replies.specs.Rules.{heard_in};
+ghost use Rattle.replies.specs.Line.{heard_line_in};
 ghost use Rattle.replies.specs.Promises.{fresh_u, new_in, telling_in, FreshPromise, GoodPromise, TellPromise, StepPromise, ReadPromise};
 
 use crate::replying::{awaiting, nothing};
 use crate::rules::kind_of;
 use reader::{Answer, Reader};
-use wire::{BAD_STATE, Refusal};
+use wire::Refusal;
 
 mod line;
 mod replying;
@@ -79,11 +80,11 @@ pub struct ToldStep {
     pub answer: Answer,
 }
 
-// What a long read gives back: also the words taken, the reports written, the bytes dropped, and what became of the reply, of which there is at most one. Its
-// refusal is a number, that of the report reader's own long read, which is given on; a name here would only be looked up from that number.
+// What a long read gives back: why it is refused, if it is, the words taken, the reports written, the bytes dropped, and what became of the reply, of which
+// there is at most one.
 #[derive(Clone, Copy, Drop)]
 pub struct HeardLine {
-    pub refusal: u8,
+    pub refusal: Option<Refusal>,
     pub next: ToldReader,
     pub taken: usize,
     pub reports: usize,
@@ -161,11 +162,11 @@ impl ToldReader {
 
     // A line of words, and the numbers of its reports to a lent slice.
     pub fn read(self, words: &[u16], out: &mut [i16]) -> HeardLine
-        ensures { ReadPromise self words.now out.old result out.new }
+        ensures { ReadPromise self words.now out.old (heard_line_in result) out.new }
     {
         if !self.good() {
             return HeardLine {
-                refusal: BAD_STATE,
+                refusal: Some(Refusal::BadState),
                 next: self,
                 taken: 0,
                 reports: 0,

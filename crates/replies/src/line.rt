@@ -2,7 +2,7 @@
 ghost use Rattle.std.specs.Prelude.{◌≡◌, true};
 ghost use Rattle.reader.specs.Good.{good};
 ghost use Rattle.fold.specs.Calls.{line};
-ghost use Rattle.replies.specs.Line.{whole, hears_line};
+ghost use Rattle.replies.specs.Line.{heard_line_in, whole, hears_line};
 ghost use Rattle.replies.specs.Fronts.{front, front_of, closed};
 
 use crate::replying::nothing;
@@ -55,7 +55,7 @@ impl ToldReader {
     // The reply at the front, and the rest to the report reader.
     pub(crate) fn line(self, words: &[u16], out: &mut [i16]) -> HeardLine
         requires { good self.reader ≡ true }
-        ensures { whole result out.new ≡ line hears_line self words.now out.old }
+        ensures { whole (heard_line_in result) out.new ≡ line hears_line self words.now out.old }
     {
         let first = self.awaited.over(words);
         let rest = self.reader.read(&words[first.taken..], out);

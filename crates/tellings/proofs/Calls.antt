@@ -25,13 +25,12 @@ use Rattle.reader.proofs.Handed.{numbers_length, numbers_append}
 use Rattle.replies.specs.Replying.{is_none}
 use Rattle.replies.specs.Good.{good}
 use Rattle.replies.specs.Rules.{kind_of, word_of}
-use Rattle.replies.specs.Line.{Long, Counts, whole, Both, hears, hears_line, told_in, replies_among, own_answers}
+use Rattle.replies.specs.Line.{HeardLine, Long, Counts, whole, Both, hears, hears_line, told_in, replies_among, own_answers}
 use Rattle.replies.specs.Promises.{Telling, ReadPromise, tell_of, step_of}
 use Rattle.tellings.specs.Items.{Item, word, telling, as_items, legal_items, Done, after_done, own_answers_of, replies_of, Call, long, tell, items_of, Called, was_read, was_told, CallsPromise, AllTaken, TookAll}
 use Rattle.tellings.specs.Items as items
 use Rattle.replies.specs.declared.Reply.{Reply}
 use Rattle.replies.specs.declared.ToldReader.{ToldReader}
-use Rattle.replies.specs.declared.HeardLine.{HeardLine}
 use Rattle.replies.proofs.Counted.{both, sum_is, own_written}
 use Rattle.replies.proofs.Word.{word_fine}
 use Rattle.replies.proofs.Permitted.{read_is}

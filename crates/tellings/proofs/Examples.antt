@@ -20,7 +20,7 @@ use Rattle.reader.specs.declared.Answer.TheVariants as answer
 use Rattle.ballbox.specs.Commands.{letterf, lettert, byte05}
 use Rattle.replies.specs.Replying.{came, none, awaiting, nothing}
 use Rattle.replies.specs.Rules.{told_reader}
-use Rattle.replies.specs.Line.{whole}
+use Rattle.replies.specs.Line.{HeardLine, whole}
 use Rattle.replies.specs.Promises.{Telling, TellPromise, ReadPromise, telling_of}
 use Rattle.tellings.specs.Items.{Item, word, telling, Done, ItemsPromise, own_answers_of, replies_of}
 use Rattle.tellings.specs.Lines.{line_items}
@@ -31,7 +31,6 @@ use Rattle.replies.specs.declared.Asked.TheVariants.{Command, Waking}
 use Rattle.replies.specs.declared.Reply.{Reply}
 use Rattle.replies.specs.declared.Reply.TheVariants as reply
 use Rattle.replies.specs.declared.ToldReader.{ToldReader}
-use Rattle.replies.specs.declared.HeardLine.{HeardLine}
 use Rattle.tellings.proofs.Computing.{computing}
 use Rattle.replies.proofs.Permitted.{read_is}
 use Rattle.tellings.proofs.Apart.{done_of, done_are}

@@ -8,12 +8,11 @@ use Rattle.reader.specs.declared.Answer.{Answer}
 use Rattle.replies.specs.Replying.{is_none}
 use Rattle.replies.specs.Rules.{Heard, kind_of}
 use Rattle.fold.specs.Calls.{unused}
-use Rattle.replies.specs.Line.{told_in, whole, hears_line}
+use Rattle.replies.specs.Line.{HeardLine, told_in, whole, hears_line}
 use Rattle.replies.specs.Promises.{Telling, TellPromise, StepPromise, ReadPromise}
 use Rattle.replies.specs.declared.Asked.{Asked}
 use Rattle.replies.specs.declared.Reply.{Reply}
 use Rattle.replies.specs.declared.ToldReader.{ToldReader}
-use Rattle.replies.specs.declared.HeardLine.{HeardLine}
 
 pub data Item : Type 0 where
   word : ℕ → Item

@@ -6,7 +6,7 @@ use Rattle.reader.proofs.Numbered.{refuses}
 use Rattle.reader.proofs.Reader.counted.Goals as goal
 
 pub returns-in-Err : goal.returns-in-Err
-returns-in-Err c = rw (c.reading.ensures, c.number.ensures, c.in-Err.is, ne_eqb _ _ (refuses c.in-Err.refusal))
+returns-in-Err c = rw (c.reading.ensures, c.in-Err.is, ne_eqb _ _ (refuses c.in-Err.refusal))
 
 pub returns-then-out-lt5 : goal.returns-then-out-lt5
 returns-then-out-lt5 c = rw (c.reading-then-out-lt5.ensures, c.in-Ok.is, c.in-Report.is, lt-leb _ _ c.if-out-lt5.true)

@@ -11,6 +11,7 @@ use Rattle.fold.proofs.Parts.{rest_is}
 use Rattle.wire.proofs.Letters.{at_most_five}
 use Rattle.wire.specs.Line.{marked_by}
 use Rattle.reader.specs.Good.{good}
+use Rattle.reader.specs.Line.{number_if}
 use Rattle.reader.specs.Parts.{Stands, Begins}
 use Rattle.reader.proofs.Parts.{below_size_lem}
 use Rattle.reader.proofs.Loop.{starts, far, all_taken, took, none_taken, skipped}
@@ -29,7 +30,7 @@ pub returns-then-t-eq0 : goal.returns-then-t-eq0
 returns-then-t-eq0 c =
     let refused : let l = c.loop-at in
     Begins c.args.self c.args.words.now c.args.out.now
-    (record { refusal = c.first-t.result.refusal; next = l.r; taken = l.at; reports = 0; dropped = l.dropped }) c.first-t.new.out = let i = c.loop-at.invariant in none_taken i.0 i.1 i.2 c.first-t.ensures.0 i.4 c.if-t-eq0.true in
+    (record { refusal = number_if c.first-t.result.refusal; next = l.r; taken = l.at; reports = 0; dropped = l.dropped }) c.first-t.new.out = let i = c.loop-at.invariant in none_taken i.0 i.1 i.2 c.first-t.ensures.0 i.4 c.if-t-eq0.true in
     rw c.reading.ensures refused
 
 pub overflow_add-at : goal.overflow_add-at

@@ -23,7 +23,7 @@ word-requires c = let i = c.loop-at.invariant in (c.requires.0 ∙ sym i.2, i.1)
 
 pub returns-in-Err : goal.returns-in-Err
 returns-in-Err c =
-    rw (c.so_far.ensures, c.number.ensures)
+    rw c.so_far.ensures
     (refused c.loop-at.invariant.0 c.loop-at-test.true (rw c.in-Err.is at c.word.ensures) (refuses c.in-Err.refusal))
 
 pub offset_bounds-out-used : goal.offset_bounds-out-used
