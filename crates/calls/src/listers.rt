@@ -57,7 +57,10 @@ fn chosen(last: Place, call: u64) -> Place {
 fn mixed(h: u64, a: Listed, out: &[u8; 60]) -> u64 {
     let lister = a.next;
     let scanner = lister.scanner;
-    let ended = mixes::byte(mixes::byte(h, a.refusal), a.ended as u8);
+    let ended = mixes::byte(
+        mixes::byte(h, a.refusal.map_or(0, |r| r.number())),
+        a.ended as u8,
+    );
     let counts = mixes::number(mixes::number(ended, a.taken as u64), a.written as u64);
     let line = mixes::byte(
         mixes::number(counts, scanner.line as u64),

@@ -48,9 +48,8 @@ use Rattle.ballbox.proofs.Refusals as box_refusals
 use Rattle.ballbox.proofs.Goodness as box_goodness
 use Rattle.listing.specs.Feeding as listers
 use Rattle.listing.specs.Promises as lister
-use Rattle.listing.specs.Promises.{Whole, FeedPromise, FinishPromise}
+use Rattle.listing.specs.Promises.{Listed, Whole, FeedPromise, FinishPromise}
 use Rattle.listing.specs.declared.Lister.{Lister}
-use Rattle.listing.specs.declared.Listed.{Listed}
 use Rattle.listing.specs.declared.Scanner.{Scanner}
 use Rattle.listing.specs.declared.Item.{Item}
 use Rattle.listing.proofs.Answers as listing
@@ -103,7 +102,7 @@ use Rattle.salvaged.proofs.Whole as salvaged_answers
 use Rattle.driver.specs.Feeding as drivers
 use Rattle.driver.specs.Promises as driver
 use Rattle.driver.specs.declared.Driver.{Driver}
-use Rattle.driver.specs.declared.Driven.{Driven}
+use Rattle.driver.specs.Promises.{Driven}
 use Rattle.driver.proofs.Answers as driver_answers
 use Rattle.driver.proofs.Refusals as driver_refusals
 

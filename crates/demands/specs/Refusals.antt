@@ -16,7 +16,7 @@ use Rattle.ballbox.specs.declared.Event.{Event}
 use Rattle.ballbox.specs.declared.Stepped.{Stepped}
 use Rattle.listing.specs.Promises as lister
 use Rattle.listing.specs.declared.Lister.{Lister}
-use Rattle.listing.specs.declared.Listed.{Listed}
+use Rattle.listing.specs.Promises.{Listed}
 use Rattle.yard.specs.Promises as yard
 use Rattle.yard.specs.declared.Yard.{Yard}
 use Rattle.yard.specs.declared.NewYard.{NewYard}
@@ -40,7 +40,7 @@ use Rattle.readback.specs.declared.Rewritten.{Rewritten}
 use Rattle.driver.specs.Feeding as drivers
 use Rattle.driver.specs.Promises as driver
 use Rattle.driver.specs.declared.Driver.{Driver}
-use Rattle.driver.specs.declared.Driven.{Driven}
+use Rattle.driver.specs.Promises.{Driven}
 use Rattle.replies.specs.Promises as told
 use Rattle.replies.specs.Promises.{Telling, NewToldReader, no_reply}
 use Rattle.replies.specs.declared.Asked.{Asked}

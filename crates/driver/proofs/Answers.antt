@@ -2,9 +2,8 @@
 use Prim.Native.Nat.{ℕ}
 use mathlib.Core.Path.{◌≡◌, sym, ◌∙◌, ap}
 use mathlib.Core.List.{List}
-use Rattle.driver.specs.Promises.{Whole, whole, FreshPromise, FeedPromise, FinishPromise}
+use Rattle.driver.specs.Promises.{Driven, Whole, whole, FreshPromise, FeedPromise, FinishPromise}
 use Rattle.driver.specs.declared.Driver.{Driver}
-use Rattle.driver.specs.declared.Driven.{Driven}
 
 parts : {a b : Driven} {left right : List ℕ} → whole a left ≡ whole b right → (a ≡ b) × (left ≡ right)
 parts e = (ap (λ (w : Whole). w.driven) e, ap (λ (w : Whole). w.out) e)

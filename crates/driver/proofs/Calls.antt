@@ -14,10 +14,9 @@ use Rattle.fold.proofs.Pieces.{EachCall}
 use Rattle.ballbox.specs.Box.{Bytes}
 use Rattle.driver.specs.Driving.{recording_of}
 use Rattle.driver.specs.Feeding.{fresh, Feed, feed_in, closing, good}
-use Rattle.driver.specs.Promises.{enough, Whole, whole, written, untaken, feed_of, finish_of, FeedPromise, FinishPromise}
+use Rattle.driver.specs.Promises.{Driven, enough, Whole, whole, written, untaken, feed_of, finish_of, FeedPromise, FinishPromise}
 use Rattle.driver.specs.Calls.{feed_calls, finish_calls, owing}
 use Rattle.driver.specs.declared.Driver.{Driver}
-use Rattle.driver.specs.declared.Driven.{Driven}
 use Rattle.driver.proofs.Kept.{Kept, kept_good, fresh_kept}
 use Rattle.driver.proofs.Refusals as refusals
 use Rattle.driver.proofs.Whole.{all_of, all_at_once}

@@ -19,9 +19,8 @@ use Rattle.text.proofs.Laws.{put_none}
 use Rattle.listing.proofs.Feeds.{size, put_room, put_wrote, put_short}
 use Rattle.listing.specs.Lines.{newline}
 use Rattle.driver.specs.Feeding.{end_of, end_tick, tick_of, drives, ticks_from, feed_in, lacking, closing, good}
-use Rattle.driver.specs.Promises.{Whole, whole, written, finish_of}
+use Rattle.driver.specs.Promises.{Driven, Whole, whole, written, finish_of}
 use Rattle.driver.specs.declared.Driver.{Driver}
-use Rattle.driver.specs.declared.Driven.{Driven}
 use Rattle.driver.proofs.Ticks.{no_tick, byte_first, run_all, run_part, NoSlot, took_all_lem, took_part}
 use Rattle.driver.proofs.Feeds.{not_zero, answer_of}
 

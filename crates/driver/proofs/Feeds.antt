@@ -20,11 +20,10 @@ use Rattle.listing.specs.Lines.{newline}
 use Rattle.driver.specs.Recorded.{record_bytes, record_line, all_lines}
 use Rattle.driver.specs.Driving.{end_done}
 use Rattle.driver.specs.Feeding.{Holds, Turned, byte_of, slot_of, slot_tick, end_tick, tick_of, drives, ticks_from, input_among, Ticks, feed_in, good}
-use Rattle.driver.specs.Promises.{whole, written, feed_of, finish_of}
+use Rattle.driver.specs.Promises.{Driven, whole, written, feed_of, finish_of}
 use Rattle.driver.specs.declared.Record.{Record}
 use Rattle.driver.specs.declared.Record.TheVariants.{Bad}
 use Rattle.driver.specs.declared.Driver.{Driver}
-use Rattle.driver.specs.declared.Driven.{Driven}
 use Rattle.driver.specs.declared.Turn.{Turn}
 use Rattle.driver.specs.declared.Tick.{Tick}
 use Rattle.driver.proofs.Ticks.{no_tick, byte_first, slot_first}

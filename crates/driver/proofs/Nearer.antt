@@ -17,12 +17,11 @@ use Rattle.ballbox.specs.declared.BallBox.{BallBox}
 use Rattle.driver.specs.Lines.{said_by}
 use Rattle.driver.specs.Driving.{line_done}
 use Rattle.driver.specs.Feeding.{Turning, longest, at_line, fresh, unfinished, owed_by, besides, taken_of, byte_of, slot_of, feed_in}
-use Rattle.driver.specs.Promises.{Whole, FeedPromise}
+use Rattle.driver.specs.Promises.{Driven, Whole, FeedPromise}
 use Rattle.driver.specs.Calls.{feed_calls}
 use Rattle.driver.specs.declared.Order.{Order}
 use Rattle.driver.specs.declared.Order.TheVariants as order
 use Rattle.driver.specs.declared.Driver.{Driver}
-use Rattle.driver.specs.declared.Driven.{Driven}
 use Rattle.driver.proofs.Taken.{Took, none, slot, tick, no_slots, took}
 use Rattle.driver.proofs.Refusals.{feeds}
 use Rattle.driver.proofs.Kept.{Kept, kept_good, fresh_kept, slot_kept, tick_kept}

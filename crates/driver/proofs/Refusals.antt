@@ -6,9 +6,8 @@ use mathlib.Core.List.{List}
 use lib.ListN.{length}
 use Rattle.wire.specs.Numbers.{success}
 use Rattle.driver.specs.Feeding.{feed_in, closing, good}
-use Rattle.driver.specs.Promises.{Whole, whole, written, refused, untaken, feed_of, finish_of, FreshPromise, FeedPromise, FinishPromise}
+use Rattle.driver.specs.Promises.{Driven, Whole, whole, written, refused, untaken, feed_of, finish_of, FreshPromise, FeedPromise, FinishPromise}
 use Rattle.driver.specs.declared.Driver.{Driver}
-use Rattle.driver.specs.declared.Driven.{Driven}
 use Rattle.driver.proofs.Keeps as keeps
 
 pub bad_state_feed : (m : Driver) (input before after : List ℕ) (a : Driven) → good m ≡ false → FeedPromise m input before a after → whole a after ≡ refused m before

@@ -14,9 +14,8 @@ use Rattle.driver.specs.Lines.{alone_in, format_in, with_fields, said_by}
 use Rattle.driver.specs.Recorded.{record_line}
 use Rattle.driver.specs.Driving.{line_done, set}
 use Rattle.driver.specs.Feeding.{at_line, fresh, taken_of, byte_of, end_of, tick_of, ticks_from, feed_in, good}
-use Rattle.driver.specs.Promises.{Whole, feed_of, finish_of, FreshPromise, FeedPromise, FinishPromise}
+use Rattle.driver.specs.Promises.{Driven, Whole, feed_of, finish_of, FreshPromise, FeedPromise, FinishPromise}
 use Rattle.driver.specs.declared.Driver.{Driver}
-use Rattle.driver.specs.declared.Driven.{Driven}
 use Rattle.driver.proofs.Keeps.{fresh_is_good}
 use Rattle.driver.proofs.Refusals.{feeds, finishes, good_feed, good_finish}
 

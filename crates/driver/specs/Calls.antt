@@ -3,9 +3,8 @@ use Rattle.std.specs.Prelude.{ℕ, ◌+◌, cond, eqb}
 use Rattle.fold.specs.Pieces.{InPieces}
 use Rattle.listing.specs.Scanning.{most_lines}
 use Rattle.ballbox.specs.Box.{Bytes}
-use Rattle.driver.specs.Promises.{FeedPromise, FinishPromise}
+use Rattle.driver.specs.Promises.{Driven, FeedPromise, FinishPromise}
 use Rattle.driver.specs.declared.Driver.{Driver}
-use Rattle.driver.specs.declared.Driven.{Driven}
 
 -- `feed`, of a piece that is bytes
 abbrev pub feed_calls : InPieces Driver Driven ℕ

@@ -1,13 +1,25 @@
 -- What is promised of `Driver::fresh`, `Driver::feed` and `Driver::finish`: for every argument one answer, and every byte of the slice.
-use Rattle.std.specs.Prelude.{ℕ, ◌≡◌, cond, List, ◌++◌, length, drop}
+use Rattle.std.specs.Prelude.{ℕ, ◌≡◌, Bool, cond, List, ◌++◌, length, drop}
 use Rattle.wire.specs.Numbers.{success, bad_state}
+use Rattle.listing.specs.Promises.{number_if}
 use Rattle.driver.specs.Feeding.{fresh, Feed, feed_in, closing, good}
 use Rattle.driver.specs.declared.Driver.{Driver}
-use Rattle.driver.specs.declared.Driven.{Driven}
+use Rattle.driver.specs.declared.Driven as declared
 
 -- the free places with which a call takes a tick
 abbrev pub enough : ℕ
 enough = 9
+
+-- the answer by itself: a number, 0 where it is not refused, the driver, the counts, and whether it has ended
+pub record Driven : Type 0 where
+  pub refusal : ℕ
+  pub next : Driver
+  pub taken : ℕ
+  pub written : ℕ
+  pub ended : Bool
+
+abbrev pub driven_in : declared.Driven → Driven
+driven_in a = record { refusal = number_if a.refusal; next = a.next; taken = a.taken; written = a.written; ended = a.ended }
 
 -- what a call gives back, and every byte of the lent slice after it
 pub record Whole : Type 0 where

@@ -1,12 +1,12 @@
 // The driver, fed in pieces, with the text to a lent slice.
 ghost use Rattle.std.specs.Prelude.{◌≡◌, true, ◌<◌, ◌≤◌, length};
 ghost use Rattle.driver.specs.Feeding.{owed_by, at_line, Turned, taken_of, byte_of, slot_of, slot_tick, end_of, Due, Ticks, feed_in, lacking, good};
-ghost use Rattle.driver.specs.Promises.{FreshPromise, FeedPromise, FinishPromise, whole, written};
+ghost use Rattle.driver.specs.Promises.{FreshPromise, FeedPromise, FinishPromise, driven_in, whole, written};
 
 use crate::{Driven, Driver, MOST_LINES, Order, Record, Tick, Turn, driving, lines, recorded};
 use ballbox::BallBox;
 use text::Text;
-use wire::BAD_STATE;
+use wire::Refusal;
 
 // The most bytes of a good line.
 const LONGEST: usize = 15;
@@ -36,7 +36,7 @@ fn owed(order: Order) -> u32
 }
 
 // The answer of a driver that took and wrote so many bytes.
-fn answer(refusal: u8, next: Driver, taken: usize, written: usize) -> Driven
+fn answer(refusal: Option<Refusal>, next: Driver, taken: usize, written: usize) -> Driven
     ensures { result ≡ record { refusal = refusal; next = next; taken = taken; written = written; ended = next.ended } }
 {
     Driven {
@@ -58,34 +58,34 @@ impl Driver {
 
     // A piece of the input, and its text to a lent slice. It stops before a byte, or a slot, whose text has no room.
     pub fn feed(self, input: &[u8], out: &mut [u8]) -> Driven
-        ensures { FeedPromise self input.now out.old result out.new }
+        ensures { FeedPromise self input.now out.old (driven_in result) out.new }
     {
         if !self.good() {
-            return answer(BAD_STATE, self, 0, 0);
+            return answer(Some(Refusal::BadState), self, 0, 0);
         }
         self.ticks(input, out)
     }
 
     // The end of the input. Where a part of its text has no room it can be called again.
     pub fn finish(self, out: &mut [u8]) -> Driven
-        ensures { FinishPromise self out.old result out.new }
+        ensures { FinishPromise self out.old (driven_in result) out.new }
     {
         if !self.good() {
-            return answer(BAD_STATE, self, 0, 0);
+            return answer(Some(Refusal::BadState), self, 0, 0);
         }
         let closed = self.closed(out);
         let last = closed.next;
         let used = closed.written;
         if (last.owed != 0) | ((self.count != 0) & (closed.taken == 0)) {
-            return answer(0, last, 0, used);
+            return answer(None, last, 0, used);
         }
         let t = last.end();
         let text = t.text;
         let n = text.len;
         if !text.put(out, used) {
-            return answer(0, last, 0, used);
+            return answer(None, last, 0, used);
         }
-        answer(0, t.next, 0, used + n)
+        answer(None, t.next, 0, used + n)
     }
 
     // Whether it keeps its rules.
@@ -197,7 +197,7 @@ impl Driver {
     // The bytes of a piece, one after the other, and before each and behind the last the slots that are owed.
     fn ticks(self, input: &[u8], out: &mut [u8]) -> Driven
         requires { good self ≡ true }
-        ensures { whole result out.new ≡ written (feed_in self input.now (length out.old)) out.old }
+        ensures { whole (driven_in result) out.new ≡ written (feed_in self input.now (length out.old)) out.old }
     {
         let mut m = self;
         let mut at: usize = 0;
@@ -208,19 +208,19 @@ impl Driver {
             let text = t.text;
             let n = text.len;
             if !text.put(out, used) {
-                return answer(0, m, at, used);
+                return answer(None, m, at, used);
             }
             m = t.next;
             at += tick.taken;
             used += n;
         }
-        answer(0, m, at, used)
+        answer(None, m, at, used)
     }
 
     // The newline that an unfinished line lacks, with all that is owed before and behind it.
     fn closed(self, out: &mut [u8]) -> Driven
         requires { good self ≡ true }
-        ensures { whole result out.new ≡ written (feed_in self (lacking self) (length out.old)) out.old }
+        ensures { whole (driven_in result) out.new ≡ written (feed_in self (lacking self) (length out.old)) out.old }
     {
         if self.count == 0 {
             return self.ticks(b"", out);

@@ -4,6 +4,7 @@
 
 use ballbox::{BallBox, Event};
 use text::Text;
+use wire::Refusal;
 
 mod driving;
 mod feeding;
@@ -34,10 +35,10 @@ pub struct Driver {
     pub ball: BallBox,
 }
 
-// What a call gives back: 0, or 6 for a driver that breaks its rules; the next driver; the bytes taken and written; and whether it has ended.
+// What a call gives back: why it is refused, if it is; the next driver; the bytes taken and written; and whether it has ended.
 #[derive(Clone, Copy, Drop)]
 pub struct Driven {
-    pub refusal: u8,
+    pub refusal: Option<Refusal>,
     pub next: Driver,
     pub taken: usize,
     pub written: usize,

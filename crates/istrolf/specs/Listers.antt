@@ -3,7 +3,7 @@ use Rattle.std.specs.Prelude.{ℕ, Bool, ◌&&◌, List}
 use Rattle.wire.specs.Numbers.{bad_state}
 use Rattle.listing.specs.Promises as listing
 use Rattle.listing.specs.declared.Lister.{Lister}
-use Rattle.listing.specs.declared.Listed.{Listed}
+use Rattle.listing.specs.Promises.{Listed}
 use Rattle.ballbox.specs.Marks.{mark, marked, is_mark}
 use Rattle.istrolf.specs.Readers as readers
 use Rattle.istrolf.specs.declared.HeldLister.{HeldLister}

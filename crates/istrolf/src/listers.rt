@@ -1,8 +1,10 @@
 // The lister for C: a recording in, its listing out, in pieces of any size.
 ghost use Rattle.std.specs.Prelude.{◌≡◌};
+ghost use Rattle.listing.specs.Promises.{listed_in};
 ghost use Rattle.istrolf.specs.Listers.{packed, unpacked, stands, packed_listed, refused_listed};
 ghost use Rattle.istrolf.specs.Promises.{FreshListerPromise, FeedPromise, FinishPromise};
 
+use crate::bridges::number_if;
 use crate::{HeldLister, ListedBytes, readers};
 use listing::{Listed, Lister, Scanner};
 use wire::BAD_STATE;
@@ -46,11 +48,11 @@ fn stands(held: HeldLister) -> bool
 }
 
 fn packed_listed(listed: Listed) -> ListedBytes
-    ensures { result ≡ packed_listed listed }
+    ensures { result ≡ packed_listed (listed_in listed) }
 {
     let next = packed(listed.next);
     ListedBytes {
-        refusal: listed.refusal,
+        refusal: number_if(listed.refusal),
         ended: listed.ended as u8,
         taken: listed.taken,
         written: listed.written,

@@ -14,10 +14,9 @@ use Rattle.fold.proofs.Pieces as in_pieces
 use Rattle.listing.specs.Listing.{listing_of}
 use Rattle.listing.specs.Scanning.{passed, most_bytes}
 use Rattle.listing.specs.Feeding.{Feed, stopped, fresh, fed_byte, last_of, feed_in, finish_in, good}
-use Rattle.listing.specs.Promises.{enough, Whole, whole, written, feed_of, finish_of, FeedPromise, FinishPromise}
+use Rattle.listing.specs.Promises.{Listed, enough, Whole, whole, written, feed_of, finish_of, FeedPromise, FinishPromise}
 use Rattle.listing.specs.Calls.{feed_calls}
 use Rattle.listing.specs.declared.Lister.{Lister}
-use Rattle.listing.specs.declared.Listed.{Listed}
 use Rattle.listing.proofs.Whole.{all_of, all_at_once}
 use Rattle.listing.proofs.Pieces as pieces
 use Rattle.listing.proofs.Ended.{piece_on, never_passed, stays_ended, quiet, end_ends}

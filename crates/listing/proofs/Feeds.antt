@@ -23,10 +23,9 @@ use Rattle.listing.specs.Scanning.{width, most_lines}
 use Rattle.listing.specs.Items.{items_in, word_gave}
 use Rattle.listing.specs.Printing.{all_bytes}
 use Rattle.listing.specs.Feeding.{passed_to, Turning, fed_byte, last_of, feeds, Stands, Begins, feed_in, finish_in, good}
-use Rattle.listing.specs.Promises.{whole, written, feed_of, finish_of}
+use Rattle.listing.specs.Promises.{Listed, whole, written, feed_of, finish_of}
 use Rattle.listing.specs.declared.Gave.{Gave}
 use Rattle.listing.specs.declared.Lister.{Lister}
-use Rattle.listing.specs.declared.Listed.{Listed}
 use Rattle.listing.specs.declared.Front.{Front}
 use Rattle.listing.specs.declared.Told.{Told}
 use Rattle.listing.proofs.Few.{few_byte}

@@ -6,9 +6,8 @@ use mathlib.Core.List.{List}
 use lib.ListN.{length}
 use Rattle.wire.specs.Numbers.{success}
 use Rattle.listing.specs.Feeding.{good}
-use Rattle.listing.specs.Promises.{Whole, whole, refused, feed_of, finish_of, FreshPromise, FeedPromise, FinishPromise}
+use Rattle.listing.specs.Promises.{Listed, Whole, whole, refused, feed_of, finish_of, FreshPromise, FeedPromise, FinishPromise}
 use Rattle.listing.specs.declared.Lister.{Lister}
-use Rattle.listing.specs.declared.Listed.{Listed}
 use Rattle.listing.proofs.Calls.{feeds, finishes}
 use Rattle.listing.proofs.Keeps as keeps
 

@@ -17,11 +17,10 @@ use Rattle.listing.specs.Items.{gave_of}
 use Rattle.listing.specs.Printing.{line_of}
 use Rattle.listing.specs.Listing.{listing_of}
 use Rattle.listing.specs.Feeding.{fresh, front_of, fed_byte, last_of, feed_in, finish_in, good}
-use Rattle.listing.specs.Promises.{enough, feed_of, finish_of}
+use Rattle.listing.specs.Promises.{Listed, enough, feed_of, finish_of}
 use Rattle.listing.specs.Calls.{feed_calls}
 use Rattle.listing.specs.Examples.{paper}
 use Rattle.listing.specs.declared.Lister.{Lister}
-use Rattle.listing.specs.declared.Listed.{Listed}
 use Rattle.listing.proofs.Keeps.{fresh_is_good}
 use Rattle.listing.proofs.Calls.{takes_all, in_calls, ended_early, has_ended}
 

@@ -21,7 +21,7 @@ use Rattle.listing.specs.Items.{gave_of}
 use Rattle.listing.specs.Printing.{line_of}
 use Rattle.listing.specs.Listing.{waiting}
 use Rattle.listing.specs.Feeding.{fresh, passed_to, front_of, fed_byte, last_of, feed_in, finish_in, good}
-use Rattle.listing.specs.Promises.{Whole, feed_of, finish_of, LinePromise, FreshPromise, FeedPromise, FinishPromise, ByteScanPromise, ClosedScanPromise, EndScanPromise, ReportedPromise, ItemLinePromise, SalvagePromise}
+use Rattle.listing.specs.Promises.{Listed, Whole, feed_of, finish_of, LinePromise, FreshPromise, FeedPromise, FinishPromise, ByteScanPromise, ClosedScanPromise, EndScanPromise, ReportedPromise, ItemLinePromise, SalvagePromise}
 use Rattle.listing.specs.declared.Scanner.{Scanner}
 use Rattle.listing.specs.declared.Scan.{Scan}
 use Rattle.listing.specs.declared.Found.{Found}
@@ -32,7 +32,6 @@ use Rattle.listing.specs.declared.Buttons.{Buttons}
 use Rattle.listing.specs.declared.Item.{Item}
 use Rattle.listing.specs.declared.Item.TheVariants as item
 use Rattle.listing.specs.declared.Lister.{Lister}
-use Rattle.listing.specs.declared.Listed.{Listed}
 use Rattle.listing.proofs.Keeps.{fresh_is_good}
 use Rattle.listing.proofs.Calls.{feeds, finishes}
 use Rattle.listing.proofs.Refusals.{good_feed, good_finish}

@@ -1,9 +1,8 @@
 -- Calls of a lister, one after the other, with whatever answers the promise permits.
 use Rattle.std.specs.Prelude.{ℕ}
 use Rattle.fold.specs.Pieces.{InPieces}
-use Rattle.listing.specs.Promises.{FeedPromise}
+use Rattle.listing.specs.Promises.{Listed, FeedPromise}
 use Rattle.listing.specs.declared.Lister.{Lister}
-use Rattle.listing.specs.declared.Listed.{Listed}
 
 -- `feed`
 abbrev pub feed_calls : InPieces Lister Listed ℕ

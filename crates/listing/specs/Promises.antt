@@ -1,7 +1,9 @@
 -- What is promised of `Lister::fresh`, `Lister::feed`, `Lister::finish` and `line_at`: for every argument one
 -- answer, and every byte of the slice; and of the scanner.
-use Rattle.std.specs.Prelude.{ℕ, ◌≡◌, Bool, cond, List, ◌++◌, length, drop, Option}
+use Rattle.std.specs.Prelude.{ℕ, ◌≡◌, Bool, cond, List, ◌++◌, length, drop, Option, None, Some}
 use Rattle.wire.specs.Numbers.{success, bad_state}
+use Rattle.wire.specs.Refusals.{number_of}
+use Rattle.wire.specs.declared.refusal.Refusal.{Refusal}
 use Rattle.listing.specs.Scanning.{scanned_byte, closed_of, end_of}
 use Rattle.text.specs.Growth.{text_of}
 use Rattle.text.specs.declared.Text.{Text}
@@ -14,11 +16,26 @@ use Rattle.listing.specs.declared.Scanner.{Scanner}
 use Rattle.listing.specs.declared.Scan.{Scan}
 use Rattle.listing.specs.declared.Item.{Item}
 use Rattle.listing.specs.declared.Lister.{Lister}
-use Rattle.listing.specs.declared.Listed.{Listed}
+use Rattle.listing.specs.declared.Listed as declared
 
 -- the free places with which a call takes a byte or finishes
 abbrev pub enough : ℕ
 enough = 40
+
+-- the answer by itself: a number, 0 where it is not refused, the lister, the counts, and whether it has ended
+pub record Listed : Type 0 where
+  pub refusal : ℕ
+  pub next : Lister
+  pub taken : ℕ
+  pub written : ℕ
+  pub ended : Bool
+
+abbrev pub number_if : Option Refusal → ℕ
+number_if None = success
+number_if (Some e) = number_of e
+
+abbrev pub listed_in : declared.Listed → Listed
+listed_in a = record { refusal = number_if a.refusal; next = a.next; taken = a.taken; written = a.written; ended = a.ended }
 
 -- what a call gives back, and every byte of the lent slice after it
 pub record Whole : Type 0 where

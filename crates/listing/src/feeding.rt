@@ -3,15 +3,15 @@
 ghost use Rattle.std.specs.Prelude.{◌≡◌, ◌<◌, length};
 ghost use Rattle.text.specs.Growth.{text_of};
 ghost use Rattle.listing.specs.Feeding.{front_of, turning, last_of, turn_of, turned, passed_to, Stands, Begins, feed_in, good};
-ghost use Rattle.listing.specs.Promises.{FreshPromise, FeedPromise, FinishPromise, whole, written};
+ghost use Rattle.listing.specs.Promises.{FreshPromise, FeedPromise, FinishPromise, listed_in, whole, written};
 
 use crate::{Front, Listed, Lister, Scan, Scanner, Turn, WIDTH, batches, items, printing};
 use reader::Reader;
 use text::Text;
-use wire::BAD_STATE;
+use wire::Refusal;
 
 // The answer of a lister that took and wrote so many bytes.
-fn answer(refusal: u8, next: Lister, taken: usize, written: usize) -> Listed
+fn answer(refusal: Option<Refusal>, next: Lister, taken: usize, written: usize) -> Listed
     ensures { result ≡ record { refusal = refusal; next = next; taken = taken; written = written; ended = next.scanner.ended } }
 {
     Listed {
@@ -64,28 +64,28 @@ impl Lister {
 
     // A piece of the input, and its text to a lent slice. It stops before a byte whose text has no room.
     pub fn feed(self, input: &[u8], out: &mut [u8]) -> Listed
-        ensures { FeedPromise self input.now out.old result out.new }
+        ensures { FeedPromise self input.now out.old (listed_in result) out.new }
     {
         if !self.good() {
-            return answer(BAD_STATE, self, 0, 0);
+            return answer(Some(Refusal::BadState), self, 0, 0);
         }
         self.bytes(input, out)
     }
 
     // The end of the input. Where its text has no room nothing is written, and it can be called again.
     pub fn finish(self, out: &mut [u8]) -> Listed
-        ensures { FinishPromise self out.old result out.new }
+        ensures { FinishPromise self out.old (listed_in result) out.new }
     {
         if !self.good() {
-            return answer(BAD_STATE, self, 0, 0);
+            return answer(Some(Refusal::BadState), self, 0, 0);
         }
         let t = self.last();
         let text = t.text;
         let n = text.len;
         if !text.put(out, 0) {
-            return answer(0, self, 0, 0);
+            return answer(None, self, 0, 0);
         }
-        answer(0, t.next, 0, n)
+        answer(None, t.next, 0, n)
     }
 
     // The first byte of a piece, and its text to the front of a slice; none where its text has no room.
@@ -130,7 +130,7 @@ impl Lister {
 
     // The bytes of a piece, one front after the other.
     fn bytes(self, input: &[u8], out: &mut [u8]) -> Listed
-        ensures { whole result out.new ≡ written (feed_in self input.now (length out.old)) out.old }
+        ensures { whole (listed_in result) out.new ≡ written (feed_in self input.now (length out.old)) out.old }
     {
         let mut m = self;
         let mut at: usize = 0;
@@ -138,13 +138,13 @@ impl Lister {
         while at < input.len() {
             let f = m.part(&input[at..], &mut out[used..]);
             if f.taken == 0 {
-                return answer(0, m, at, used);
+                return answer(None, m, at, used);
             }
             m = f.next;
             at += f.taken;
             used += f.used;
         }
-        answer(0, m, at, used)
+        answer(None, m, at, used)
     }
 
     // Whether it keeps its rules: a good scanner and a good reader.

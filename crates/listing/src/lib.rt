@@ -6,6 +6,7 @@ ghost use Rattle.listing.specs.Promises.{SalvagePromise, LinePromise};
 
 use reader::Reader;
 use text::Text;
+use wire::Refusal;
 
 mod batches;
 mod feeding;
@@ -103,10 +104,10 @@ pub struct Lister {
     pub reader: Reader,
 }
 
-// What a call gives back: 0, or 6 for a lister that breaks its rules; the next lister; the bytes taken and written; and whether it has ended.
+// What a call gives back: why it is refused, if it is; the next lister; the bytes taken and written; and whether it has ended.
 #[derive(Clone, Copy, Drop)]
 pub struct Listed {
-    pub refusal: u8,
+    pub refusal: Option<Refusal>,
     pub next: Lister,
     pub taken: usize,
     pub written: usize,

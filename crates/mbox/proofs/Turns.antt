@@ -11,10 +11,9 @@ use Rattle.listing.specs.Scanning.{most_lines}
 use Rattle.ballbox.specs.Box.{Bytes}
 use Rattle.driver.specs.Feeding.{fresh}
 use Rattle.driver.specs.Driving.{recording_of}
-use Rattle.driver.specs.Promises.{enough, FeedPromise, FinishPromise}
+use Rattle.driver.specs.Promises.{Driven, enough, FeedPromise, FinishPromise}
 use Rattle.driver.specs.Calls.{owing}
 use Rattle.driver.specs.declared.Driver.{Driver}
-use Rattle.driver.specs.declared.Driven.{Driven}
 use Rattle.driver.proofs.Kept.{Kept}
 use Rattle.driver.proofs.Whole.{all_of, all_at_once}
 use Rattle.driver.proofs.Pieces.{quiet}

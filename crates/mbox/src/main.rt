@@ -2,7 +2,7 @@
 #![tactic(auto)]
 
 ghost use Rattle.std.specs.Prelude.{◌≡◌, [], ◌-◌, ◌≤◌, ◌<◌, length, is_ok};
-ghost use Rattle.std.proofs.Common.{rules};
+ghost use Rattle.std.proofs.Common.{le_refl};
 ghost use Rattle.shell.specs.Outside.{Trace};
 ghost use Rattle.shell.specs.Standing.{Ends};
 ghost use Rattle.driver.specs.Promises.{enough};
@@ -35,7 +35,7 @@ impl Filter for Driving {
 
     ghost may_end = { λ s kept. kept };
 
-    ghost room_grows = { Prim.search rules };
+    ghost room_grows = { λ n m fewer. le_refl enough };
 
     // A call may stop for room, and is followed by another until all of the bytes are taken and no slot is owed. With nine places each takes a byte or a slot.
     // Nothing is read once the recording has ended.

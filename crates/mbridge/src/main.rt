@@ -2,7 +2,7 @@
 #![tactic(auto)]
 
 ghost use Rattle.std.specs.Prelude.{◌≡◌, true, [], ◌*◌, ◌-◌, ◌≤◌, ◌<◌, length, is_ok};
-ghost use Rattle.std.proofs.Common.{rules};
+ghost use Rattle.std.proofs.Common.{le_refl};
 ghost use Rattle.text.specs.Growth.{slice, filled_by};
 ghost use Rattle.listing.specs.Scanning.{passed, most_bytes};
 ghost use Rattle.bridge.specs.Good.{good};
@@ -143,7 +143,7 @@ impl Filter for Bridging {
 
     ghost may_end = { λ s ready. ready.sound };
 
-    ghost room_grows = { Prim.search rules };
+    ghost room_grows = { λ n m fewer. le_refl (2 * most) };
 
     // The bytes of a read, one by one: what has been put is shown before a byte that might have no room, and at the end.
     fn feed(

@@ -9,9 +9,8 @@ use Rattle.shell.proofs.Laws as standing
 use Rattle.listing.specs.Scanning.{passed, most_bytes}
 use Rattle.listing.specs.Feeding.{fresh, Feed, feed_in, last_of, good}
 use Rattle.listing.specs.Listing.{listing_of}
-use Rattle.listing.specs.Promises.{enough, Whole, whole, written, FeedPromise, FinishPromise}
+use Rattle.listing.specs.Promises.{Listed, enough, Whole, whole, written, FeedPromise, FinishPromise}
 use Rattle.listing.specs.declared.Lister.{Lister}
-use Rattle.listing.specs.declared.Listed.{Listed}
 use Rattle.listing.proofs.Whole.{all_of, all_at_once}
 use Rattle.listing.proofs.Calls.{feeds, next_good, takes_all, tells_ended, goes_on, finishes}
 use Rattle.listing.proofs.Pieces as pieces

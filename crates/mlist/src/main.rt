@@ -9,7 +9,7 @@ ghost use Rattle.listing.specs.Feeding.{good};
 ghost use Rattle.listing.specs.Promises.{enough};
 ghost use Rattle.listing.proofs.Whole.{all_of};
 ghost use Rattle.mlist.specs.Program.{mlist};
-ghost use Rattle.std.proofs.Common.{rules};
+ghost use Rattle.std.proofs.Common.{mul-le-mul_left};
 
 use listing::Lister;
 use shell::{Failure, Filter, Step, System};
@@ -36,7 +36,7 @@ impl Filter for Listing {
 
     ghost may_end = { λ s good. good };
 
-    ghost room_grows = { Prim.search rules };
+    ghost room_grows = { λ n m fewer. mul-le-mul_left enough fewer };
 
     // Nothing is read once the listing has ended.
     fn feed(

@@ -2,7 +2,7 @@
 #![tactic(auto)]
 
 ghost use Rattle.std.specs.Prelude.{◌-◌, ◌<◌, ◌≡◌, [], length, is_ok};
-ghost use Rattle.std.proofs.Common.{rules};
+ghost use Rattle.std.proofs.Common.{le_refl};
 ghost use Rattle.shell.specs.Outside.{Trace};
 ghost use Rattle.shell.specs.Standing.{Ends};
 ghost use Rattle.listing.specs.Scanning.{passed, most_bytes};
@@ -49,7 +49,7 @@ impl Filter for Judge {
 
     ghost may_end = { λ j within. tt };
 
-    ghost room_grows = { Prim.search rules };
+    ghost room_grows = { λ n m fewer. le_refl 0 };
 
     // What a read brought is judged, and nothing is read once the recording has ended.
     fn feed(

@@ -11,10 +11,9 @@ use Rattle.wire.specs.Numbers.{success}
 use Rattle.listing.specs.Scanning.{width}
 use Rattle.listing.specs.Listing.{items_at}
 use Rattle.listing.specs.Feeding as lister
-use Rattle.listing.specs.Promises.{FinishPromise as EndPromise}
+use Rattle.listing.specs.Promises.{Listed, FinishPromise as EndPromise}
 use Rattle.listing.specs.Calls.{feed_calls}
 use Rattle.listing.specs.declared.Item.{Item}
-use Rattle.listing.specs.declared.Listed.{Listed}
 use Rattle.listing.proofs.Calls as listing
 use Rattle.readback.specs.Items.{all_numbers}
 use Rattle.readback.specs.Steps.{fresh, of_salvage}

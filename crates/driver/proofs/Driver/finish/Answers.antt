@@ -3,6 +3,7 @@ use native.Mathlib.Omega.{arith}
 use Prim.Native.Nat.{◌+◌}
 use mathlib.Core.Path.{sym, ◌∙◌, ap}
 use borrow.Author.Tests.{not-true, not-false}
+use Rattle.driver.specs.Promises.{driven_in}
 use Rattle.driver.specs.declared.Turn.{Turn}
 use Rattle.driver.specs.declared.Driver.{Driver}
 use Rattle.driver.proofs.Feeds.{answer_of, finish_refused}
@@ -10,7 +11,7 @@ use Rattle.driver.proofs.Closing.{finish_lacks, finish_stops, finish_room, finis
 use Rattle.driver.proofs.Driver.finish.Goals as goal
 
 pub returns-then-not-good : goal.returns-then-not-good
-returns-then-not-good c = let a = c.args in finish_refused a.self a.out.now _ (sym c.good.ensures ∙ not-true _ c.if-not-good.true-raw) c.answer.ensures
+returns-then-not-good c = let a = c.args in finish_refused a.self a.out.now _ (sym c.good.ensures ∙ not-true _ c.if-not-good.true-raw) (ap driven_in c.answer.ensures)
 
 pub closed-closed-requires : goal.closed-closed-requires
 closed-closed-requires c = sym c.good.ensures ∙ not-false _ c.if-not-good.false-raw
@@ -18,14 +19,14 @@ closed-closed-requires c = sym c.good.ensures ∙ not-false _ c.if-not-good.fals
 pub returns-then-last-self : goal.returns-then-last-self
 returns-then-last-self c = let a = c.args in
     let ok = sym c.good.ensures ∙ not-false _ c.if-not-good.false-raw in
-    finish_lacks a.self a.out.now _ ok _ c.closed-closed.ensures _ c.if-last-self.true c.answer-then-last-self.ensures
+    finish_lacks a.self a.out.now _ ok _ c.closed-closed.ensures _ c.if-last-self.true (ap driven_in c.answer-then-last-self.ensures)
 
 pub returns-then-not-put : goal.returns-then-not-put
 returns-then-not-put c = let a = c.args in
     let ok = sym c.good.ensures ∙ not-false _ c.if-not-good.false-raw in
     let t = c.end-t in
     let p = c.put in
-    finish_stops a.self a.out.now _ ok _ c.closed-closed.ensures c.if-last-self.false t.result.text (ap (λ (t : Turn). t.text) t.ensures.0) t.ensures.1 _ _ (sym p.ensures.0 ∙ not-true _ c.if-not-put.true-raw) p.ensures.1 c.answer-then-not-put.ensures
+    finish_stops a.self a.out.now _ ok _ c.closed-closed.ensures c.if-last-self.false t.result.text (ap (λ (t : Turn). t.text) t.ensures.0) t.ensures.1 _ _ (sym p.ensures.0 ∙ not-true _ c.if-not-put.true-raw) p.ensures.1 (ap driven_in c.answer-then-not-put.ensures)
 
 pub overflow_add-used : goal.overflow_add-used
 overflow_add-used c = let a = c.args in
@@ -40,4 +41,4 @@ returns c = let a = c.args in
     let t = c.end-t in
     let p = c.put in
     finish_goes a.self a.out.now _ ok _ c.closed-closed.ensures c.if-last-self.false t.result.text (ap (λ (t : Turn). t.text) t.ensures.0) t.ensures.1 _ _ (sym p.ensures.0 ∙ not-false _ c.if-not-put.false-raw) p.ensures.1
-    (c.answer-2.ensures ∙ ap (λ (n : Driver). answer_of 0 n 0 (c.closed-closed.result.written + t.result.text.len)) (ap (λ (t : Turn). t.next) t.ensures.0))
+    (ap driven_in c.answer-2.ensures ∙ ap (λ (n : Driver). answer_of 0 n 0 (c.closed-closed.result.written + t.result.text.len)) (ap (λ (t : Turn). t.next) t.ensures.0))

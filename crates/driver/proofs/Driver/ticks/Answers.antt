@@ -8,9 +8,9 @@ use Rattle.text.specs.Growth.{text_of}
 use Rattle.text.proofs.Laws.{put_none}
 use Rattle.listing.proofs.Feeds.{size, put_room, put_wrote, put_short}
 use Rattle.driver.specs.Feeding.{tick_of, Ticks}
-use Rattle.driver.specs.Promises.{whole}
+use Rattle.driver.specs.Promises.{driven_in, whole}
+use Rattle.driver.specs.declared.Driven as declared
 use Rattle.driver.specs.declared.Turn.{Turn}
-use Rattle.driver.specs.declared.Driven.{Driven}
 use Rattle.driver.proofs.Keeps.{parts, tick_keeps}
 use Rattle.driver.proofs.Feeds.{some_left, none_left, Stands, starts, far, ends_all, stops_here, again, less}
 use Rattle.driver.proofs.Driver.ticks.Goals as goal
@@ -33,7 +33,7 @@ returns-then-not-put c =
     let g = goes in
     let x = (tick_of l.m g.tick).text in
     let unfit = sym p.ensures.0 ∙ not-true _ c.if-not-put.true-raw in
-    ap (whole _) (p.ensures.1 ∙ put_none t l.used l.out unfit) ∙ ap (λ (r : Driven). whole r l.out) c.answer.ensures
+    ap (whole _) (p.ensures.1 ∙ put_none t l.used l.out unfit) ∙ ap (λ (r : declared.Driven). whole (driven_in r) l.out) c.answer.ensures
     ∙ stops_here l.invariant.0 g (omega (arith, put_short x t text_is g.turns.1 l.used l.out unfit, size x t text_is g.turns.1 l.used l.out))
 
 pub overflow_add-at : goal.overflow_add-at
@@ -100,4 +100,4 @@ loop-at-preserved c =
 pub returns : goal.returns
 returns c = let l = c.loop-at in
     let e = none_left l.at (length c.args.input.now) l.m.owed c.loop-at-test.false in
-    ap (λ (r : Driven). whole r l.out) c.answer-2.ensures ∙ ends_all l.invariant.0 e.0 e.1
+    ap (λ (r : declared.Driven). whole (driven_in r) l.out) c.answer-2.ensures ∙ ends_all l.invariant.0 e.0 e.1

@@ -4,7 +4,7 @@ use Rattle.std.proofs.lemmas.List.{take_rest}
 use Rattle.std.proofs.lemmas.Result.{err_from_is_err_and}
 use lib.Seq.{length-take-le}
 use borrow.Author.Tests.{eqb-true, eqb-false}
-use Rattle.driver.specs.Promises.{enough}
+use Rattle.driver.specs.Promises.{enough, driven_in}
 use Rattle.driver.proofs.Calls.{feed_within}
 use Rattle.mbox.proofs.Turns.{Here, here_begins, left_of, all_bytes, nothing, calls, fails, fewer, all_taken, closes, falls}
 use Rattle.mbox.proofs.DrivingFilter.feed.Goals as goal
@@ -19,13 +19,13 @@ pub slice_bounds-show-end-in-loop-rest : goal.slice_bounds-show-end-in-loop-rest
 slice_bounds-show-end-in-loop-rest c =
     let feed = c.feed-driven in
     let same : length feed.new.out ≡ length c.loop-rest.out = search rules in
-    omega (arith, same, (feed_within _ _ _ _ feed.result feed.ensures).1)
+    omega (arith, same, (feed_within _ _ _ _ (driven_in feed.result) feed.ensures).1)
 
 pub slice_bounds-show-end-in-loop-rest-2 : goal.slice_bounds-show-end-in-loop-rest-2
 slice_bounds-show-end-in-loop-rest-2 c =
     let feed = c.feed-driven in
     let same : length feed.new.out ≡ length c.loop-rest.out = search rules in
-    sym (length-take-le _ _ (omega (arith, same, (feed_within _ _ _ _ feed.result feed.ensures).1)))
+    sym (length-take-le _ _ (omega (arith, same, (feed_within _ _ _ _ (driven_in feed.result) feed.ensures).1)))
 
 pub returns-in_err-show : goal.returns-in_err-show
 returns-in_err-show c =
@@ -34,10 +34,10 @@ returns-in_err-show c =
     rw p.1 (fails l.out l.invariant.here c.feed-driven.ensures c.show.new.self.turn c.in_err-show.ensures.handed)
 
 pub slice_bounds-rest-count : goal.slice_bounds-rest-count
-slice_bounds-rest-count c = let feed = c.feed-driven in (feed_within _ _ _ _ feed.result feed.ensures).0
+slice_bounds-rest-count c = let feed = c.feed-driven in (feed_within _ _ _ _ (driven_in feed.result) feed.ensures).0
 
 pub slice_bounds-rest-start : goal.slice_bounds-rest-start
-slice_bounds-rest-start c = let feed = c.feed-driven in (feed_within _ _ _ _ feed.result feed.ensures).0
+slice_bounds-rest-start c = let feed = c.feed-driven in (feed_within _ _ _ _ (driven_in feed.result) feed.ensures).0
 
 pub loop-rest-smaller : goal.loop-rest-smaller
 loop-rest-smaller c =

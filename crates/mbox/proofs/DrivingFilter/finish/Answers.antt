@@ -4,6 +4,7 @@ use Rattle.std.proofs.lemmas.Result.{err_from_is_err_and}
 use lib.Seq.{length-take-le}
 use borrow.Author.Tests.{not-true, not-false}
 use Rattle.shell.proofs.Laws as standing
+use Rattle.driver.specs.Promises.{driven_in}
 use Rattle.driver.proofs.Calls.{finish_within, last_kept}
 use Rattle.mbox.specs.Program.{mbox}
 use Rattle.mbox.proofs.Turns.{last_calls, last_fails, less, ends}
@@ -13,13 +14,13 @@ pub slice_bounds-show-end-in-loop-here : goal.slice_bounds-show-end-in-loop-here
 slice_bounds-show-end-in-loop-here c =
     let finish = c.finish-driven in
     let same : length finish.new.out ≡ length c.loop-here.out = search rules in
-    omega (arith, same, finish_within _ _ _ finish.result finish.ensures)
+    omega (arith, same, finish_within _ _ _ (driven_in finish.result) finish.ensures)
 
 pub slice_bounds-show-end-in-loop-here-2 : goal.slice_bounds-show-end-in-loop-here-2
 slice_bounds-show-end-in-loop-here-2 c =
     let finish = c.finish-driven in
     let same : length finish.new.out ≡ length c.loop-here.out = search rules in
-    sym (length-take-le _ _ (omega (arith, same, finish_within _ _ _ finish.result finish.ensures)))
+    sym (length-take-le _ _ (omega (arith, same, finish_within _ _ _ (driven_in finish.result) finish.ensures)))
 
 pub returns-in_err-show : goal.returns-in_err-show
 returns-in_err-show c =
@@ -40,7 +41,7 @@ loop-here-preserved c =
     let finish = c.finish-driven in
     let same : length finish.new.out ≡ length l.out = search rules in
     record {
-      kept = last_kept l.here l.out finish.new.out finish.result l.invariant.kept finish.ensures;
+      kept = last_kept l.here l.out finish.new.out (driven_in finish.result) l.invariant.kept finish.ensures;
       closes = last_calls l.out l.invariant.kept l.invariant.closes finish.ensures c.show.new.self.turn c.in_ok-show.ensures.handed;
       room = same ∙ l.invariant.room;
     }

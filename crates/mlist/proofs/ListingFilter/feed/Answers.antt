@@ -5,6 +5,7 @@ use lib.Seq.{length-take-le}
 use lib.ListN.{take}
 use Rattle.shell.specs.Standing.{silent}
 use Rattle.shell.proofs.Laws as standing
+use Rattle.listing.specs.Promises.{listed_in}
 use Rattle.listing.proofs.Calls.{feed_within, next_good}
 use Rattle.listing.proofs.Whole.{all_of}
 use Rattle.mlist.specs.Program.{mlist}
@@ -15,20 +16,20 @@ pub slice_bounds-show-end-2 : goal.slice_bounds-show-end-2
 slice_bounds-show-end-2 c =
     let feed = c.feed-listed in
     let same : length feed.new.out ≡ length c.args.out.now = search rules in
-    omega (arith, same, (feed_within _ _ _ _ feed.result feed.ensures).1)
+    omega (arith, same, (feed_within _ _ _ _ (listed_in feed.result) feed.ensures).1)
 
 pub slice_bounds-show-end-3 : goal.slice_bounds-show-end-3
 slice_bounds-show-end-3 c =
     let feed = c.feed-listed in
     let same : length feed.new.out ≡ length c.args.out.now = search rules in
-    sym (length-take-le _ _ (omega (arith, same, (feed_within _ _ _ _ feed.result feed.ensures).1)))
+    sym (length-take-le _ _ (omega (arith, same, (feed_within _ _ _ _ (listed_in feed.result) feed.ensures).1)))
 
 pub returns-in_err-show : goal.returns-in_err-show
 returns-in_err-show c =
     let m = c.args.self.lister in
     let bytes = c.args.bytes.now in
     let feed = c.feed-listed in
-    let told = goes m bytes c.args.out.now feed.new.out feed.result c.requires.reads c.requires.room.1 feed.ensures in
+    let told = goes m bytes c.args.out.now feed.new.out (listed_in feed.result) c.requires.reads c.requires.room.1 feed.ensures in
     let p = err_from_is_err_and c.from_residual.result c.from_residual.ensures.1 in
     rw p.1
     (standing.fails_writing mlist c.args.system.now.turn c.show.new.self.turn false (take feed.result.written feed.new.out) _ (all_of feed.result.next) silent
@@ -40,7 +41,7 @@ returns-then-listed c =
     let bytes = c.args.bytes.now in
     let out = c.args.out.now in
     let feed = c.feed-listed in
-    let a = feed.result in
+    let a = listed_in feed.result in
     let told = goes m bytes out feed.new.out a c.requires.reads c.requires.room.1 feed.ensures in
     let stands = standing.writes mlist c.args.system.now.turn c.show.new.self.turn true (take a.written feed.new.out) _ (all_of a.next) silent
     c.requires.stands told c.in_ok-show.ensures.handed refl in
@@ -55,7 +56,7 @@ returns-else-listed c =
     let bytes = c.args.bytes.now in
     let out = c.args.out.now in
     let feed = c.feed-listed in
-    let a = feed.result in
+    let a = listed_in feed.result in
     let told = goes m bytes out feed.new.out a c.requires.reads c.requires.room.1 feed.ensures in
     let stands = standing.writes mlist c.args.system.now.turn c.show.new.self.turn true (take a.written feed.new.out) _ (all_of a.next) silent
     c.requires.stands told c.in_ok-show.ensures.handed refl in

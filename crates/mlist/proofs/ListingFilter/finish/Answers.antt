@@ -3,7 +3,7 @@ use Rattle.std.proofs.Common.{rules, ◌≡◌, ◌≤◌, length, sym, subst, i
 use lib.Seq.{length-take-le}
 use Rattle.shell.specs.Outside.{Handed}
 use Rattle.shell.proofs.Laws as standing
-use Rattle.listing.specs.Promises.{enough}
+use Rattle.listing.specs.Promises.{enough, listed_in}
 use Rattle.listing.proofs.Calls.{finish_within}
 use Rattle.listing.proofs.Whole.{all_of}
 use Rattle.mlist.specs.Program.{mlist}
@@ -14,13 +14,13 @@ pub slice_bounds-show-end-2 : goal.slice_bounds-show-end-2
 slice_bounds-show-end-2 c =
     let finish = c.finish-listed in
     let same : length finish.new.out ≡ length c.args.out.now = search rules in
-    omega (arith, same, finish_within _ _ _ finish.result finish.ensures)
+    omega (arith, same, finish_within _ _ _ (listed_in finish.result) finish.ensures)
 
 pub slice_bounds-show-end-3 : goal.slice_bounds-show-end-3
 slice_bounds-show-end-3 c =
     let finish = c.finish-listed in
     let same : length finish.new.out ≡ length c.args.out.now = search rules in
-    sym (length-take-le _ _ (omega (arith, same, finish_within _ _ _ finish.result finish.ensures)))
+    sym (length-take-le _ _ (omega (arith, same, finish_within _ _ _ (listed_in finish.result) finish.ensures)))
 
 pub returns : goal.returns
 returns c =
@@ -29,5 +29,5 @@ returns c =
     let t = c.args.system.now.turn in
     let t' = c.show.new.self.turn in
     let room : enough ≤ length c.args.out.now = omega (arith, c.requires.room) in
-    let text = last_text m c.args.out.now finish.new.out finish.result c.requires.ends room finish.ensures in
+    let text = last_text m c.args.out.now finish.new.out (listed_in finish.result) c.requires.ends room finish.ensures in
     standing.last mlist t t' (is_ok c.show.result) (all_of m []) c.requires.closes (subst (Handed mlist.output t t' (is_ok c.show.result)) text c.show.ensures.handed)
