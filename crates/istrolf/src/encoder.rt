@@ -2,7 +2,7 @@
 ghost use Rattle.istrolf.specs.Promises.{EncodePromise};
 
 use crate::Encoding;
-use wire::{length_in, number_in, Report};
+use wire::{Report, length_in, number_in};
 
 // The bytes of a report, to the front of a buffer.
 pub fn istrolf_encode(letter: u8, report: Report, buffer: &mut [u8]) -> Encoding

@@ -4,7 +4,7 @@ ghost use Rattle.listing.specs.Promises.{listed_in};
 ghost use Rattle.istrolf.specs.Listers.{packed, unpacked, stands, packed_listed, refused_listed};
 ghost use Rattle.istrolf.specs.Promises.{FreshListerPromise, FeedPromise, FinishPromise};
 
-use crate::bridges::number_if;
+use crate::readers::number_if;
 use crate::{HeldLister, ListedBytes, readers};
 use listing::{Listed, Lister, Scanner};
 use wire::BAD_STATE;

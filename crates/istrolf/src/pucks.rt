@@ -5,8 +5,7 @@ ghost use Rattle.puckreader.specs.Line.{reading_in};
 ghost use Rattle.istrolf.specs.Pucks.{no_test, answered, packed_reading};
 ghost use Rattle.istrolf.specs.Promises.{MadePuckPromise, PuckStepPromise, FreshPuckReaderPromise, PuckReaderStepPromise, PuckReadPromise};
 
-use crate::readers::number_if;
-use crate::readers::no_report;
+use crate::readers::{no_report, number_if};
 use crate::{ReadPuckWord, ReadPuckWords};
 use ballbox::Event;
 use puck::{Puck, PuckStepped};
