@@ -1,9 +1,8 @@
 -- What is promised of `Lister::fresh`, `Lister::feed`, `Lister::finish` and `line_at`: for every argument one
 -- answer, and every byte of the slice; and of the scanner.
-use Rattle.std.specs.Prelude.{ℕ, ◌≡◌, Bool, cond, List, ◌++◌, length, drop, Option, None, Some}
+use Rattle.std.specs.Prelude.{ℕ, ◌≡◌, Bool, cond, List, ◌++◌, length, drop, Option}
 use Rattle.wire.specs.Numbers.{success, bad_state}
 use Rattle.wire.specs.Refusals.{number_if}
-use Rattle.wire.specs.declared.refusal.Refusal.{Refusal}
 use Rattle.listing.specs.Scanning.{scanned_byte, closed_of, end_of}
 use Rattle.text.specs.Growth.{text_of}
 use Rattle.text.specs.declared.Text.{Text}
