@@ -65,9 +65,9 @@ impl Filter for Driving {
     fn finish(self, system: &mut System, out: &mut [u8]) -> Result<(), Failure> {
         let mut here = self.driver;
         while !here.ended {
-            let driven = here.finish(out);
-            system.show(b"mbox: standard output", &out[..driven.written])?;
-            here = driven.next;
+            let last = here.finish(out);
+            system.show(b"mbox: standard output", &out[..last.written])?;
+            here = last.next;
         }
         Ok(())
     }
