@@ -68,7 +68,8 @@ pub struct Track {
     pub last: Pair,
 }
 
-// What is going: the bytes of a report or a reply, how many they are, and how many of them are sent.
+// What is going: the bytes of a report or a reply, how many they are, and how many of them are sent. C has this struct and the three below, and no heap
+// is used: so a number stands beside bytes, and a mark is a number.
 #[repr(C)]
 #[derive(Clone, Copy, Drop)]
 pub struct Going {

@@ -4,7 +4,7 @@ use Rattle.fold.specs.Fold.{Machine}
 use Rattle.fold.specs.Calls.{Call}
 use Rattle.fold.specs.Calls as fold
 use Rattle.wire.specs.Numbers.{success, bad_state}
-use Rattle.wire.specs.Refusals.{number_of}
+use Rattle.wire.specs.Refusals.{number_if}
 use Rattle.wire.specs.declared.refusal.Refusal.{Refusal}
 use Rattle.wire.specs.declared.Report.{Report}
 use Rattle.reader.specs.Rules.{word_of}
@@ -97,10 +97,6 @@ pub record Converted : Type 0 where
   pub reports : ℕ
   pub sent : ℕ
   pub dropped : ℕ
-
-abbrev pub number_if : Option Refusal → ℕ
-number_if None = success
-number_if (Some e) = number_of e
 
 abbrev pub converted_in : declared.Converted → Converted
 converted_in a =

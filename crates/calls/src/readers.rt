@@ -46,7 +46,10 @@ fn lent(reader: Reader, words: &[u16], count: usize, out: &mut [i16], room: usiz
 }
 
 fn mixed(h: u64, a: Reading) -> u64 {
-    let taken = mixes::number(mixes::byte(h, a.refusal.map_or(0, |r| r.number())), a.taken as u64);
+    let taken = mixes::number(
+        mixes::byte(h, a.refusal.map_or(0, |r| r.number())),
+        a.taken as u64,
+    );
     let counts = mixes::number(mixes::number(taken, a.reports as u64), a.dropped as u64);
     mixes::reader(counts, a.next)
 }

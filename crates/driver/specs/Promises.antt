@@ -1,7 +1,7 @@
 -- What is promised of `Driver::fresh`, `Driver::feed` and `Driver::finish`: for every argument one answer, and every byte of the slice.
 use Rattle.std.specs.Prelude.{ℕ, ◌≡◌, Bool, cond, List, ◌++◌, length, drop}
 use Rattle.wire.specs.Numbers.{success, bad_state}
-use Rattle.listing.specs.Promises.{number_if}
+use Rattle.wire.specs.Refusals.{number_if}
 use Rattle.driver.specs.Feeding.{fresh, Feed, feed_in, closing, good}
 use Rattle.driver.specs.declared.Driver.{Driver}
 use Rattle.driver.specs.declared.Driven as declared

@@ -194,7 +194,8 @@ impl Driver {
         }
     }
 
-    // The bytes of a piece, one after the other, and before each and behind the last the slots that are owed.
+    // The bytes of a piece, one after the other, and before each and behind the last the slots that are owed. A slot takes no byte, so the loop is no `for`
+    // over them.
     fn ticks(self, input: &[u8], out: &mut [u8]) -> Driven
         requires { good self ≡ true }
         ensures { whole (driven_in result) out.new ≡ written (feed_in self input.now (length out.old)) out.old }

@@ -1,7 +1,8 @@
 // The reader for C: line words in, reports out.
 ghost use Rattle.std.specs.Prelude.{◌≡◌};
 ghost use Rattle.reader.specs.State.{read_in};
-ghost use Rattle.reader.specs.Line.{number_if, reading_in};
+ghost use Rattle.reader.specs.Line.{reading_in};
+ghost use Rattle.wire.specs.Refusals.{number_if};
 ghost use Rattle.istrolf.specs.Readers.{packed, unpacked, stands, no_report, answered, packed_read, refused_read, packed_reading, refused_reading};
 ghost use Rattle.istrolf.specs.Promises.{FreshReaderPromise, ReaderStepPromise, ReadPromise};
 

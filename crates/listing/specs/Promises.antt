@@ -2,7 +2,7 @@
 -- answer, and every byte of the slice; and of the scanner.
 use Rattle.std.specs.Prelude.{ℕ, ◌≡◌, Bool, cond, List, ◌++◌, length, drop, Option, None, Some}
 use Rattle.wire.specs.Numbers.{success, bad_state}
-use Rattle.wire.specs.Refusals.{number_of}
+use Rattle.wire.specs.Refusals.{number_if}
 use Rattle.wire.specs.declared.refusal.Refusal.{Refusal}
 use Rattle.listing.specs.Scanning.{scanned_byte, closed_of, end_of}
 use Rattle.text.specs.Growth.{text_of}
@@ -29,10 +29,6 @@ pub record Listed : Type 0 where
   pub taken : ℕ
   pub written : ℕ
   pub ended : Bool
-
-abbrev pub number_if : Option Refusal → ℕ
-number_if None = success
-number_if (Some e) = number_of e
 
 abbrev pub listed_in : declared.Listed → Listed
 listed_in a = record { refusal = number_if a.refusal; next = a.next; taken = a.taken; written = a.written; ended = a.ended }

@@ -199,6 +199,7 @@ pub(crate) fn words(line: u32, reader: Reader, input: &[u8], out: &mut [u8]) -> 
     let mut used: usize = 0;
     let mut words = [0u16; 32];
     let mut told = [0i16; 192];
+    // A turn takes as many lines as its batch and the silences behind it have, so it is no `for`.
     while n < most {
         let b = gathered(input, at, at_once(most - n, out.len() - used), &mut words);
         if b.count == 0 {

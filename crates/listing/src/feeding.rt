@@ -128,7 +128,7 @@ impl Lister {
         self.first(input, out)
     }
 
-    // The bytes of a piece, one front after the other.
+    // The bytes of a piece, one front after the other. The loop moves on by what was taken: a front takes as many bytes and writes as many as it finds, and both counts are given back; two slices that shrink would be counted beside it.
     fn bytes(self, input: &[u8], out: &mut [u8]) -> Listed
         ensures { whole (listed_in result) out.new ≡ written (feed_in self input.now (length out.old)) out.old }
     {

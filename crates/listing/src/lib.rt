@@ -28,7 +28,7 @@ pub(crate) enum Line {
     Word(u16),
 }
 
-// How far a recording has been scanned: the lines passed, whether it has ended, and the bytes of the unfinished line.
+// How far a recording has been scanned: the lines passed, whether it has ended, and the bytes of the unfinished line, beside their number (no heap).
 #[derive(Clone, Copy, Drop)]
 pub struct Scanner {
     pub line: u32,
@@ -37,7 +37,7 @@ pub struct Scanner {
     pub count: usize,
 }
 
-// What is found in a recording: its format; the number of a line and its word; the number of a bad line; a line too many; and its end.
+// What is found in a recording: nothing yet, one of six kinds and so no Option; its format; the number of a line and its word; the number of a bad line; a line too many; and its end.
 #[derive(Clone, Copy, Drop)]
 pub enum Found {
     Nothing,

@@ -16,6 +16,7 @@ fn filled(system: &mut System, input: &mut [u8]) -> Result<usize, Failure>
     requires decides_in_bounds { decides ≤ length input.old }
     ensures { Filled system.new.turn input.new result }
 {
+    // The slice does not shrink: `behind` reads behind the bytes that are held.
     let mut count = 0;
     while count < input.len() {
         let n = system.behind(b"msalvage: standard input", input, count)?;

@@ -12,7 +12,8 @@ use wire::Refusal;
 mod good;
 mod rules;
 
-// The self-test that is going: how many of its four bytes are left to be sent, 0 where none is going, and the buttons as they were at its start.
+// The self-test that is going: how many of its four bytes are left to be sent, 0 where none is going, and the buttons as they were at its start. C has this
+// struct.
 #[repr(C)]
 #[derive(Clone, Copy, Drop)]
 pub struct Testing {

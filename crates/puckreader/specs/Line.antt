@@ -5,7 +5,7 @@ use Rattle.fold.specs.Fold.{Machine}
 use Rattle.fold.specs.Calls.{Call, Counts, counts, reporting}
 use Rattle.fold.specs.Calls as calls
 use Rattle.wire.specs.Numbers.{success, bad_state}
-use Rattle.wire.specs.Refusals.{number_of}
+use Rattle.wire.specs.Refusals.{number_if}
 use Rattle.wire.specs.declared.refusal.Refusal.{Refusal}
 use Rattle.vsxxx.specs.Reports.{PuckReport, movement, self_test, six_of, size_of_report}
 use Rattle.puckreader.specs.Rules.{word_of}
@@ -73,10 +73,6 @@ pub record PuckReading : Type 0 where
   pub taken : ℕ
   pub reports : ℕ
   pub dropped : ℕ
-
-abbrev pub number_if : Option Refusal → ℕ
-number_if None = success
-number_if (Some e) = number_of e
 
 abbrev pub reading_in : declared.PuckReading → PuckReading
 reading_in a = record { refusal = number_if a.refusal; next = a.next; taken = a.taken; reports = a.reports; dropped = a.dropped }

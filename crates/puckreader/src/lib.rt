@@ -22,7 +22,7 @@ pub struct PuckReader {
     pub count: u8,
 }
 
-// What a word is answered by: nothing, a movement, a self-test, or a number of bytes dropped.
+// What a word is answered by: nothing, a movement, a self-test, or a number of bytes dropped. Nothing is an answer, one of four.
 #[derive(Clone, Copy, Drop)]
 pub enum PuckAnswer {
     Nothing,

@@ -63,7 +63,7 @@ pub(crate) struct Passed {
     pub given: Option<Item>,
 }
 
-// What rewriting gives back: 0, 6 or 7 as above, or 15 for a line number that does not fit the other width; the next reader; the bytes taken and written; and
+// What rewriting gives back, as C has it, so that a refusal is a number: 0, 6 or 7 as above, or 15 for a line number that does not fit the other width; the next reader; the bytes taken and written; and
 // the place of the line that was not rewritten among the lines, counted from 1, or 0.
 #[repr(C)]
 #[derive(Clone, Copy, Drop)]
@@ -75,7 +75,7 @@ pub struct Rewritten {
     pub next: Readback,
 }
 
-// What a call gives back: 0, 6 for a reader that breaks its rules, or 7 for a faulty line; the next reader; the bytes taken and the items written; and the
+// What a call gives back, as C has it: 0, 6 for a reader that breaks its rules, or 7 for a faulty line; the next reader; the bytes taken and the items written; and the
 // place of the faulty line among the lines, counted from 1, or 0.
 #[repr(C)]
 #[derive(Clone, Copy, Drop)]

@@ -113,7 +113,7 @@ impl Readback {
         }
     }
 
-    // The lines, one after the other.
+    // The lines, one after the other. The loop moves on by what was taken: a line takes as many bytes and writes as many as it finds, and both counts are given back; two slices that shrink would be counted beside it.
     fn lines(self, input: &[u8], out: &mut [i32]) -> Back
         requires { good self ≡ true }
         ensures { whole result out.new ≡ pieces_of read_lines self input.now out.old }

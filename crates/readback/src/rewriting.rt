@@ -93,7 +93,7 @@ impl Readback {
         rewritten(0, line.next, line.taken, text.len, 0)
     }
 
-    // The lines, one after the other.
+    // The lines, one after the other, as `lines` of pieces: what it writes, and the struct that C has of it, differ.
     fn rewrite_lines(self, input: &[u8], out: &mut [u8]) -> Rewritten
         requires { good self ≡ true }
         ensures { rewriting result out.new ≡ pieces_of rewrite_lines self input.now out.old }

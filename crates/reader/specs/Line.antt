@@ -4,7 +4,7 @@ use Rattle.fold.specs.Fold.{Machine}
 use Rattle.fold.specs.Calls.{Call, Counts, counts, reporting}
 use Rattle.fold.specs.Calls as calls
 use Rattle.wire.specs.Numbers.{success, bad_state}
-use Rattle.wire.specs.Refusals.{number_of}
+use Rattle.wire.specs.Refusals.{number_if}
 use Rattle.wire.specs.declared.refusal.Refusal.{Refusal}
 use Rattle.reader.specs.Good.{good}
 use Rattle.reader.specs.Rules.{word_of}
@@ -33,11 +33,6 @@ pub record Reading : Type 0 where
   pub taken : ℕ
   pub reports : ℕ
   pub dropped : ℕ
-
--- the number of a refusal, and 0 where there is none
-abbrev pub number_if : Option Refusal → ℕ
-number_if None = success
-number_if (Some e) = number_of e
 
 abbrev pub reading_in : declared.Reading → Reading
 reading_in a = record { refusal = number_if a.refusal; next = a.next; taken = a.taken; reports = a.reports; dropped = a.dropped }

@@ -7,7 +7,7 @@ use Rattle.wire.specs.Numbers.{bad_state}
 use Rattle.reader.specs.Good.{good}
 use Rattle.reader.specs.State.{five_of}
 use Rattle.reader.specs.Rules.{word_of}
-use Rattle.reader.specs.Line.{number_if}
+use Rattle.wire.specs.Refusals.{number_if}
 use Rattle.reader.specs.declared.Reader.{Reader}
 use Rattle.reader.specs.declared.Answers as declared
 use Rattle.reader.specs.declared.Answer.{Answer}

@@ -31,7 +31,7 @@ pub struct Reader {
     pub awaiting: bool,
 }
 
-// What a word is answered by: nothing, a report, or a number of bytes dropped.
+// What a word is answered by: nothing, a report, or a number of bytes dropped. Nothing is an answer, one of three.
 #[derive(Clone, Copy, Drop)]
 pub enum Answer {
     Nothing,

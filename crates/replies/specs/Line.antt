@@ -5,7 +5,7 @@ use Rattle.fold.specs.Fold.{Machine}
 use Rattle.fold.specs.Calls.{Call}
 use Rattle.fold.specs.Calls as calls
 use Rattle.wire.specs.Numbers.{bad_state}
-use Rattle.reader.specs.Line.{number_if}
+use Rattle.wire.specs.Refusals.{number_if}
 use Rattle.reader.specs.Counts.{reports_in, dropped_in, written_in}
 use Rattle.reader.specs.declared.Answer.{Answer}
 use Rattle.replies.specs.Good.{good}

@@ -13,7 +13,7 @@ use wire::{Refusal, SILENCE};
 // The most words of a log.
 pub const MOST: usize = 4096;
 
-// What is told of the runs picked: the number of the refusal, 0 for success; the words taken; the runs; and the bytes left out of the words taken.
+// What is told of the runs picked, as C has it: the number of the refusal, 0 for success; the words taken; the runs; and the bytes left out of the words taken.
 #[repr(C)]
 #[derive(Clone, Copy, Drop)]
 pub struct Picked {

@@ -11,7 +11,7 @@ use Rattle.fold.proofs.Parts.{rest_is}
 use Rattle.wire.proofs.Letters.{at_most_five}
 use Rattle.wire.specs.Line.{marked_by}
 use Rattle.reader.specs.Good.{good}
-use Rattle.reader.specs.Line.{number_if}
+use Rattle.wire.specs.Refusals.{number_if}
 use Rattle.reader.specs.Parts.{Stands, Begins}
 use Rattle.reader.proofs.Parts.{below_size_lem}
 use Rattle.reader.proofs.Loop.{starts, far, all_taken, took, none_taken, skipped}
