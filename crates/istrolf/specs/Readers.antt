@@ -1,6 +1,8 @@
 -- A reader as C holds it: the same fields, and a number for its mark; and what its functions give back.
-use Rattle.std.specs.Prelude.{ℕ, Bool, List, ℤ, pos}
+use Rattle.std.specs.Prelude.{ℕ, Bool, List, ℤ, pos, ◌≡◌, true, false, Result, MatchResult}
 use Rattle.wire.specs.Numbers.{bad_state}
+use Rattle.wire.specs.declared.refusal.Refusal.{Refusal}
+use Rattle.wire.specs.declared.refusal.Refusal.TheVariants.{BadState}
 use Rattle.wire.specs.declared.Report.{Report}
 use Rattle.reader.specs.Line.{Reading, Long, reading as reading_of}
 use Rattle.reader.specs.declared.Answer.{Answer}
@@ -22,6 +24,10 @@ unpacked h = record { format = h.format; kept = h.kept; count = h.count; awaitin
 -- what stands for a reader
 abbrev pub stands : HeldReader → Bool
 stands h = is_mark h.awaiting
+
+-- what is held opens as what it stands for, and as none where it does not stand
+abbrev pub Opens : HeldReader → Result Reader Refusal → Type 0
+Opens h r = MatchResult r (λ reader. (stands h ≡ true) × (reader ≡ unpacked h)) (λ refusal. (stands h ≡ false) × (refusal ≡ BadState))
 
 abbrev pub packed_fresh : NewReader → FreshReader
 packed_fresh n = record { refusal = n.refusal; reader = packed n.reader }
