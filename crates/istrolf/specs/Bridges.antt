@@ -1,8 +1,6 @@
 -- A bridge as C holds it: the same fields, and a number for each mark; and what its functions give back.
-use Rattle.std.specs.Prelude.{ℕ, Bool, ◌&&◌, List, ◌≡◌, true, false, Result, MatchResult}
+use Rattle.std.specs.Prelude.{ℕ, Bool, ◌&&◌, List}
 use Rattle.wire.specs.Numbers.{bad_state}
-use Rattle.wire.specs.declared.refusal.Refusal.{Refusal}
-use Rattle.wire.specs.declared.refusal.Refusal.TheVariants.{BadState}
 use Rattle.bridge.specs.Line.{Converted, Long, told as told_by}
 use Rattle.bridge.specs.declared.Bridge.{Bridge}
 use Rattle.bridge.specs.Promises.{NewBridge}
@@ -33,10 +31,6 @@ unpacked h =
 -- what stands for a bridge
 abbrev pub stands : HeldBridge → Bool
 stands h = readers.stands h.reader && is_mark h.based && is_mark h.middle
-
--- what is held opens as what it stands for, and as none where it does not stand
-abbrev pub Opens : HeldBridge → Result Bridge Refusal → Type 0
-Opens h r = MatchResult r (λ bridge. (stands h ≡ true) × (bridge ≡ unpacked h)) (λ refusal. (stands h ≡ false) × (refusal ≡ BadState))
 
 abbrev pub packed_fresh : NewBridge → FreshBridge
 packed_fresh n = record { refusal = n.refusal; bridge = packed n.bridge }

@@ -1,8 +1,6 @@
 -- A lister as C holds it: the same fields, and a number for each mark; and what a call gives back.
-use Rattle.std.specs.Prelude.{ℕ, Bool, ◌&&◌, List, ◌≡◌, true, false, Result, MatchResult}
+use Rattle.std.specs.Prelude.{ℕ, Bool, ◌&&◌, List}
 use Rattle.wire.specs.Numbers.{bad_state}
-use Rattle.wire.specs.declared.refusal.Refusal.{Refusal}
-use Rattle.wire.specs.declared.refusal.Refusal.TheVariants.{BadState}
 use Rattle.listing.specs.Promises as listing
 use Rattle.listing.specs.declared.Lister.{Lister}
 use Rattle.listing.specs.Promises.{Listed}
@@ -31,10 +29,6 @@ unpacked h =
 -- what stands for a lister
 abbrev pub stands : HeldLister → Bool
 stands h = is_mark h.ended && readers.stands h.reader
-
--- what is held opens as what it stands for, and as none where it does not stand
-abbrev pub Opens : HeldLister → Result Lister Refusal → Type 0
-Opens h r = MatchResult r (λ lister. (stands h ≡ true) × (lister ≡ unpacked h)) (λ refusal. (stands h ≡ false) × (refusal ≡ BadState))
 
 abbrev pub packed_listed : Listed → ListedBytes
 packed_listed a =

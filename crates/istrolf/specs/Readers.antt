@@ -25,9 +25,9 @@ unpacked h = record { format = h.format; kept = h.kept; count = h.count; awaitin
 abbrev pub stands : HeldReader → Bool
 stands h = is_mark h.awaiting
 
--- what is held opens as what it stands for, and as none where it does not stand
-abbrev pub Opens : HeldReader → Result Reader Refusal → Type 0
-Opens h r = MatchResult r (λ reader. (stands h ≡ true) × (reader ≡ unpacked h)) (λ refusal. (stands h ≡ false) × (refusal ≡ BadState))
+-- what C holds opens as the state it stands for, and with 6 where it stands for none
+abbrev pub Opens : {H S : Type 0} → (H → Bool) → (H → S) → H → Result S Refusal → Type 0
+Opens is_state state_of h r = MatchResult r (λ s. (is_state h ≡ true) × (s ≡ state_of h)) (λ refusal. (is_state h ≡ false) × (refusal ≡ BadState))
 
 abbrev pub packed_fresh : NewReader → FreshReader
 packed_fresh n = record { refusal = n.refusal; reader = packed n.reader }

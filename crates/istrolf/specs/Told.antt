@@ -1,9 +1,7 @@
 -- A reader that is told of replies, as C holds it: the report reader, a number for the reply that is awaited, and what
 -- has come of it; and what its functions give back.
-use Rattle.std.specs.Prelude.{ℕ, Bool, cond, ◌&&◌, List, eqb, leb, ℤ, Option, None, Some, ◌≡◌, true, false, Result, MatchResult}
+use Rattle.std.specs.Prelude.{ℕ, Bool, cond, ◌&&◌, List, eqb, leb, ℤ, Option, None, Some}
 use Rattle.wire.specs.Numbers.{bad_state}
-use Rattle.wire.specs.declared.refusal.Refusal.{Refusal}
-use Rattle.wire.specs.declared.refusal.Refusal.TheVariants.{BadState}
 use Rattle.reader.specs.declared.Answer.{Answer}
 use Rattle.reader.specs.declared.Answer.TheVariants as answer
 use Rattle.replies.specs.Replying.{none, awaiting}
@@ -50,10 +48,6 @@ unpacked h = told_reader (readers.unpacked h.reader) (awaiting (kind_of h.awaite
 -- what stands for one
 abbrev pub stands : HeldTold → Bool
 stands h = readers.stands h.reader && leb h.awaited 4
-
--- what is held opens as what it stands for, and as none where it does not stand
-abbrev pub Opens : HeldTold → Result ToldReader Refusal → Type 0
-Opens h r = MatchResult r (λ told. (stands h ≡ true) × (told ≡ unpacked h)) (λ refusal. (stands h ≡ false) × (refusal ≡ BadState))
 
 abbrev pub packed_fresh : NewToldReader → FreshTold
 packed_fresh n = record { refusal = n.refusal; told = packed n.reader }

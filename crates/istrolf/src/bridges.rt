@@ -1,7 +1,8 @@
 // The bridge for C: line words of any format in, bytes of V out.
 ghost use Rattle.std.specs.Prelude.{◌≡◌};
 ghost use Rattle.bridge.specs.Line.{converted_in};
-ghost use Rattle.istrolf.specs.Bridges.{packed, Opens, packed_converted, refused_converted};
+ghost use Rattle.istrolf.specs.Readers.{Opens};
+ghost use Rattle.istrolf.specs.Bridges.{packed, unpacked, stands, packed_converted, refused_converted};
 ghost use Rattle.istrolf.specs.Promises.{FreshBridgePromise, ConvertPromise};
 
 use crate::readers::number_if;
@@ -31,7 +32,7 @@ impl From<Bridge> for HeldBridge {
 impl TryFrom<HeldBridge> for Bridge {
     type Error = Refusal;
 
-    ghost try_from_gives = { Opens };
+    ghost try_from_gives = { Opens stands unpacked };
 
     fn try_from(held: HeldBridge) -> Result<Self, Refusal> {
         let reader = Reader::try_from(held.reader)?;

@@ -1,7 +1,8 @@
 // The lister for C: a recording in, its listing out, in pieces of any size.
 ghost use Rattle.std.specs.Prelude.{◌≡◌};
 ghost use Rattle.listing.specs.Promises.{listed_in};
-ghost use Rattle.istrolf.specs.Listers.{packed, Opens, packed_listed, refused_listed};
+ghost use Rattle.istrolf.specs.Readers.{Opens};
+ghost use Rattle.istrolf.specs.Listers.{packed, unpacked, stands, packed_listed, refused_listed};
 ghost use Rattle.istrolf.specs.Promises.{FreshListerPromise, FeedPromise, FinishPromise};
 
 use crate::readers::number_if;
@@ -30,7 +31,7 @@ impl From<Lister> for HeldLister {
 impl TryFrom<HeldLister> for Lister {
     type Error = Refusal;
 
-    ghost try_from_gives = { Opens };
+    ghost try_from_gives = { Opens stands unpacked };
 
     fn try_from(held: HeldLister) -> Result<Self, Refusal> {
         let reader = Reader::try_from(held.reader)?;

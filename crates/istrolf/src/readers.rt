@@ -3,7 +3,7 @@ ghost use Rattle.std.specs.Prelude.{◌≡◌};
 ghost use Rattle.reader.specs.State.{read_in};
 ghost use Rattle.reader.specs.Line.{reading_in};
 ghost use Rattle.wire.specs.Refusals.{number_if};
-ghost use Rattle.istrolf.specs.Readers.{packed, Opens, no_report, answered, packed_read, refused_read, packed_reading, refused_reading};
+ghost use Rattle.istrolf.specs.Readers.{packed, unpacked, stands, Opens, no_report, answered, packed_read, refused_read, packed_reading, refused_reading};
 ghost use Rattle.istrolf.specs.Promises.{FreshReaderPromise, ReaderStepPromise, ReadPromise};
 
 use crate::{FreshReader, HeldReader, ReadWord, ReadWords};
@@ -28,7 +28,7 @@ impl From<Reader> for HeldReader {
 impl TryFrom<HeldReader> for Reader {
     type Error = Refusal;
 
-    ghost try_from_gives = { Opens };
+    ghost try_from_gives = { Opens stands unpacked };
 
     fn try_from(held: HeldReader) -> Result<Self, Refusal> {
         if held.awaiting <= 1 {

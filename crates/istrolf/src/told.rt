@@ -4,7 +4,8 @@ ghost use Rattle.replies.specs.declared.Asked.TheVariants.{Command, Waking};
 ghost use Rattle.replies.specs.Rules.{heard_in};
 ghost use Rattle.replies.specs.Line.{heard_line_in};
 ghost use Rattle.replies.specs.Promises.{telling_in};
-ghost use Rattle.istrolf.specs.Told.{kind_number, kind_of, packed, Opens, replied, packed_reply, own_of, packed_heard, refused_heard, packed_line, refused_line, packed_telling, refused_telling};
+ghost use Rattle.istrolf.specs.Readers.{Opens};
+ghost use Rattle.istrolf.specs.Told.{kind_number, kind_of, packed, unpacked, stands, replied, packed_reply, own_of, packed_heard, refused_heard, packed_line, refused_line, packed_telling, refused_telling};
 ghost use Rattle.istrolf.specs.Promises.{FreshToldPromise, TellPromise, ToldStepPromise, ToldReadPromise};
 
 use crate::readers::{no_report, number_if};
@@ -54,7 +55,7 @@ impl From<ToldReader> for HeldTold {
 impl TryFrom<HeldTold> for ToldReader {
     type Error = Refusal;
 
-    ghost try_from_gives = { Opens };
+    ghost try_from_gives = { Opens stands unpacked };
 
     fn try_from(held: HeldTold) -> Result<Self, Refusal> {
         let reader = Reader::try_from(held.reader)?;
