@@ -1,6 +1,8 @@
 -- A reader as C holds it: the same fields, and a number for its mark; and what its functions give back.
-use Rattle.std.specs.Prelude.{ℕ, Bool, List, ℤ, pos}
+use Rattle.std.specs.Prelude.{ℕ, Bool, List, ℤ, pos, ◌≡◌, true, false, Result, MatchResult}
 use Rattle.wire.specs.Numbers.{bad_state}
+use Rattle.wire.specs.declared.refusal.Refusal.{Refusal}
+use Rattle.wire.specs.declared.refusal.Refusal.TheVariants.{BadState}
 use Rattle.wire.specs.declared.Report.{Report}
 use Rattle.reader.specs.Line.{Reading, Long, reading as reading_of}
 use Rattle.reader.specs.declared.Answer.{Answer}
@@ -22,6 +24,10 @@ unpacked h = record { format = h.format; kept = h.kept; count = h.count; awaitin
 -- what stands for a reader
 abbrev pub stands : HeldReader → Bool
 stands h = is_mark h.awaiting
+
+-- what C holds opens as the state it stands for, and with 6 where it stands for none
+abbrev pub Opens : {H S : Type 0} → (H → Bool) → (H → S) → H → Result S Refusal → Type 0
+Opens is_state state_of h r = MatchResult r (λ s. (is_state h ≡ true) × (s ≡ state_of h)) (λ refusal. (is_state h ≡ false) × (refusal ≡ BadState))
 
 abbrev pub packed_fresh : NewReader → FreshReader
 packed_fresh n = record { refusal = n.refusal; reader = packed n.reader }

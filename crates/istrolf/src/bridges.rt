@@ -1,64 +1,72 @@
 // The bridge for C: line words of any format in, bytes of V out.
 ghost use Rattle.std.specs.Prelude.{◌≡◌};
 ghost use Rattle.bridge.specs.Line.{converted_in};
+ghost use Rattle.istrolf.specs.Readers.{Opens};
 ghost use Rattle.istrolf.specs.Bridges.{packed, unpacked, stands, packed_converted, refused_converted};
 ghost use Rattle.istrolf.specs.Promises.{FreshBridgePromise, ConvertPromise};
 
-use crate::{ConvertedWords, FreshBridge, HeldBridge, readers};
+use crate::readers::number_if;
+use crate::{ConvertedWords, FreshBridge, HeldBridge, HeldReader};
 use bridge::{Base, Bridge, Converted, Past};
-use wire::{BAD_STATE, SUCCESS};
+use reader::Reader;
+use wire::{BAD_STATE, Refusal, SUCCESS};
 
-fn packed(bridge: Bridge) -> HeldBridge
-    ensures { result ≡ packed bridge }
-{
-    let reader = readers::packed(bridge.reader);
-    let past = bridge.past;
-    let base = past.base;
-    HeldBridge {
-        reader: reader,
-        based: base.set as u8,
-        middle: past.middle as u8,
-        presses: past.presses,
-        x: base.x,
-        y: base.y,
+impl From<Bridge> for HeldBridge {
+    ghost from_gives = { λ bridge held. held ≡ packed bridge };
+
+    fn from(bridge: Bridge) -> Self {
+        let past = bridge.past;
+        let base = past.base;
+        HeldBridge {
+            reader: HeldReader::from(bridge.reader),
+            based: base.set as u8,
+            middle: past.middle as u8,
+            presses: past.presses,
+            x: base.x,
+            y: base.y,
+        }
     }
 }
 
-fn unpacked(held: HeldBridge) -> Bridge
-    ensures { result ≡ unpacked held }
-{
-    let reader = readers::unpacked(held.reader);
-    Bridge {
-        reader: reader,
-        past: Past {
-            base: Base {
-                set: held.based == 1,
-                x: held.x,
-                y: held.y,
-            },
-            middle: held.middle == 1,
-            presses: held.presses,
-        },
+// The bridge that is held, unless its reader does not stand or one of its marks is neither 0 nor 1.
+impl TryFrom<HeldBridge> for Bridge {
+    type Error = Refusal;
+
+    ghost try_from_gives = { Opens stands unpacked };
+
+    fn try_from(held: HeldBridge) -> Result<Self, Refusal> {
+        let reader = Reader::try_from(held.reader)?;
+        if (held.based <= 1) & (held.middle <= 1) {
+            Ok(Bridge {
+                reader,
+                past: Past {
+                    base: Base {
+                        set: held.based == 1,
+                        x: held.x,
+                        y: held.y,
+                    },
+                    middle: held.middle == 1,
+                    presses: held.presses,
+                },
+            })
+        } else {
+            Err(Refusal::BadState)
+        }
     }
 }
 
-// What stands for a bridge.
-fn stands(held: HeldBridge) -> bool
-    ensures { result ≡ stands held }
-{
-    readers::stands(held.reader) & (held.based <= 1) & (held.middle <= 1)
-}
+impl From<Converted> for ConvertedWords {
+    ghost from_gives = { λ converted words. words ≡ packed_converted (converted_in converted) };
 
-fn packed_converted(converted: Converted) -> ConvertedWords
-    ensures { result ≡ packed_converted (converted_in converted) }
-{
-    ConvertedWords {
-        refusal: readers::number_if(converted.refusal),
-        next: packed(converted.next),
-        taken: converted.taken,
-        reports: converted.reports,
-        sent: converted.sent,
-        dropped: converted.dropped,
+    fn from(converted: Converted) -> Self {
+        ConvertedWords {
+            refusal: number_if(converted.refusal),
+            next: HeldBridge::from(converted.next),
+            taken: converted.taken,
+            reports: converted.reports,
+            sent: converted.sent,
+            dropped: converted.dropped,
+        }
     }
 }
 
@@ -82,11 +90,11 @@ pub fn istrolf_bridge_fresh(letter: u8) -> FreshBridge
     match Bridge::fresh(letter) {
         Ok(bridge) => FreshBridge {
             refusal: SUCCESS,
-            bridge: packed(bridge),
+            bridge: HeldBridge::from(bridge),
         },
         Err(refusal) => FreshBridge {
             refusal: refusal.number(),
-            bridge: packed(Bridge::default()),
+            bridge: HeldBridge::from(Bridge::default()),
         },
     }
 }
@@ -95,8 +103,8 @@ pub fn istrolf_bridge_fresh(letter: u8) -> FreshBridge
 pub fn istrolf_bridge_convert(held: HeldBridge, words: &[u16], out: &mut [u8]) -> ConvertedWords
     ensures { ConvertPromise held words.now out.old result out.new }
 {
-    if !stands(held) {
-        return refused_converted(held);
+    match Bridge::try_from(held) {
+        Ok(bridge) => ConvertedWords::from(bridge.convert(words, out)),
+        Err(_) => refused_converted(held),
     }
-    packed_converted(unpacked(held).convert(words, out))
 }

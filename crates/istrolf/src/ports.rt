@@ -7,22 +7,22 @@ use crate::PortWord;
 use port::{Heard, Port, Words};
 
 // What was heard, as C has it.
-fn packed(heard: Heard) -> PortWord
-    ensures { result ≡ packed heard }
-{
-    let next = heard.next;
-    let given = heard.given;
-    match given {
-        None => PortWord {
-            words: 0,
-            word: 0,
-            next: next,
-        },
-        Some(w) => PortWord {
-            words: 1,
-            word: w,
-            next: next,
-        },
+impl From<Heard> for PortWord {
+    ghost from_gives = { λ heard told. told ≡ packed heard };
+
+    fn from(heard: Heard) -> Self {
+        match heard.given {
+            None => PortWord {
+                words: 0,
+                word: 0,
+                next: heard.next,
+            },
+            Some(word) => PortWord {
+                words: 1,
+                word,
+                next: heard.next,
+            },
+        }
     }
 }
 
@@ -44,7 +44,7 @@ pub fn istrolf_port_clearing(silence: u32) -> Port
 pub fn istrolf_port_byte(port: Port, byte: u8) -> PortWord
     ensures { PortBytePromise port byte result }
 {
-    packed(port.byte(byte))
+    PortWord::from(port.byte(byte))
 }
 
 // Bytes that it handed over.
@@ -58,12 +58,12 @@ pub fn istrolf_port_bytes(port: Port, raw: &[u8], out: &mut [u16]) -> Words
 pub fn istrolf_port_quiet(port: Port, wait: u32) -> PortWord
     ensures { PortQuietPromise port wait result }
 {
-    packed(port.quiet(wait))
+    PortWord::from(port.quiet(wait))
 }
 
 // Bytes are known to be lost.
 pub fn istrolf_port_lost(port: Port) -> PortWord
     ensures { PortLostPromise port result }
 {
-    packed(port.lost())
+    PortWord::from(port.lost())
 }

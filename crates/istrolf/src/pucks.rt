@@ -102,15 +102,17 @@ fn answered(refusal: u8, next: PuckReader, answer: PuckAnswer) -> ReadPuckWord
     }
 }
 
-fn packed_reading(reading: PuckReading) -> ReadPuckWords
-    ensures { result ≡ packed_reading (reading_in reading) }
-{
-    ReadPuckWords {
-        refusal: number_if(reading.refusal),
-        next: reading.next,
-        taken: reading.taken,
-        reports: reading.reports,
-        dropped: reading.dropped,
+impl From<PuckReading> for ReadPuckWords {
+    ghost from_gives = { λ reading words. words ≡ packed_reading (reading_in reading) };
+
+    fn from(reading: PuckReading) -> Self {
+        ReadPuckWords {
+            refusal: number_if(reading.refusal),
+            next: reading.next,
+            taken: reading.taken,
+            reports: reading.reports,
+            dropped: reading.dropped,
+        }
     }
 }
 
@@ -135,5 +137,5 @@ pub fn istrolf_puck_reader_step(reader: PuckReader, word: u16) -> ReadPuckWord
 pub fn istrolf_puck_reader_read(reader: PuckReader, words: &[u16], out: &mut [i16]) -> ReadPuckWords
     ensures { PuckReadPromise reader words.now out.old result out.new }
 {
-    packed_reading(reader.read(words, out))
+    ReadPuckWords::from(reader.read(words, out))
 }

@@ -3,42 +3,46 @@ ghost use Rattle.std.specs.Prelude.{◌≡◌};
 ghost use Rattle.reader.specs.State.{read_in};
 ghost use Rattle.reader.specs.Line.{reading_in};
 ghost use Rattle.wire.specs.Refusals.{number_if};
-ghost use Rattle.istrolf.specs.Readers.{packed, unpacked, stands, no_report, answered, packed_read, refused_read, packed_reading, refused_reading};
+ghost use Rattle.istrolf.specs.Readers.{packed, unpacked, stands, Opens, no_report, answered, packed_read, refused_read, packed_reading, refused_reading};
 ghost use Rattle.istrolf.specs.Promises.{FreshReaderPromise, ReaderStepPromise, ReadPromise};
 
 use crate::{FreshReader, HeldReader, ReadWord, ReadWords};
 use reader::{Answer, Reader, Reading, Step};
 use wire::{BAD_STATE, Refusal, Report, SUCCESS};
 
-pub(crate) fn packed(reader: Reader) -> HeldReader
-    ensures { result ≡ packed reader }
-{
-    let kept = reader.kept;
-    HeldReader {
-        format: reader.format,
-        kept: kept,
-        count: reader.count,
-        awaiting: reader.awaiting as u8,
+impl From<Reader> for HeldReader {
+    ghost from_gives = { λ reader held. held ≡ packed reader };
+
+    fn from(reader: Reader) -> Self {
+        let kept = reader.kept;
+        HeldReader {
+            format: reader.format,
+            kept,
+            count: reader.count,
+            awaiting: reader.awaiting as u8,
+        }
     }
 }
 
-pub(crate) fn unpacked(held: HeldReader) -> Reader
-    ensures { result ≡ unpacked held }
-{
-    let kept = held.kept;
-    Reader {
-        format: held.format,
-        kept: kept,
-        count: held.count,
-        awaiting: held.awaiting == 1,
-    }
-}
+// The reader that is held, unless its mark is neither 0 nor 1.
+impl TryFrom<HeldReader> for Reader {
+    type Error = Refusal;
 
-// What stands for a reader.
-pub(crate) fn stands(held: HeldReader) -> bool
-    ensures { result ≡ stands held }
-{
-    held.awaiting <= 1
+    ghost try_from_gives = { Opens stands unpacked };
+
+    fn try_from(held: HeldReader) -> Result<Self, Refusal> {
+        if held.awaiting <= 1 {
+            let kept = held.kept;
+            Ok(Reader {
+                format: held.format,
+                kept,
+                count: held.count,
+                awaiting: held.awaiting == 1,
+            })
+        } else {
+            Err(Refusal::BadState)
+        }
+    }
 }
 
 pub(crate) fn no_report() -> Report
@@ -86,8 +90,8 @@ fn packed_read(reader: Reader, read: Result<Step, Refusal>) -> ReadWord
     ensures { result ≡ packed_read (read_in reader read) }
 {
     match read {
-        Ok(step) => answered(SUCCESS, packed(step.next), step.answer),
-        Err(refusal) => answered(refusal.number(), packed(reader), Answer::Nothing),
+        Ok(step) => answered(SUCCESS, HeldReader::from(step.next), step.answer),
+        Err(refusal) => answered(refusal.number(), HeldReader::from(reader), Answer::Nothing),
     }
 }
 
@@ -113,15 +117,17 @@ pub(crate) fn number_if(refusal: Option<Refusal>) -> u8
     }
 }
 
-fn packed_reading(reading: Reading) -> ReadWords
-    ensures { result ≡ packed_reading (reading_in reading) }
-{
-    ReadWords {
-        refusal: number_if(reading.refusal),
-        next: packed(reading.next),
-        taken: reading.taken,
-        reports: reading.reports,
-        dropped: reading.dropped,
+impl From<Reading> for ReadWords {
+    ghost from_gives = { λ reading words. words ≡ packed_reading (reading_in reading) };
+
+    fn from(reading: Reading) -> Self {
+        ReadWords {
+            refusal: number_if(reading.refusal),
+            next: HeldReader::from(reading.next),
+            taken: reading.taken,
+            reports: reading.reports,
+            dropped: reading.dropped,
+        }
     }
 }
 
@@ -144,11 +150,11 @@ pub fn istrolf_reader_fresh(letter: u8) -> FreshReader
     match Reader::fresh(letter) {
         Ok(reader) => FreshReader {
             refusal: SUCCESS,
-            reader: packed(reader),
+            reader: HeldReader::from(reader),
         },
         Err(refusal) => FreshReader {
             refusal: refusal.number(),
-            reader: packed(Reader::default()),
+            reader: HeldReader::from(Reader::default()),
         },
     }
 }
@@ -157,19 +163,18 @@ pub fn istrolf_reader_fresh(letter: u8) -> FreshReader
 pub fn istrolf_reader_step(held: HeldReader, word: u16) -> ReadWord
     ensures { ReaderStepPromise held word result }
 {
-    if !stands(held) {
-        return refused_read(held);
+    match Reader::try_from(held) {
+        Ok(reader) => packed_read(reader, reader.step(word)),
+        Err(_) => refused_read(held),
     }
-    let reader = unpacked(held);
-    packed_read(reader, reader.step(word))
 }
 
 // A line of words, and the numbers of its reports to a lent slice.
 pub fn istrolf_reader_read(held: HeldReader, words: &[u16], out: &mut [i16]) -> ReadWords
     ensures { ReadPromise held words.now out.old result out.new }
 {
-    if !stands(held) {
-        return refused_reading(held);
+    match Reader::try_from(held) {
+        Ok(reader) => ReadWords::from(reader.read(words, out)),
+        Err(_) => refused_reading(held),
     }
-    packed_reading(unpacked(held).read(words, out))
 }

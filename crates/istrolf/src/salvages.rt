@@ -7,12 +7,14 @@ use crate::SalvagedBytes;
 use salvage::Picked;
 use salvaged::Salvaged;
 
-fn packed(told: Salvaged) -> SalvagedBytes
-    ensures { result ≡ packed told }
-{
-    SalvagedBytes {
-        whole: told.whole as u8,
-        written: told.written,
+impl From<Salvaged> for SalvagedBytes {
+    ghost from_gives = { λ told bytes. bytes ≡ packed told };
+
+    fn from(told: Salvaged) -> Self {
+        SalvagedBytes {
+            whole: told.whole as u8,
+            written: told.written,
+        }
     }
 }
 
@@ -27,5 +29,5 @@ pub fn istrolf_salvage_pick(letter: u8, words: &[u16], places: &mut [u16]) -> Pi
 pub fn istrolf_salvage_list(input: &[u8], out: &mut [u8]) -> SalvagedBytes
     ensures { SalvagePromise input.now out.old result out.new }
 {
-    packed(salvaged::list(input, out))
+    SalvagedBytes::from(salvaged::list(input, out))
 }

@@ -4,15 +4,17 @@ ghost use Rattle.replies.specs.declared.Asked.TheVariants.{Command, Waking};
 ghost use Rattle.replies.specs.Rules.{heard_in};
 ghost use Rattle.replies.specs.Line.{heard_line_in};
 ghost use Rattle.replies.specs.Promises.{telling_in};
+ghost use Rattle.istrolf.specs.Readers.{Opens};
 ghost use Rattle.istrolf.specs.Told.{kind_number, kind_of, packed, unpacked, stands, replied, packed_reply, own_of, packed_heard, refused_heard, packed_line, refused_line, packed_telling, refused_telling};
 ghost use Rattle.istrolf.specs.Promises.{FreshToldPromise, TellPromise, ToldStepPromise, ToldReadPromise};
 
 use crate::readers::{no_report, number_if};
-use crate::{FreshTold, HeardWord, HeardWords, HeldReply, HeldTold, Own, ToldCommand, readers};
-use reader::Answer;
+use crate::{FreshTold, HeardWord, HeardWords, HeldReader, HeldReply, HeldTold, Own, ToldCommand};
+use reader::{Answer, Reader};
 use replies::{Asked, Awaited, Came, HeardLine, Kind, Reply, Told, ToldReader, ToldStep};
 use wire::{BAD_STATE, Refusal, SUCCESS};
 
+// The number of a reply's kind, and 0 for none; and back. No From: it would be of types of other crates only.
 fn kind_number(kind: Option<Kind>) -> u8
     ensures { result ≡ kind_number kind }
 {
@@ -37,92 +39,93 @@ fn kind_of(number: u8) -> Option<Kind>
     }
 }
 
-fn packed(told: ToldReader) -> HeldTold
-    ensures { result ≡ packed told }
-{
-    let awaited = told.awaited;
-    let kind = awaited.kind;
-    let came = awaited.came;
-    let reader = readers::packed(told.reader);
-    let number = kind_number(kind);
-    HeldTold {
-        reader: reader,
-        awaited: number,
-        came: came,
+impl From<ToldReader> for HeldTold {
+    ghost from_gives = { λ told held. held ≡ packed told };
+
+    fn from(told: ToldReader) -> Self {
+        HeldTold {
+            reader: HeldReader::from(told.reader),
+            awaited: kind_number(told.awaited.kind),
+            came: told.awaited.came,
+        }
     }
 }
 
-fn unpacked(held: HeldTold) -> ToldReader
-    ensures { result ≡ unpacked held }
-{
-    let came = held.came;
-    let reader = readers::unpacked(held.reader);
-    let kind = kind_of(held.awaited);
-    ToldReader {
-        reader: reader,
-        awaited: Awaited {
-            kind: kind,
-            came: came,
-        },
-    }
-}
+// The told reader that is held, unless its reader does not stand or its number is that of no reply.
+impl TryFrom<HeldTold> for ToldReader {
+    type Error = Refusal;
 
-// What stands for such a reader.
-fn stands(held: HeldTold) -> bool
-    ensures { result ≡ stands held }
-{
-    readers::stands(held.reader) & (held.awaited <= 4)
+    ghost try_from_gives = { Opens stands unpacked };
+
+    fn try_from(held: HeldTold) -> Result<Self, Refusal> {
+        let reader = Reader::try_from(held.reader)?;
+        if held.awaited <= 4 {
+            Ok(ToldReader {
+                reader,
+                awaited: Awaited {
+                    kind: kind_of(held.awaited),
+                    came: held.came,
+                },
+            })
+        } else {
+            Err(Refusal::BadState)
+        }
+    }
 }
 
 fn replied(kind: u8, format: u8, mode: u8, buttons: u8, came: Came) -> HeldReply
     ensures { result ≡ replied kind format mode buttons came }
 {
     HeldReply {
-        kind: kind,
-        format: format,
-        mode: mode,
-        buttons: buttons,
-        came: came,
+        kind,
+        format,
+        mode,
+        buttons,
+        came,
     }
 }
 
-fn packed_reply(reply: Option<Reply>) -> HeldReply
-    ensures { result ≡ packed_reply reply }
-{
-    let none = Came {
-        count: 0,
-        first: 0,
-        second: 0,
-    };
-    match reply {
-        None => replied(0, 0, 0, 0, none),
-        Some(Reply::Ack) => replied(1, 0, 0, 0, none),
-        Some(Reply::Format(f)) => replied(2, f, 0, 0, none),
-        Some(Reply::Letters(f, m)) => replied(3, f, m, 0, none),
-        Some(Reply::Buttons(n)) => replied(4, 0, 0, n, none),
-        Some(Reply::Broken(came)) => replied(5, 0, 0, 0, came),
+impl From<Option<Reply>> for HeldReply {
+    ghost from_gives = { λ reply held. held ≡ packed_reply reply };
+
+    fn from(reply: Option<Reply>) -> Self {
+        let none = Came {
+            count: 0,
+            first: 0,
+            second: 0,
+        };
+        match reply {
+            None => replied(0, 0, 0, 0, none),
+            Some(Reply::Ack) => replied(1, 0, 0, 0, none),
+            Some(Reply::Format(f)) => replied(2, f, 0, 0, none),
+            Some(Reply::Letters(f, m)) => replied(3, f, m, 0, none),
+            Some(Reply::Buttons(n)) => replied(4, 0, 0, n, none),
+            Some(Reply::Broken(came)) => replied(5, 0, 0, 0, came),
+        }
     }
 }
 
-fn own(answer: Answer) -> Own
-    ensures { result ≡ own_of answer }
-{
-    match answer {
-        Answer::Nothing => Own {
-            reports: 0,
-            dropped: 0,
-            report: no_report(),
-        },
-        Answer::Report(report) => Own {
-            reports: 1,
-            dropped: 0,
-            report: report,
-        },
-        Answer::Dropped(count) => Own {
-            reports: 0,
-            dropped: count,
-            report: no_report(),
-        },
+impl From<Answer> for Own {
+    ghost from_gives = { λ answer own. own ≡ own_of answer };
+
+    fn from(answer: Answer) -> Self {
+        match answer {
+            Answer::Nothing => Own {
+                reports: 0,
+                dropped: 0,
+                report: no_report(),
+            },
+            Answer::Report(report) => Own {
+                reports: 1,
+                dropped: 0,
+                report,
+            },
+            Answer::Dropped(count) => Own {
+                reports: 0,
+                dropped: count,
+                report: no_report(),
+            },
+        }
     }
 }
 
@@ -132,13 +135,13 @@ fn packed_heard(told: ToldReader, heard: Result<ToldStep, Refusal>) -> HeardWord
 {
     match heard {
         Ok(step) => {
-            let own = own(step.answer);
+            let own = Own::from(step.answer);
             HeardWord {
                 refusal: SUCCESS,
                 reports: own.reports,
                 dropped: own.dropped,
-                reply: packed_reply(step.reply),
-                next: packed(step.next),
+                reply: HeldReply::from(step.reply),
+                next: HeldTold::from(step.next),
                 report: own.report,
             }
         }
@@ -146,8 +149,8 @@ fn packed_heard(told: ToldReader, heard: Result<ToldStep, Refusal>) -> HeardWord
             refusal: refusal.number(),
             reports: 0,
             dropped: 0,
-            reply: packed_reply(None),
-            next: packed(told),
+            reply: HeldReply::from(None),
+            next: HeldTold::from(told),
             report: no_report(),
         },
     }
@@ -156,38 +159,37 @@ fn packed_heard(told: ToldReader, heard: Result<ToldStep, Refusal>) -> HeardWord
 fn refused_heard(held: HeldTold) -> HeardWord
     ensures { result ≡ refused_heard held }
 {
-    let reply = packed_reply(None);
-    let report = no_report();
     HeardWord {
         refusal: BAD_STATE,
         reports: 0,
         dropped: 0,
-        reply: reply,
+        reply: HeldReply::from(None),
         next: held,
-        report: report,
+        report: no_report(),
     }
 }
 
-fn packed_line(line: HeardLine) -> HeardWords
-    ensures { result ≡ packed_line (heard_line_in line) }
-{
-    HeardWords {
-        refusal: number_if(line.refusal),
-        reply: packed_reply(line.reply),
-        next: packed(line.next),
-        taken: line.taken,
-        reports: line.reports,
-        dropped: line.dropped,
+impl From<HeardLine> for HeardWords {
+    ghost from_gives = { λ line words. words ≡ packed_line (heard_line_in line) };
+
+    fn from(line: HeardLine) -> Self {
+        HeardWords {
+            refusal: number_if(line.refusal),
+            reply: HeldReply::from(line.reply),
+            next: HeldTold::from(line.next),
+            taken: line.taken,
+            reports: line.reports,
+            dropped: line.dropped,
+        }
     }
 }
 
 fn refused_line(held: HeldTold) -> HeardWords
     ensures { result ≡ refused_line held }
 {
-    let reply = packed_reply(None);
     HeardWords {
         refusal: BAD_STATE,
-        reply: reply,
+        reply: HeldReply::from(None),
         next: held,
         taken: 0,
         reports: 0,
@@ -203,12 +205,12 @@ fn packed_telling(told: ToldReader, telling: Result<Told, Refusal>) -> ToldComma
         Ok(telling) => ToldCommand {
             refusal: SUCCESS,
             discarded: telling.discarded,
-            next: packed(telling.next),
+            next: HeldTold::from(telling.next),
         },
         Err(refusal) => ToldCommand {
             refusal: refusal.number(),
             discarded: 0,
-            next: packed(told),
+            next: HeldTold::from(told),
         },
     }
 }
@@ -230,11 +232,11 @@ pub fn istrolf_told_fresh(letter: u8) -> FreshTold
     match ToldReader::fresh(letter) {
         Ok(told) => FreshTold {
             refusal: SUCCESS,
-            told: packed(told),
+            told: HeldTold::from(told),
         },
         Err(refusal) => FreshTold {
             refusal: refusal.number(),
-            told: packed(ToldReader::default()),
+            told: HeldTold::from(ToldReader::default()),
         },
     }
 }
@@ -243,41 +245,38 @@ pub fn istrolf_told_fresh(letter: u8) -> FreshTold
 pub fn istrolf_told_command(held: HeldTold, byte: u8) -> ToldCommand
     ensures { TellPromise held (Command byte) result }
 {
-    if !stands(held) {
-        return refused_telling(held);
+    match ToldReader::try_from(held) {
+        Ok(told) => packed_telling(told, told.tell(Asked::Command(byte))),
+        Err(_) => refused_telling(held),
     }
-    let told = unpacked(held);
-    packed_telling(told, told.tell(Asked::Command(byte)))
 }
 
 // The byte just sent woke a dormant box.
 pub fn istrolf_told_waking(held: HeldTold) -> ToldCommand
     ensures { TellPromise held Waking result }
 {
-    if !stands(held) {
-        return refused_telling(held);
+    match ToldReader::try_from(held) {
+        Ok(told) => packed_telling(told, told.tell(Asked::Waking)),
+        Err(_) => refused_telling(held),
     }
-    let told = unpacked(held);
-    packed_telling(told, told.tell(Asked::Waking))
 }
 
 // One word.
 pub fn istrolf_told_step(held: HeldTold, word: u16) -> HeardWord
     ensures { ToldStepPromise held word result }
 {
-    if !stands(held) {
-        return refused_heard(held);
+    match ToldReader::try_from(held) {
+        Ok(told) => packed_heard(told, told.step(word)),
+        Err(_) => refused_heard(held),
     }
-    let told = unpacked(held);
-    packed_heard(told, told.step(word))
 }
 
 // A line of words, and the numbers of its reports to a lent slice.
 pub fn istrolf_told_read(held: HeldTold, words: &[u16], out: &mut [i16]) -> HeardWords
     ensures { ToldReadPromise held words.now out.old result out.new }
 {
-    if !stands(held) {
-        return refused_line(held);
+    match ToldReader::try_from(held) {
+        Ok(told) => HeardWords::from(told.read(words, out)),
+        Err(_) => refused_line(held),
     }
-    packed_line(unpacked(held).read(words, out))
 }

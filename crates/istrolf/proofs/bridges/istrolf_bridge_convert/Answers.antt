@@ -1,6 +1,5 @@
 -- 6 for what stands for no bridge, and then the call below.
-use mathlib.Core.Path.{ap, sym, ◌∙◌}
-use borrow.Author.Tests.{not-true, not-false}
+use mathlib.Core.Path.{ap, ◌∙◌}
 use Rattle.bridge.specs.Promises as bridge
 use Rattle.bridge.specs.declared.Bridge.{Bridge}
 use Rattle.istrolf.specs.Bridges.{whole, packed_long}
@@ -8,14 +7,14 @@ use Rattle.istrolf.specs.Promises.{convert_of}
 use Rattle.istrolf.specs.declared.ConvertedWords.{ConvertedWords}
 use Rattle.istrolf.proofs.bridges.istrolf_bridge_convert.Goals as goal
 
-pub returns-then-not-stands : goal.returns-then-not-stands
+pub returns-in-Ok : goal.returns-in-Ok
 unfolding convert_of
-returns-then-not-stands c = let a = c.args in
-    simp (sym c.stands.ensures ∙ not-true _ c.if-not-stands.true-raw) (ap (λ (l : ConvertedWords). whole l a.out.now) c.refused_converted.ensures)
+returns-in-Ok c = let a = c.args in
+    let i = c.convert.ensures ∙ ap (λ (b : Bridge). bridge.convert_of b a.words.now a.out.now) c.in-Ok.ensures.1 in
+    simp c.in-Ok.ensures.0
+    (ap (λ (l : ConvertedWords). whole l c.convert.new.out) c.from.ensures ∙ ap packed_long i)
 
-pub returns : goal.returns
+pub returns-in-Err : goal.returns-in-Err
 unfolding convert_of
-returns c = let a = c.args in
-    let i = c.convert.ensures ∙ ap (λ (b : Bridge). bridge.convert_of b a.words.now a.out.now) c.unpacked.ensures in
-    simp (sym c.stands.ensures ∙ not-false _ c.if-not-stands.false-raw)
-    (ap (λ (l : ConvertedWords). whole l c.convert.new.out) c.packed_converted.ensures ∙ ap packed_long i)
+returns-in-Err c = let a = c.args in
+    simp c.in-Err.ensures.0 (ap (λ (l : ConvertedWords). whole l a.out.now) c.refused_converted.ensures)

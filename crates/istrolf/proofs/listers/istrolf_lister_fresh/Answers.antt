@@ -2,4 +2,4 @@
 use Rattle.istrolf.proofs.listers.istrolf_lister_fresh.Goals as goal
 
 pub returns : goal.returns
-returns c = rw (c.packed.ensures, c.fresh.ensures)
+returns c = rw (c.from.ensures, c.fresh.ensures)

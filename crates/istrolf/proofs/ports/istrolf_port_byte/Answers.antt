@@ -2,4 +2,4 @@
 use Rattle.istrolf.proofs.ports.istrolf_port_byte.Goals as goal
 
 pub returns : goal.returns
-returns c = rw (c.packed.ensures, c.byte.ensures)
+returns c = rw (c.from.ensures, c.byte.ensures)

@@ -2,4 +2,4 @@
 use Rattle.istrolf.proofs.ports.istrolf_port_quiet.Goals as goal
 
 pub returns : goal.returns
-returns c = rw (c.packed.ensures, c.quiet.ensures)
+returns c = rw (c.from.ensures, c.quiet.ensures)

@@ -9,4 +9,4 @@ pub returns : goal.returns
 unfolding salvage_of
 returns c =
     let l = c.list in
-    ap (λ (t : SalvagedBytes). whole t l.new.out) c.packed.ensures ∙ ap packed_whole l.ensures
+    ap (λ (t : SalvagedBytes). whole t l.new.out) c.from.ensures ∙ ap packed_whole l.ensures

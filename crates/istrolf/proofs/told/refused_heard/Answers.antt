@@ -2,4 +2,4 @@
 use Rattle.istrolf.proofs.told.refused_heard.Goals as goal
 
 pub returns : goal.returns
-returns c = rw (c.no_report-report.ensures, c.packed_reply-reply.ensures)
+returns c = rw (c.no_report.ensures, c.from.ensures)

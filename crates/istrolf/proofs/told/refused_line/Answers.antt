@@ -2,4 +2,4 @@
 use Rattle.istrolf.proofs.told.refused_line.Goals as goal
 
 pub returns : goal.returns
-returns c = rw c.packed_reply-reply.ensures
+returns c = rw c.from.ensures

@@ -1,5 +1,0 @@
--- The reader's mark too.
-use Rattle.istrolf.proofs.listers.stands.Goals as goal
-
-pub returns : goal.returns
-returns c = rw c.stands.ensures

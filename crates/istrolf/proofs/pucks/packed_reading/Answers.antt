@@ -1,5 +1,0 @@
--- The number of the refusal.
-use Rattle.istrolf.proofs.pucks.packed_reading.Goals as goal
-
-pub returns : goal.returns
-returns c = rw c.number_if.ensures

@@ -1,5 +1,0 @@
--- The number of the refusal, and the next reader packed.
-use Rattle.istrolf.proofs.readers.packed_reading.Goals as goal
-
-pub returns : goal.returns
-returns c = rw (c.number_if.ensures, c.packed.ensures)
