@@ -123,21 +123,14 @@ pub fn marked(letter: u8) -> bool
 
 // Whether a byte is valid at a place of a report: 0 is the first, any other a later one. The place is looked at before the format: the other way round
 // the calls of the yard cost a sixth more (bench/guard).
-#[tactic(auto, unfolding(crate::specs::Places::fits_by, crate::specs::Places::fits_at))]
 #[inline(always)]
 pub fn fits(letter: u8, place: u8, byte: u8) -> bool
     ensures { FitsPromise letter place byte result }
 {
     if place == 0 {
-        match format_of(letter) {
-            Some(f) => f.fits_first(byte),
-            None => false,
-        }
+        places::first_by(letter, byte)
     } else {
-        match format_of(letter) {
-            Some(f) => f.fits_later(byte),
-            None => false,
-        }
+        places::later_by(letter, byte)
     }
 }
 

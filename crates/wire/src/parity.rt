@@ -7,7 +7,7 @@ ghost use Rattle.numbers.specs.Parity.{even, evened};
 pub(crate) fn is_even(b: u8) -> bool
     ensures { result ≡ even b }
 {
-    b.count_ones() % 2 == 0
+    u32::count_ones(b as u32) % 2 == 0
 }
 
 // Seven bits, and above them the bit that makes the count of ones even.

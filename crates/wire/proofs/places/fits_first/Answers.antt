@@ -1,12 +1,11 @@
 -- `fits_first`: the test of each format.
 use Prim.Native.Nat.{ℕ, ◌<◌}
-use mathlib.Core.Logic.{inl, inr}
 use mathlib.Core.Path.{◌≡◌, ◌∙◌, ap, sym}
 use Rattle.wire.proofs.FixedBits.{first_test, first_tested}
 use Rattle.wire.specs.Places.{fits_first}
 use Rattle.wire.specs.declared.Format.TheVariants.{Mm, Microsoft, Absolute, Relative, FiveByte, ThreeByte, Hexadecimal}
 use Rattle.wire.specs.declared.Format.{Format}
-use Rattle.wire.proofs.Format.fits_first.Goals as goal
+use Rattle.wire.proofs.places.fits_first.Goals as goal
 
 chosen : (f : Format) {g : Format} (b : ℕ) → b < 256 → g ≡ f → first_test f b ≡ fits_first g b
 chosen f b h e = first_tested f b h ∙ ap (λ (k : Format). fits_first k b) (sym e)
@@ -18,12 +17,10 @@ pub returns-in-Microsoft : goal.returns-in-Microsoft
 returns-in-Microsoft c = chosen Microsoft c.args.b c.ranges.b.fits c.in-Microsoft.is
 
 pub returns-in-Absolute : goal.returns-in-Absolute
-returns-in-Absolute c =
-    rw c.is_even.ensures
-    (elim c.in-Absolute.is [
-      | inl e ↦ chosen Absolute c.args.b c.ranges.b.fits e
-      | inr e ↦ chosen Relative c.args.b c.ranges.b.fits e
-    ])
+returns-in-Absolute c = rw c.is_even.ensures (chosen Absolute c.args.b c.ranges.b.fits c.in-Absolute.is)
+
+pub returns-in-Relative : goal.returns-in-Relative
+returns-in-Relative c = rw c.is_even-in-Relative.ensures (chosen Relative c.args.b c.ranges.b.fits c.in-Relative.is)
 
 pub returns-in-FiveByte : goal.returns-in-FiveByte
 returns-in-FiveByte c = chosen FiveByte c.args.b c.ranges.b.fits c.in-FiveByte.is
