@@ -14,6 +14,8 @@ use Rattle.wire.specs.Promises.{KnownPromise, SizePromise, MarkedPromise, FitsPr
 use Rattle.wire.specs.declared.Format.{Format}
 use Rattle.wire.specs.declared.Format.TheVariants.{FiveByte}
 use Rattle.wire.specs.declared.Report.{Report}
+use Rattle.wire.specs.Refusals.{NumberPromise}
+use Rattle.wire.specs.declared.refusal.Refusal.{Refusal}
 use Rattle.wire.specs.declared.refusal.Refusal.TheVariants.{NoSuchLetter, ButtonsAboveSeven, BufferTooShort}
 use Rattle.wire.proofs.Answers as wire
 use Rattle.wire.proofs.Refusals as wire_refusals
@@ -114,7 +116,7 @@ One {A} Permitted = (a b : A) → Permitted a → Permitted b → a ≡ b
 abbrev pub OneWith : {A S : Type 0} → (A → S → Type 0) → Type 0
 OneWith {A} {S} Permitted = (a b : A) (after behind : S) → Permitted a after → Permitted b behind → (a ≡ b) × (after ≡ behind)
 
--- `wire::known`, `size`, `marked`, `fits`, `report_of`, `encode`, `number_in`, `length_in`
+-- `wire::known`, `size`, `marked`, `fits`, `report_of`, `encode`, `number_in`, `length_in`, `Refusal::number`
 pub known_one : (letter : ℕ) → One (KnownPromise letter)
 known_one letter a b = wire.one_known letter
 
@@ -135,6 +137,9 @@ encode_one letter r before a b after behind = wire.one_encoding letter r before
 
 pub refusal_one : (encoded : Encoded) → One (RefusalPromise encoded)
 refusal_one encoded a b = wire.one_refusal encoded
+
+pub number_one : (r : Refusal) → One (NumberPromise r)
+number_one r a b = wire.one_number r
 
 pub length_one : (encoded : Encoded) → One (LengthPromise encoded)
 length_one encoded a b = wire.one_length encoded
@@ -486,6 +491,9 @@ reported_one letter n r a b = listing.one_reported letter n r
 
 pub item_line_one : (item : Item) → One (lister.ItemLinePromise item)
 item_line_one item a b = listing.one_item_line item
+
+pub line_number_one : (item : Item) → One (lister.LineNumberPromise item)
+line_number_one item a b = listing.one_line_number item
 
 pub given_line_one : (given : Option Item) (salvage : Bool) (width : ℕ) → One (lister.LinePromise given salvage width)
 given_line_one given salvage width a b = listing.one_line given salvage width

@@ -4,7 +4,7 @@ use Prim.Native.Nat.{ℕ}
 use mathlib.Core.Path.{◌≡◌, sym, ◌∙◌, ap}
 use mathlib.Core.Bool.{Bool}
 use mathlib.Core.List.{List}
-use Rattle.listing.specs.Promises.{Listed, Whole, whole, LinePromise, FreshPromise, FeedPromise, FinishPromise, ByteScanPromise, ClosedScanPromise, EndScanPromise, ReportedPromise, ItemLinePromise, SalvagePromise}
+use Rattle.listing.specs.Promises.{Listed, Whole, whole, LinePromise, FreshPromise, FeedPromise, FinishPromise, ByteScanPromise, ClosedScanPromise, EndScanPromise, ReportedPromise, ItemLinePromise, LineNumberPromise, SalvagePromise}
 use Rattle.listing.specs.declared.Scan.{Scan}
 use Rattle.listing.specs.declared.Scanner.{Scanner}
 use Rattle.text.specs.declared.Text.{Text}
@@ -45,6 +45,9 @@ one_reported letter n report p q = p ∙ sym q
 
 pub one_item_line : (item : Item) {a b : Text} → ItemLinePromise item a → ItemLinePromise item b → a ≡ b
 one_item_line item p q = p ∙ sym q
+
+pub one_line_number : (item : Item) {a b : Option ℕ} → LineNumberPromise item a → LineNumberPromise item b → a ≡ b
+one_line_number item p q = p ∙ sym q
 
 pub one_salvage : {a b : Text} → SalvagePromise a → SalvagePromise b → a ≡ b
 one_salvage p q = p ∙ sym q

@@ -21,7 +21,7 @@ use Rattle.listing.specs.Items.{gave_of}
 use Rattle.listing.specs.Printing.{line_of}
 use Rattle.listing.specs.Listing.{waiting}
 use Rattle.listing.specs.Feeding.{fresh, passed_to, front_of, fed_byte, last_of, feed_in, finish_in, good}
-use Rattle.listing.specs.Promises.{Listed, Whole, feed_of, finish_of, LinePromise, FreshPromise, FeedPromise, FinishPromise, ByteScanPromise, ClosedScanPromise, EndScanPromise, ReportedPromise, ItemLinePromise, SalvagePromise}
+use Rattle.listing.specs.Promises.{Listed, Whole, feed_of, finish_of, LinePromise, FreshPromise, FeedPromise, FinishPromise, ByteScanPromise, ClosedScanPromise, EndScanPromise, ReportedPromise, ItemLinePromise, LineNumberPromise, SalvagePromise}
 use Rattle.listing.specs.declared.Scanner.{Scanner}
 use Rattle.listing.specs.declared.Scan.{Scan}
 use Rattle.listing.specs.declared.Found.{Found}
@@ -211,6 +211,12 @@ pub reported_middle_up : ReportedPromise 0x56 4 (report 0 (pos 5) (pos 3)) (item
 reported_middle_up e = omega (arith, ap middle_of e)
 
 -- E 0001/, with four digits; and R 000004 --- 3 5/, where x is 5 and y 3
+pub line_number_of_end : LineNumberPromise (item.H 3) (Some 3) → ⊥
+line_number_of_end e = cc
+
+pub line_number_left_out : LineNumberPromise (item.E 4) None → ⊥
+line_number_left_out e = cc
+
 pub item_line_narrow : ItemLinePromise (item.E 1) (text_of (69 ∷ 9 ∷ 48 ∷ 48 ∷ 48 ∷ 49 ∷ 10 ∷ [])) → ⊥
 unfolding printing
 item_line_narrow e = omega (arith, ap (λ (t : Text). t.len) e)

@@ -19,6 +19,8 @@ use Rattle.wire.specs.Holds.{pressable, unheld, holds, accepted}
 use Rattle.wire.specs.Encoder.{Encoding, Encoded, refusal_of, length_of, outcome, refused, unheld_number, encode_in}
 use Rattle.wire.specs.Refusals.{number_of}
 use Rattle.wire.specs.Numbers.{success, bad_letter, bad_buttons, bad_first_x, bad_first_y, bad_second_x, bad_second_y, short_buffer, accepted as taken, refusal}
+use Rattle.wire.specs.Refusals.{NumberPromise}
+use Rattle.wire.specs.declared.refusal.Refusal.{Refusal}
 use Rattle.wire.specs.Promises.{KnownPromise, SizePromise, MarkedPromise, FitsPromise, ReportPromise, EncodePromise, EncodeRefusal, RefusalPromise, LengthPromise}
 use Rattle.wire.specs.declared.Report.{Report}
 use Rattle.wire.specs.declared.Format.{Format}
@@ -46,6 +48,9 @@ one_report letter bytes p q = p ∙ sym q
 
 pub one_refusal : (encoded : Encoded) {a b : ℕ} → RefusalPromise encoded a → RefusalPromise encoded b → a ≡ b
 one_refusal encoded p q = p ∙ sym q
+
+pub one_number : (r : Refusal) {a b : ℕ} → NumberPromise r a → NumberPromise r b → a ≡ b
+one_number r p q = p ∙ sym q
 
 pub one_length : (encoded : Encoded) {a b : ℕ} → LengthPromise encoded a → LengthPromise encoded b → a ≡ b
 one_length encoded p q = p ∙ sym q

@@ -14,6 +14,8 @@ use Rattle.wire.specs.Holds.{holds}
 use Rattle.wire.specs.Places.{like, fits_first, fits_at, fits_by}
 use Rattle.wire.specs.Reading.{report, read_u, report_by}
 use Rattle.wire.specs.Encoder.{Encoding, encode_in}
+use Rattle.wire.specs.Refusals.{NumberPromise}
+use Rattle.wire.specs.declared.refusal.Refusal.TheVariants.{BadWord, FaultyLine}
 use Rattle.wire.specs.Promises.{KnownPromise, SizePromise, MarkedPromise, FitsPromise, ReportPromise, EncodePromise, RefusalPromise, LengthPromise}
 use Rattle.wire.specs.declared.Report.{Report}
 use Rattle.wire.specs.declared.Format.TheVariants.{Mm, Microsoft, FiveByte, ThreeByte, Hexadecimal}
@@ -100,6 +102,13 @@ refusal_two_for_movement e = omega arith
 
 pub refusal_four_for_room : RefusalPromise {A = ℕ} (Err BufferTooShort) 4 → ⊥
 refusal_four_for_room e = omega arith
+
+-- a refusal told as success, and a faulty line as a state that breaks its rules
+pub number_of_none : NumberPromise BadWord 0 → ⊥
+number_of_none e = omega arith
+
+pub number_six_for_line : NumberPromise FaultyLine 6 → ⊥
+number_six_for_line e = omega arith
 
 -- 3 whatever was written; and 3 for a refusal
 pub length_three_of_five : LengthPromise (Ok 5) 3 → ⊥
