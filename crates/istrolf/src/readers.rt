@@ -13,6 +13,7 @@ use wire::{BAD_STATE, Refusal, Report, SUCCESS};
 impl From<Reader> for HeldReader {
     ghost from_gives = { λ reader held. held ≡ packed reader };
 
+    #[inline(always)]
     fn from(reader: Reader) -> Self {
         let kept = reader.kept;
         HeldReader {
@@ -30,6 +31,7 @@ impl TryFrom<HeldReader> for Reader {
 
     ghost try_from_gives = { Opens stands unpacked };
 
+    #[inline(always)]
     fn try_from(held: HeldReader) -> Result<Self, Refusal> {
         if held.awaiting <= 1 {
             let kept = held.kept;
@@ -57,6 +59,7 @@ pub(crate) fn no_report() -> Report
     }
 }
 
+#[inline(always)]
 fn answered(refusal: u8, next: HeldReader, answer: Answer) -> ReadWord
     ensures { result ≡ answered refusal next answer }
 {
@@ -86,6 +89,7 @@ fn answered(refusal: u8, next: HeldReader, answer: Answer) -> ReadWord
 }
 
 // What a step of a reader gave back.
+#[inline(always)]
 fn packed_read(reader: Reader, read: Result<Step, Refusal>) -> ReadWord
     ensures { result ≡ packed_read (read_in reader read) }
 {
