@@ -14,7 +14,7 @@ use Rattle.wire.specs.Promises.{KnownPromise, SizePromise, MarkedPromise, FitsPr
 use Rattle.wire.specs.declared.Format.{Format}
 use Rattle.wire.specs.declared.Format.TheVariants.{FiveByte}
 use Rattle.wire.specs.declared.Report.{Report}
-use Rattle.wire.specs.Refusals.{NumberPromise}
+use Rattle.wire.specs.Refusals as numbered
 use Rattle.wire.specs.declared.refusal.Refusal.{Refusal}
 use Rattle.wire.specs.declared.refusal.Refusal.TheVariants.{NoSuchLetter, ButtonsAboveSeven, BufferTooShort}
 use Rattle.wire.proofs.Answers as wire
@@ -138,8 +138,8 @@ encode_one letter r before a b after behind = wire.one_encoding letter r before
 pub refusal_one : (encoded : Encoded) → One (RefusalPromise encoded)
 refusal_one encoded a b = wire.one_refusal encoded
 
-pub number_one : (r : Refusal) → One (NumberPromise r)
-number_one r a b = wire.one_number r
+pub refusal_number_one : (r : Refusal) → One (numbered.NumberPromise r)
+refusal_number_one r a b = wire.one_number r
 
 pub length_one : (encoded : Encoded) → One (LengthPromise encoded)
 length_one encoded a b = wire.one_length encoded
