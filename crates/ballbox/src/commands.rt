@@ -31,10 +31,13 @@ const MODE_N: u8 = b'N';
 pub(crate) fn is_timed(mode: u8) -> bool
     ensures { result ≡ is_timed mode }
 {
-    matches!(
-        mode,
-        MODE_J | MODE_K | MODE_L | MODE_R | MODE_M | MODE_Q | MODE_N
-    )
+    (mode == MODE_J)
+        | (mode == MODE_K)
+        | (mode == MODE_L)
+        | (mode == MODE_R)
+        | (mode == MODE_M)
+        | (mode == MODE_Q)
+        | (mode == MODE_N)
 }
 
 pub(crate) fn is_stream(mode: u8) -> bool
@@ -85,8 +88,9 @@ impl BallBox {
     fn with_format(mut self, letter: u8) -> BallBox
         ensures { result ≡ with_format letter (with_track (cleared self.track) (with_memory none (with_due false self))) }
     {
+        let track = self.track;
         self.settings.format = letter;
-        self.track = self.track.cleared();
+        self.track = track.cleared();
         self.memory = none();
         self.due = 0;
         self
@@ -105,7 +109,7 @@ impl BallBox {
     {
         self.settings.mode = MODE_D;
         self.memory = none();
-        self.due = u8::from(due);
+        self.due = due as u8;
         self
     }
 
@@ -113,11 +117,12 @@ impl BallBox {
     pub(crate) fn replying(mut self, length: u8, b1: u8, b2: u8) -> BallBox
         ensures { result ≡ with_going (record { length = length; sent = 0; bytes = b1 ∷ b2 ∷ 0 ∷ 0 ∷ 0 ∷ [] }) self }
     {
-        self.going = Going {
-            length,
+        let reply = Going {
+            length: length,
             sent: 0,
             bytes: [b1, b2, 0, 0, 0],
         };
+        self.going = reply;
         self
     }
 

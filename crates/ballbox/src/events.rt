@@ -22,7 +22,7 @@ impl Going {
         ensures { result ≡ after self }
     {
         if self.more_behind() {
-            self.sent += 1;
+            self.sent = self.sent + 1;
             self
         } else {
             nothing()
@@ -58,7 +58,7 @@ impl BallBox {
         }
     }
 
-    pub(crate) fn gives(self, word: u16) -> Stepped
+    fn gives(self, word: u16) -> Stepped
         ensures { result ≡ stepped (gives (word ∷ []) self) }
     {
         Stepped {
@@ -73,20 +73,28 @@ impl BallBox {
     fn moved(self) -> bool
         ensures { result ≡ moved self }
     {
-        self.track.has_moved(self.settings.format)
+        let track = self.track;
+        track.has_moved(self.settings.format)
     }
 
     // Each counter takes the sum, and so does the position; the counters' excess is added up.
     pub(crate) fn on_motion(mut self, dx: i16, dy: i16) -> BallBox
         ensures { result ≡ on_motion dx dy self }
     {
-        let counted = self.track.counter.counted(dx, dy);
-        self.track = Track {
-            counter: counted.value,
-            position: self.track.position.placed(dx, dy),
-            last: self.track.last,
+        let track = self.track;
+        let counter = track.counter;
+        let position = track.position;
+        let last = track.last;
+        let counted = counter.counted(dx, dy);
+        let held = counted.value;
+        let moved = Track {
+            counter: held,
+            position: position.placed(dx, dy),
+            last: last,
         };
-        self.sums = self.sums.over_counter(counted.excess);
+        let sums = self.sums;
+        self.track = moved;
+        self.sums = sums.over_counter(counted.excess);
         self
     }
 
@@ -97,9 +105,10 @@ impl BallBox {
         if n == self.settings.buttons {
             return self;
         }
+        let memory = self.memory;
         self.settings.buttons = n;
         if is_stream(self.settings.mode) {
-            self.memory = self.memory.remembering(n);
+            self.memory = memory.remembering(n);
         }
         self
     }
@@ -109,7 +118,8 @@ impl BallBox {
         ensures { result ≡ on_period self }
     {
         let moved = self.moved();
-        self.due = u8::from((self.due == 1) | (is_timed(self.settings.mode) & moved));
+        let due = (self.due == 1) | (is_timed(self.settings.mode) & moved);
+        self.due = due as u8;
         self
     }
 
@@ -123,8 +133,9 @@ impl BallBox {
     fn wanted(self) -> bool
         ensures { result ≡ wanted self }
     {
+        let memory = self.memory;
         let moved = self.moved();
-        (self.due == 1) | self.memory.any() | ((self.settings.mode == MODE_O) & moved)
+        (self.due == 1) | memory.any() | ((self.settings.mode == MODE_O) & moved)
     }
 
     // Where no bytes are left and a report is wanted, one is latched.
@@ -155,8 +166,10 @@ impl BallBox {
         ensures { result ≡ stepped (next_byte self) }
     {
         let going = self.going;
-        let byte = u16::from(going.bytes[going.sent as usize]);
-        self.memory = self.memory.after(going);
+        let at = going.sent as usize;
+        let byte = going.bytes[at] as u16;
+        let memory = self.memory;
+        self.memory = memory.after(going);
         self.going = going.after();
         self.gives(byte)
     }
@@ -177,8 +190,9 @@ impl BallBox {
     fn dropped(mut self) -> BallBox
         ensures { result ≡ dropped self }
     {
+        let memory = self.memory;
         if self.bytes_left() {
-            self.memory = self.memory.hidden();
+            self.memory = memory.hidden();
             self.going = nothing();
         }
         self
@@ -188,12 +202,12 @@ impl BallBox {
     pub(crate) fn on_host(self, byte: u8) -> Stepped
         ensures { result ≡ stepped (on_host byte self) }
     {
-        let next = self.dropped().obeyed(heard(byte));
-        if self.bytes_left() {
-            next.gives(BREAK)
-        } else {
-            next.quietly()
+        let clear = self.dropped();
+        let next = clear.obeyed(heard(byte));
+        if !self.bytes_left() {
+            return next.quietly();
         }
+        next.gives(BREAK)
     }
 
     // The box wakes, and an ACK is to be sent.

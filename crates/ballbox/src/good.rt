@@ -1,5 +1,5 @@
 // The good box, rule by rule.
-ghost use Rattle.std.specs.Prelude.{◌≡◌, ◌<◌, ◌^◌};
+ghost use Rattle.std.specs.Prelude.{◌≡◌, ◌+◌, ◌*◌, ◌<◌, ◌^◌};
 ghost use Rattle.ballbox.specs.Numbers.{number_from};
 ghost use Rattle.ballbox.specs.Good.{good_settings, on_pad, good_track, sent_below, length_known, second_held, rest_zero, good_going, dormant_rightly, states_small, unused_zero, good_memory, remembers_rightly, shows_rightly, marks};
 ghost use Rattle.ballbox.specs.Promises.{GoodPromise};
@@ -9,12 +9,29 @@ use crate::presses::PLACES;
 use crate::{BallBox, Going, MODE_D, MOST_BUTTONS, Memory, Pair, Settings, Track};
 use wire::FORMAT_U;
 
+// A byte as a wide number.
+fn wide(byte: u8) -> u64
+    ensures value { result ≡ byte }
+    ensures bounded { result < 256 }
+{
+    byte as u64
+}
+
 // The least number that takes more than n bytes.
 fn above(n: u8) -> u64
     requires { n < 8 }
     ensures { result ≡ 256 ^ n }
 {
-    1 << (8 * n)
+    match n {
+        0 => 1,
+        1 => 256,
+        2 => 65536,
+        3 => 16777216,
+        4 => 4294967296,
+        5 => 1099511627776,
+        6 => 281474976710656,
+        _ => 72057594037927936,
+    }
 }
 
 impl Settings {
@@ -32,7 +49,7 @@ impl Pair {
     fn on_pad(self) -> bool
         ensures { result ≡ on_pad self }
     {
-        (0..=4095).contains(&self.x) & (0..=4095).contains(&self.y)
+        ((0 <= self.x) & (self.x <= 4095)) & ((0 <= self.y) & (self.y <= 4095))
     }
 }
 
@@ -41,7 +58,9 @@ impl Track {
     fn good(self) -> bool
         ensures { result ≡ good_track self }
     {
-        self.position.on_pad() & self.last.on_pad()
+        let position = self.position;
+        let last = self.last;
+        position.on_pad() & last.on_pad()
     }
 }
 
@@ -71,27 +90,30 @@ impl Going {
     fn number(self) -> u64
         ensures { result ≡ number_from 5 0 self.bytes }
     {
-        let [a, b, c, d, e] = self.bytes;
-        u64::from_le_bytes([a, b, c, d, e, 0, 0, 0])
+        let b = self.bytes;
+        wide(b[0])
+            + 256 * wide(b[1])
+            + 65536 * wide(b[2])
+            + 16777216 * wide(b[3])
+            + 4294967296 * wide(b[4])
     }
 
     fn rest_zero(self) -> bool
         ensures { result ≡ rest_zero self }
     {
-        5 <= self.length || self.number() < above(self.length)
+        if 5 <= self.length {
+            return true;
+        }
+        self.number() < above(self.length)
     }
 
     fn good(self, letter: u8) -> bool
         ensures { result ≡ good_going letter self }
     {
         if self.length == 0 {
-            (self.sent == 0) & self.rest_zero()
-        } else {
-            self.sent_below()
-                & self.length_known(letter)
-                & self.second_held(letter)
-                & self.rest_zero()
+            return (self.sent == 0) & self.rest_zero();
         }
+        self.sent_below() & self.length_known(letter) & self.second_held(letter) & self.rest_zero()
     }
 }
 
@@ -100,7 +122,15 @@ impl Memory {
     fn number(self) -> u64
         ensures { result ≡ number_from 8 0 self.states }
     {
-        u64::from_le_bytes(self.states)
+        let s = self.states;
+        wide(s[0])
+            + 256 * wide(s[1])
+            + 65536 * wide(s[2])
+            + 16777216 * wide(s[3])
+            + 4294967296 * wide(s[4])
+            + 1099511627776 * wide(s[5])
+            + 281474976710656 * wide(s[6])
+            + 72057594037927936 * wide(s[7])
     }
 
     fn states_small(self) -> bool
@@ -120,7 +150,10 @@ impl Memory {
     fn unused_zero(self) -> bool
         ensures { result ≡ unused_zero self }
     {
-        8 <= self.count || self.number() < above(self.count)
+        if 8 <= self.count {
+            return true;
+        }
+        self.number() < above(self.count)
     }
 
     // At most eight, each 0 to 7, the unused places 0; whether the first is shown is 0 or 1.
@@ -128,17 +161,19 @@ impl Memory {
         ensures { result ≡ good_memory self }
     {
         if self.count == 0 {
-            self.unused_zero() & (self.showing <= 1)
-        } else {
-            (self.count <= PLACES) & self.states_small() & self.unused_zero() & (self.showing <= 1)
+            return self.unused_zero() & (self.showing <= 1);
         }
+        (self.count <= PLACES) & self.states_small() & self.unused_zero() & (self.showing <= 1)
     }
 
     // What is going shows the first only with one remembered, and as long as a report.
     fn shows_rightly(self, letter: u8, going: Going) -> bool
         ensures { result ≡ shows_rightly letter going self }
     {
-        self.showing != 1 || (self.any() & (going.length as usize == wire::size(letter)))
+        if self.showing != 1 {
+            return true;
+        }
+        self.any() & (going.length as usize == wire::size(letter))
     }
 }
 
@@ -154,7 +189,11 @@ impl BallBox {
     fn remembers_rightly(self) -> bool
         ensures { result ≡ remembers_rightly self }
     {
-        !self.memory.any() || ((self.dormant != 1) & is_stream(self.settings.mode))
+        let memory = self.memory;
+        if !memory.any() {
+            return true;
+        }
+        (self.dormant != 1) & is_stream(self.settings.mode)
     }
 
     // Whether a report is due, and whether the box is dormant, are 0 or 1.
@@ -168,13 +207,31 @@ impl BallBox {
     pub fn good(self) -> bool
         ensures { GoodPromise self result }
     {
-        self.settings.good()
-            && self.track.good()
-            && self.going.good(self.settings.format)
-            && self.dormant_rightly()
-            && self.memory.good()
-            && self.remembers_rightly()
-            && self.memory.shows_rightly(self.settings.format, self.going)
-            && self.marks()
+        let settings = self.settings;
+        let track = self.track;
+        let going = self.going;
+        let memory = self.memory;
+        if !settings.good() {
+            return false;
+        }
+        if !track.good() {
+            return false;
+        }
+        if !going.good(settings.format) {
+            return false;
+        }
+        if !self.dormant_rightly() {
+            return false;
+        }
+        if !memory.good() {
+            return false;
+        }
+        if !self.remembers_rightly() {
+            return false;
+        }
+        if !memory.shows_rightly(settings.format, going) {
+            return false;
+        }
+        self.marks()
     }
 }

@@ -61,10 +61,11 @@ impl Track {
     pub(crate) fn cleared(self) -> Track
         ensures { result ≡ cleared self }
     {
+        let position = self.position;
         Track {
             counter: Pair { x: 0, y: 0 },
-            position: self.position,
-            last: self.position,
+            position: position,
+            last: position,
         }
     }
 
@@ -85,7 +86,8 @@ impl BallBox {
         ensures { result ≡ latched self }
     {
         let letter = self.settings.format;
-        let taken = self.track.taken(letter);
+        let track = self.track;
+        let taken = track.taken(letter);
         let pair = taken.value;
         let report = Report {
             buttons: self.to_show(),
@@ -94,14 +96,17 @@ impl BallBox {
             x2: 0,
             y2: 0,
         };
-        self.going = Going {
+        let going = Going {
             length: wire::size(letter) as u8,
             sent: 0,
             bytes: encoded(letter, report),
         };
-        self.memory = self.memory.showing_first();
-        self.sums = self.sums.over_limit(taken.excess);
-        self.track = self.track.cleared();
+        let memory = self.memory;
+        let sums = self.sums;
+        self.going = going;
+        self.memory = memory.showing_first();
+        self.sums = sums.over_limit(taken.excess);
+        self.track = track.cleared();
         self.due = 0;
         self
     }
@@ -111,7 +116,8 @@ impl BallBox {
         requires { self.settings.format ≡ 0x55 }
         ensures { result ≡ second_latched self }
     {
-        let taken = self.track.taken(self.settings.format);
+        let track = self.track;
+        let taken = track.taken(self.settings.format);
         let pair = taken.value;
         let report = Report {
             buttons: 0,
@@ -121,10 +127,13 @@ impl BallBox {
             y2: pair.y,
         };
         let second = encoded(FORMAT_U, report);
-        self.going.bytes[3] = second[3];
-        self.going.bytes[4] = second[4];
-        self.sums = self.sums.over_limit(taken.excess);
-        self.track = self.track.cleared();
+        let sums = self.sums;
+        let mut going = self.going;
+        going.bytes[3] = second[3];
+        going.bytes[4] = second[4];
+        self.going = going;
+        self.sums = sums.over_limit(taken.excess);
+        self.track = track.cleared();
         self
     }
 }

@@ -2,12 +2,11 @@
 #![tactic(auto)]
 
 ghost use Rattle.std.specs.Prelude.{◌≡◌};
-ghost use Rattle.wire.specs.Refusals.{number_of};
 ghost use Rattle.ballbox.specs.Box.{nothing, refused};
 ghost use Rattle.ballbox.specs.Promises.{stepped, FreshPromise, StepPromise};
 ghost use Rattle.ballbox.specs.declared.Event.TheVariants.{Motion, Buttons, Host, Latch, Send, Period};
 
-use wire::{FORMAT_U, Refusal};
+use wire::{BAD_STATE, FORMAT_U};
 
 mod commands;
 mod events;
@@ -37,12 +36,15 @@ pub const ACK: u8 = 6;
 // The mode in which every movement is reported at once.
 pub(crate) const MODE_O: u8 = b'O';
 
+// Numbers given back.
+const BAD_BUTTONS: u8 = 3;
+
 // "buttons 0-7"
 pub(crate) const MOST_BUTTONS: u8 = 7;
 
 // A movement or a place, x and y.
 #[repr(C)]
-#[derive(Clone, Copy, Debug, PartialEq, Eq, Drop)]
+#[derive(Clone, Copy, Drop)]
 pub struct Pair {
     pub x: i16,
     pub y: i16,
@@ -66,8 +68,8 @@ pub struct Track {
     pub last: Pair,
 }
 
-// What is going: the bytes of a report or a reply, how many they are, and how many of them are sent. C has this struct and the three below, and no heap
-// is used: so a number stands beside bytes, and a mark is a number.
+// What is going: the bytes of a report or a reply, how many they are, and how many of them are sent. C has this struct and the others, and no heap is
+// used: so a number stands beside bytes, and a mark is a number.
 #[repr(C)]
 #[derive(Clone, Copy, Drop)]
 pub struct Going {
@@ -210,12 +212,11 @@ impl BallBox {
     }
 
     // The old box and no word.
-    #[inline(always)]
-    fn refused(self, refusal: Refusal) -> Stepped
-        ensures { result ≡ stepped (refused (number_of refusal) self) }
+    fn refused(self, number: u8) -> Stepped
+        ensures { result ≡ stepped (refused number self) }
     {
         Stepped {
-            refusal: refusal.number(),
+            refusal: number,
             sent: 0,
             word: 0,
             rest: 0,
@@ -228,7 +229,7 @@ impl BallBox {
         ensures { StepPromise self (Motion dx dy) result }
     {
         if !self.good() {
-            return self.refused(Refusal::BadState);
+            return self.refused(BAD_STATE);
         }
         if self.dormant != 1 {
             self = self.on_motion(dx, dy);
@@ -241,10 +242,10 @@ impl BallBox {
         ensures { StepPromise self (Buttons n) result }
     {
         if !self.good() {
-            return self.refused(Refusal::BadState);
+            return self.refused(BAD_STATE);
         }
         if MOST_BUTTONS < n {
-            return self.refused(Refusal::ButtonsAboveSeven);
+            return self.refused(BAD_BUTTONS);
         }
         if self.dormant != 1 {
             self = self.on_buttons(n);
@@ -257,7 +258,7 @@ impl BallBox {
         ensures { StepPromise self (Host byte) result }
     {
         if !self.good() {
-            return self.refused(Refusal::BadState);
+            return self.refused(BAD_STATE);
         }
         if self.dormant == 1 {
             self = self.woken();
@@ -271,7 +272,7 @@ impl BallBox {
         ensures { StepPromise self Latch result }
     {
         if !self.good() {
-            return self.refused(Refusal::BadState);
+            return self.refused(BAD_STATE);
         }
         if self.dormant != 1 {
             self = self.latching();
@@ -284,7 +285,7 @@ impl BallBox {
         ensures { StepPromise self Send result }
     {
         if !self.good() {
-            return self.refused(Refusal::BadState);
+            return self.refused(BAD_STATE);
         }
         self.sending()
     }
@@ -294,7 +295,7 @@ impl BallBox {
         ensures { StepPromise self Period result }
     {
         if !self.good() {
-            return self.refused(Refusal::BadState);
+            return self.refused(BAD_STATE);
         }
         if self.dormant != 1 {
             self = self.on_period();
@@ -302,7 +303,8 @@ impl BallBox {
         self.quietly()
     }
 
-    // An event: one of the six, each of which has the refusals and the rules that it needs. As calls of one `step` they cost 40 to 60 instructions more.
+    // An event: one of the six. Other forms of this crate missed the box's ceilings of bench/guard: the six as calls of one `step`, by 15 %; derived equality,
+    // fields without copies and the library's methods, by up to 9.
     pub fn step(self, event: Event) -> Stepped
         ensures { StepPromise self event result }
     {

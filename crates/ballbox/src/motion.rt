@@ -2,7 +2,7 @@
 ghost use Rattle.std.specs.Prelude.{◌≡◌, ◌+ℤ◌, ◌-ℤ◌};
 ghost use Rattle.numbers.specs.Signed.{held_sum, sum_excess};
 ghost use Rattle.ballbox.specs.Thrown.{bounded};
-ghost use Rattle.ballbox.specs.Motion.{placed_at, counted, counted_over, placed, has_moved};
+ghost use Rattle.ballbox.specs.Motion.{placed_at, counted, counted_over, placed, apart, has_moved};
 
 use crate::thrown::both;
 use crate::{Bounded, BoundedPair, Pair, Track};
@@ -57,7 +57,8 @@ fn held_sum(a: i16, b: i16) -> Bounded
 fn placed_at(a: i16, b: i16) -> i16
     ensures { result ≡ placed_at a b }
 {
-    held(total(a, b), 0, 4095).value
+    let place = held(total(a, b), 0, 4095);
+    place.value
 }
 
 impl Pair {
@@ -77,6 +78,13 @@ impl Pair {
         let y = placed_at(self.y, dy);
         Pair { x, y }
     }
+
+    // Whether two pairs differ.
+    fn apart(self, other: Pair) -> bool
+        ensures { result ≡ apart self other }
+    {
+        ((self.x < other.x) | (other.x < self.x)) | ((self.y < other.y) | (other.y < self.y))
+    }
 }
 
 impl Track {
@@ -84,10 +92,12 @@ impl Track {
     pub(crate) fn has_moved(self, letter: u8) -> bool
         ensures { result ≡ has_moved letter self }
     {
+        let counter = self.counter;
+        let position = self.position;
         if letter == FORMAT_A {
-            self.position != self.last
+            position.apart(self.last)
         } else {
-            self.counter != Pair { x: 0, y: 0 }
+            counter.apart(Pair { x: 0, y: 0 })
         }
     }
 }

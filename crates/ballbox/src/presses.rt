@@ -1,5 +1,5 @@
 // Button states that reports have yet to show.
-ghost use Rattle.std.specs.Prelude.{◌≡◌};
+ghost use Rattle.std.specs.Prelude.{◌≡◌, ◌-◌};
 ghost use Rattle.ballbox.specs.Presses.{any_remembered, none, remembering, to_show, showing_first, shown, hidden};
 
 use crate::{BallBox, Memory};
@@ -17,6 +17,16 @@ pub(crate) fn none() -> Memory
     }
 }
 
+// One less, if there is one.
+fn less(count: u8) -> u8
+    ensures { result ≡ count - 1 }
+{
+    if count == 0 {
+        return 0;
+    }
+    count - 1
+}
+
 impl Memory {
     pub(crate) fn any(self) -> bool
         ensures { result ≡ any_remembered self }
@@ -29,8 +39,9 @@ impl Memory {
         ensures { result ≡ remembering n self }
     {
         if self.count < PLACES {
-            self.states[self.count as usize] = n;
-            self.count += 1;
+            let at = self.count as usize;
+            self.states[at] = n;
+            self.count = self.count + 1;
         } else {
             self.states[7] = n;
         }
@@ -42,7 +53,7 @@ impl Memory {
         ensures { result ≡ showing_first self }
     {
         let any = self.any();
-        self.showing = u8::from(any);
+        self.showing = any as u8;
         self
     }
 
@@ -56,7 +67,7 @@ impl Memory {
         let s = self.states;
         Memory {
             states: [s[1], s[2], s[3], s[4], s[5], s[6], s[7], 0],
-            count: self.count.saturating_sub(1),
+            count: less(self.count),
             showing: 0,
         }
     }
@@ -72,14 +83,13 @@ impl Memory {
 
 impl BallBox {
     // The buttons that the next report shows: the first remembered, or the present ones.
-    #[tactic(auto, unfolding(crate::specs::Presses::to_show))]
     pub(crate) fn to_show(self) -> u8
         ensures { result ≡ to_show self }
     {
-        if self.memory.any() {
-            self.memory.states[0]
-        } else {
-            self.settings.buttons
+        let memory = self.memory;
+        if memory.any() {
+            return memory.states[0];
         }
+        self.settings.buttons
     }
 }

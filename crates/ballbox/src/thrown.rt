@@ -58,9 +58,11 @@ impl Sums {
     pub(crate) fn over_limit(self, excess: Excess) -> Sums
         ensures { result ≡ sums (added self.limit excess) self.counter }
     {
+        let limit = self.limit;
+        let counter = self.counter;
         Sums {
-            limit: self.limit.adding(excess),
-            counter: self.counter,
+            limit: limit.adding(excess),
+            counter: counter,
         }
     }
 
@@ -68,9 +70,11 @@ impl Sums {
     pub(crate) fn over_counter(self, excess: Excess) -> Sums
         ensures { result ≡ sums self.limit (added self.counter excess) }
     {
+        let limit = self.limit;
+        let counter = self.counter;
         Sums {
-            limit: self.limit,
-            counter: self.counter.adding(excess),
+            limit: limit,
+            counter: counter.adding(excess),
         }
     }
 }

@@ -87,7 +87,6 @@ impl Reader {
     }
 
     // One word. A refusal leaves the reader as it was.
-    #[inline(always)]
     pub fn step(self, word: u16) -> Result<Step, Refusal>
         ensures { StepPromise self word (read_in self result) }
     {

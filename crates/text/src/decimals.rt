@@ -16,11 +16,19 @@ fn digit(n: u64) -> u8
     b'0' + (n % 10) as u8
 }
 
-// The digits that a number needs.
+// The digits that a number needs. Up to three need no logarithm: the numbers of a recording have no more.
 fn size(n: u64) -> usize
     ensures { result ≡ size_of n }
 {
-    if n < 10 { 1 } else { n.ilog10() as usize + 1 }
+    if n < 10 {
+        1
+    } else if n < 100 {
+        2
+    } else if n < 1000 {
+        3
+    } else {
+        n.ilog10() as usize + 1
+    }
 }
 
 // And at a width.

@@ -1,51 +1,97 @@
--- Its eight parts, each asked where those before it hold.
-use mathlib.Core.Bool.{Bool, true, false, ◌&&◌}
-use mathlib.Core.Path.{◌≡◌, refl, sym, ◌∙◌}
-use Rattle.ballbox.specs.Good.{good_settings, good_track, good_going, dormant_rightly, good_memory, remembers_rightly, shows_rightly, good}
+-- `good`: its eight parts, each asked where those before it hold.
+use borrow.Author.Tests.{not-true, not-false}
+use mathlib.Core.Bool.{Bool, true, false, not, ◌&&◌}
+use mathlib.Core.Path.{◌≡◌, sym, ◌∙◌}
+use Rattle.ballbox.specs.Good.{good}
 use Rattle.ballbox.proofs.BallBox.good.Goals as goal
-use Rattle.ballbox.proofs.BallBox.good.Goals.{then-good, else-good, then-good-2, else-good-2, then-good-3, else-good-3, then-dormant_rightly, else-dormant_rightly}
-use Rattle.ballbox.proofs.BallBox.good.Goals.{then-good-4, else-good-4, then-remembers_rightly, else-remembers_rightly}
 
--- a part is asked where those before it hold
-asked : (a b r s v : Bool) → a ≡ r → a ≡ true → v ≡ s → s ≡ b → v ≡ r && b
-asked a b r s v p t q e = q ∙ e ∙ rw (sym p ∙ t)
+-- a test that was passed, and one that was not
+holds : {r t : Bool} → r ≡ t → not r ≡ false → t ≡ true
+holds e l = sym e ∙ not-false _ l
 
--- and is not where they do not
-unasked : (a b r v : Bool) → a ≡ r → a ≡ false → v ≡ a → v ≡ r && b
-unasked a b r v p f q = q ∙ f ∙ rw (sym p ∙ f)
+fails : {r t : Bool} → r ≡ t → not r ≡ true → t ≡ false
+fails e l = sym e ∙ not-true _ l
 
-pub returns-then-shows_rightly : goal.returns-then-shows_rightly
+-- where the first seven hold, all do as the last does
+eighth : {a b c d e f g h r : Bool} → a ≡ true → b ≡ true → c ≡ true → d ≡ true → e ≡ true → f ≡ true → g ≡ true → r ≡ h → r ≡ a && b && c && d && e && f && g && h
+eighth p q s t u v w l = rw (p, q, s, t, u, v, w, l)
+
+pub returns-then-not-good : goal.returns-then-not-good
 unfolding good
-returns-then-shows_rightly c =
-    let b = c.args.self in
-    let two : c.if-good.value ≡ good_settings b.settings && good_track b.track =
-    elim c.if-good.branch [ then-good w ↦ asked _ _ _ _ _ (c.good.ensures) w.if-good.true w.value-is w.good-then-good.ensures | else-good w ↦ unasked _ _ _ _ (c.good.ensures) w.if-good.false w.value-is ] in
-    let three : c.if-good-2.value ≡ good_settings b.settings && good_track b.track && good_going b.settings.format b.going =
-    elim c.if-good-2.branch [ then-good-2 w ↦ asked _ _ _ _ _ (two) w.if-good-2.true w.value-is w.good-then-good-2.ensures | else-good-2 w ↦ unasked _ _ _ _ (two) w.if-good-2.false w.value-is ] in
-    let four : c.if-good-3.value ≡ good_settings b.settings && good_track b.track && good_going b.settings.format b.going && dormant_rightly b =
-    elim c.if-good-3.branch [ then-good-3 w ↦ asked _ _ _ _ _ (three) w.if-good-3.true w.value-is w.dormant_rightly.ensures | else-good-3 w ↦ unasked _ _ _ _ (three) w.if-good-3.false w.value-is ] in
-    let five : c.if-dormant_rightly.value ≡ good_settings b.settings && good_track b.track && good_going b.settings.format b.going && dormant_rightly b && good_memory b.memory =
-    elim c.if-dormant_rightly.branch [ then-dormant_rightly w ↦ asked _ _ _ _ _ (four) w.if-dormant_rightly.true w.value-is w.good-then-dormant_rightly.ensures | else-dormant_rightly w ↦ unasked _ _ _ _ (four) w.if-dormant_rightly.false w.value-is ] in
-    let six : c.if-good-4.value ≡ good_settings b.settings && good_track b.track && good_going b.settings.format b.going && dormant_rightly b && good_memory b.memory && remembers_rightly b =
-    elim c.if-good-4.branch [ then-good-4 w ↦ asked _ _ _ _ _ (five) w.if-good-4.true w.value-is w.remembers_rightly.ensures | else-good-4 w ↦ unasked _ _ _ _ (five) w.if-good-4.false w.value-is ] in
-    let seven : c.if-remembers_rightly.value ≡ good_settings b.settings && good_track b.track && good_going b.settings.format b.going && dormant_rightly b && good_memory b.memory && remembers_rightly b && shows_rightly b.settings.format b.going b.memory =
-    elim c.if-remembers_rightly.branch [ then-remembers_rightly w ↦ asked _ _ _ _ _ (six) w.if-remembers_rightly.true w.value-is w.shows_rightly.ensures | else-remembers_rightly w ↦ unasked _ _ _ _ (six) w.if-remembers_rightly.false w.value-is ] in
-    asked _ _ _ _ _ seven c.if-shows_rightly.true refl c.marks.ensures
+returns-then-not-good c = simp (fails c.good.ensures c.if-not-good.true-raw)
 
-pub returns-else-shows_rightly : goal.returns-else-shows_rightly
+pub returns-then-not-good-2 : goal.returns-then-not-good-2
 unfolding good
-returns-else-shows_rightly c =
-    let b = c.args.self in
-    let two : c.if-good.value ≡ good_settings b.settings && good_track b.track =
-    elim c.if-good.branch [ then-good w ↦ asked _ _ _ _ _ (c.good.ensures) w.if-good.true w.value-is w.good-then-good.ensures | else-good w ↦ unasked _ _ _ _ (c.good.ensures) w.if-good.false w.value-is ] in
-    let three : c.if-good-2.value ≡ good_settings b.settings && good_track b.track && good_going b.settings.format b.going =
-    elim c.if-good-2.branch [ then-good-2 w ↦ asked _ _ _ _ _ (two) w.if-good-2.true w.value-is w.good-then-good-2.ensures | else-good-2 w ↦ unasked _ _ _ _ (two) w.if-good-2.false w.value-is ] in
-    let four : c.if-good-3.value ≡ good_settings b.settings && good_track b.track && good_going b.settings.format b.going && dormant_rightly b =
-    elim c.if-good-3.branch [ then-good-3 w ↦ asked _ _ _ _ _ (three) w.if-good-3.true w.value-is w.dormant_rightly.ensures | else-good-3 w ↦ unasked _ _ _ _ (three) w.if-good-3.false w.value-is ] in
-    let five : c.if-dormant_rightly.value ≡ good_settings b.settings && good_track b.track && good_going b.settings.format b.going && dormant_rightly b && good_memory b.memory =
-    elim c.if-dormant_rightly.branch [ then-dormant_rightly w ↦ asked _ _ _ _ _ (four) w.if-dormant_rightly.true w.value-is w.good-then-dormant_rightly.ensures | else-dormant_rightly w ↦ unasked _ _ _ _ (four) w.if-dormant_rightly.false w.value-is ] in
-    let six : c.if-good-4.value ≡ good_settings b.settings && good_track b.track && good_going b.settings.format b.going && dormant_rightly b && good_memory b.memory && remembers_rightly b =
-    elim c.if-good-4.branch [ then-good-4 w ↦ asked _ _ _ _ _ (five) w.if-good-4.true w.value-is w.remembers_rightly.ensures | else-good-4 w ↦ unasked _ _ _ _ (five) w.if-good-4.false w.value-is ] in
-    let seven : c.if-remembers_rightly.value ≡ good_settings b.settings && good_track b.track && good_going b.settings.format b.going && dormant_rightly b && good_memory b.memory && remembers_rightly b && shows_rightly b.settings.format b.going b.memory =
-    elim c.if-remembers_rightly.branch [ then-remembers_rightly w ↦ asked _ _ _ _ _ (six) w.if-remembers_rightly.true w.value-is w.shows_rightly.ensures | else-remembers_rightly w ↦ unasked _ _ _ _ (six) w.if-remembers_rightly.false w.value-is ] in
-    unasked _ _ _ _ seven c.if-shows_rightly.false refl
+returns-then-not-good-2 c =
+    simp (
+      fails c.good-2.ensures c.if-not-good-2.true-raw,
+      holds c.good.ensures c.if-not-good.false-raw,
+    )
+
+pub returns-then-not-good-3 : goal.returns-then-not-good-3
+unfolding good
+returns-then-not-good-3 c =
+    simp (
+      fails c.good-3.ensures c.if-not-good-3.true-raw,
+      holds c.good-2.ensures c.if-not-good-2.false-raw,
+      holds c.good.ensures c.if-not-good.false-raw,
+    )
+
+pub returns-then-not-dormant_rightly : goal.returns-then-not-dormant_rightly
+unfolding good
+returns-then-not-dormant_rightly c =
+    simp (
+      fails c.dormant_rightly.ensures c.if-not-dormant_rightly.true-raw,
+      holds c.good-3.ensures c.if-not-good-3.false-raw,
+      holds c.good-2.ensures c.if-not-good-2.false-raw,
+      holds c.good.ensures c.if-not-good.false-raw,
+    )
+
+pub returns-then-not-good-4 : goal.returns-then-not-good-4
+unfolding good
+returns-then-not-good-4 c =
+    simp (
+      fails c.good-4.ensures c.if-not-good-4.true-raw,
+      holds c.dormant_rightly.ensures c.if-not-dormant_rightly.false-raw,
+      holds c.good-3.ensures c.if-not-good-3.false-raw,
+      holds c.good-2.ensures c.if-not-good-2.false-raw,
+      holds c.good.ensures c.if-not-good.false-raw,
+    )
+
+pub returns-then-not-remembers_rightly : goal.returns-then-not-remembers_rightly
+unfolding good
+returns-then-not-remembers_rightly c =
+    simp (
+      fails c.remembers_rightly.ensures c.if-not-remembers_rightly.true-raw,
+      holds c.good-4.ensures c.if-not-good-4.false-raw,
+      holds c.dormant_rightly.ensures c.if-not-dormant_rightly.false-raw,
+      holds c.good-3.ensures c.if-not-good-3.false-raw,
+      holds c.good-2.ensures c.if-not-good-2.false-raw,
+      holds c.good.ensures c.if-not-good.false-raw,
+    )
+
+pub returns-then-not-shows_rightly : goal.returns-then-not-shows_rightly
+unfolding good
+returns-then-not-shows_rightly c =
+    simp (
+      fails c.shows_rightly.ensures c.if-not-shows_rightly.true-raw,
+      holds c.remembers_rightly.ensures c.if-not-remembers_rightly.false-raw,
+      holds c.good-4.ensures c.if-not-good-4.false-raw,
+      holds c.dormant_rightly.ensures c.if-not-dormant_rightly.false-raw,
+      holds c.good-3.ensures c.if-not-good-3.false-raw,
+      holds c.good-2.ensures c.if-not-good-2.false-raw,
+      holds c.good.ensures c.if-not-good.false-raw,
+    )
+
+pub returns : goal.returns
+unfolding good
+returns c =
+    eighth
+    (holds c.good.ensures c.if-not-good.false-raw)
+    (holds c.good-2.ensures c.if-not-good-2.false-raw)
+    (holds c.good-3.ensures c.if-not-good-3.false-raw)
+    (holds c.dormant_rightly.ensures c.if-not-dormant_rightly.false-raw)
+    (holds c.good-4.ensures c.if-not-good-4.false-raw)
+    (holds c.remembers_rightly.ensures c.if-not-remembers_rightly.false-raw)
+    (holds c.shows_rightly.ensures c.if-not-shows_rightly.false-raw)
+    c.marks.ensures

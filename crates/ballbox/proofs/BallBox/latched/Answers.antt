@@ -16,8 +16,8 @@ use Rattle.wire.specs.Table.{five, bytes_by}
 use Rattle.wire.specs.declared.Report.{Report}
 use Rattle.ballbox.proofs.BallBox.latched.Goals as goal
 
-pub overflow_cast-self : goal.overflow_cast-self
-overflow_cast-self c = record { fits = rw c.size.ensures (omega (arith, at_most_five c.args.self.settings.format)) }
+pub overflow_cast-going : goal.overflow_cast-going
+overflow_cast-going c = record { fits = rw c.size.ensures (omega (arith, at_most_five c.args.self.settings.format)) }
 
 pub encoded-requires : goal.encoded-requires
 unfolding latched_report

@@ -4,4 +4,4 @@ use Rattle.ballbox.proofs.BallBox.next_byte.Goals as goal
 
 pub returns : goal.returns
 unfolding next_byte
-returns c = simp (c.after-self-2.ensures, c.after-self.ensures, c.from-byte.ensures) at c.gives.ensures
+returns c = simp (c.after-self-2.ensures, c.after-self.ensures) at c.gives.ensures

@@ -10,4 +10,4 @@ pub returns : goal.returns
 unfolding on_period
 returns c =
     let b = c.args.self in
-    simp (c.from.ensures, c.is_timed.ensures, c.moved-moved.ensures, as_number (due b || (is_timed b.settings.mode && moved b)))
+    simp (c.is_timed.ensures, c.moved-moved.ensures, as_number (due b || (is_timed b.settings.mode && moved b)))

@@ -5,4 +5,4 @@ use Rattle.ballbox.proofs.BallBox.prompted.Goals as goal
 pub returns : goal.returns
 returns c =
     let s = c.args in
-    simp (c.none-self.ensures, c.from.ensures, as_number s.due)
+    simp (c.none-self.ensures, as_number s.due)

@@ -7,6 +7,6 @@ pub returns-then-self-eq0 : goal.returns-then-self-eq0
 returns-then-self-eq0 c =
     rw c.rest_zero.ensures (empty_going c.args.letter c.args.self c.if-self-eq0.true)
 
-pub returns-else-self-eq0 : goal.returns-else-self-eq0
+pub returns : goal.returns
 unfolding good_going
-returns-else-self-eq0 c = simp (c.rest_zero-else-self-eq0.ensures, c.second_held.ensures, c.length_known.ensures, c.sent_below.ensures)
+returns c = simp (c.rest_zero-2.ensures, c.second_held.ensures, c.length_known.ensures, c.sent_below.ensures)

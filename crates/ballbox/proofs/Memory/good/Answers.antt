@@ -13,8 +13,8 @@ returns-then-self-eq0 c =
     let eight : length m.states ≡ 8 = search rules in
     rw c.unused_zero.ensures (empty_memory m eight c.if-self-eq0.true)
 
-pub returns-else-self-eq0 : goal.returns-else-self-eq0
+pub returns : goal.returns
 unfolding good_memory
-returns-else-self-eq0 c =
+returns c =
     let eight : length c.args.self.states ≡ 8 = search rules in
-    simp (eq-eqb _ _ eight, c.unused_zero-else-self-eq0.ensures, c.states_small.ensures)
+    simp (eq-eqb _ _ eight, c.unused_zero-2.ensures, c.states_small.ensures)

@@ -5,4 +5,4 @@ use Rattle.ballbox.proofs.Memory.showing_first.Goals as goal
 
 pub returns : goal.returns
 unfolding showing_first
-returns c = simp (c.from.ensures, c.any-any.ensures, as_number (any_remembered c.args.self))
+returns c = simp (c.any-any.ensures, as_number (any_remembered c.args.self))

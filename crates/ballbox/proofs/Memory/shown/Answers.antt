@@ -16,4 +16,4 @@ unfolding shown
 returns c =
     let m = c.args.self in
     let eight : length m.states ≡ 8 = search rules in
-    simp (eq-eqb _ _ c.if-self-ne1.false, c.saturating_sub.ensures, eight_up m.states eight)
+    simp (eq-eqb _ _ c.if-self-ne1.false, c.less.ensures, eight_up m.states eight)

@@ -15,5 +15,5 @@ unfolding placed_at bounded
 returns c =
     let f = c.ranges in
     let e = passed ◌+ℤ◌ w16 f.a f.b c.total.ensures in
-    let v : to_z w16 (of_z w16 c.held.result.value) ≡ c.held.result.value = search rules in
-    v ∙ ap (λ (x : Bounded). x.value) (c.held.ensures ∙ ap (bounded _ _) (kept w32 c.total.type_inv e))
+    let v : to_z w16 (of_z w16 c.held-place.result.value) ≡ c.held-place.result.value = search rules in
+    v ∙ ap (λ (x : Bounded). x.value) (c.held-place.ensures ∙ ap (bounded _ _) (kept w32 c.total.type_inv e))
