@@ -156,18 +156,18 @@ unfolding decimal_of
 decimal_few width p (pos n) h k = omega (arith, digits_long (places_of width n) n, places_few width n p h k)
 decimal_few width p (negsuc n) h k = omega (arith, digits_long (places_of width (suc n)) (suc n), places_few width (suc n) p h k)
 
--- a minus in front, and none
-pub a_minus : (ds : List ℕ) → pointwise eqb (take 1 ds) (45 ∷ []) ≡ true → has_minus ds ≡ true
-a_minus [] h = h
-a_minus (c ∷ ds) h = left (eqb c 45) true h
+-- what has a minus has a byte
+pub some_minus : (ds : List ℕ) → has_minus ds ≡ true → 1 ≤ length ds
+some_minus [] h = absurd (true≢false (sym h))
+some_minus (c ∷ ds) h = omega arith
 
-pub without_minus : (ds : List ℕ) → pointwise eqb (take 1 ds) (45 ∷ []) ≡ false → has_minus ds ≡ false
-without_minus [] h = refl
-without_minus (c ∷ ds) h = go (eqb c 45) h
-  where
-    go : (t : Bool) → t && true ≡ false → t ≡ false
-    go true k = k
-    go false k = refl
+pub no_byte : (ds : List ℕ) → length ds ≡ 0 → false ≡ has_minus ds
+no_byte [] h = refl
+no_byte (c ∷ ds) h = absurd (omega arith)
+
+pub first_byte : (ds : List ℕ) → (length ds ≡ 0 → ⊥) → eqb (get_or ds 0 0) 45 ≡ has_minus ds
+first_byte [] h = absurd (h refl)
+first_byte (c ∷ ds) h = refl
 
 -- digits are digits, and none is a minus
 pub all_digits_lem : (p n : ℕ) → all_digits (digits_of p n) ≡ true
