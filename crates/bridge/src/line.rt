@@ -83,17 +83,15 @@ impl Bridge {
         ensures { whole (converted_in result) out.new ≡ line converts self words.now out.old }
     {
         let mut b = self;
-        let mut used = 0;
         let mut reports = 0;
         let mut sent = 0;
         let mut dropped = 0;
         for (at, word) in words.iter().enumerate() {
-            let t = b.first(*word, &mut out[used..]);
+            let t = b.first(*word, &mut out[3 * sent..]);
             if t.taken == 0 {
                 return converted(t.refusal, b, at, reports, sent, dropped);
             }
             b = t.next;
-            used += 3 * t.sent;
             reports += t.reports;
             sent += t.sent;
             dropped += t.dropped;
