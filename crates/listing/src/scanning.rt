@@ -18,14 +18,7 @@ pub(crate) fn most_lines() -> u32
 fn ends(found: Found) -> bool
     ensures { result ≡ ends found }
 {
-    match found {
-        Found::Nothing => false,
-        Found::Format(_) => false,
-        Found::Word(_, _) => false,
-        Found::Bad(_) => true,
-        Found::Over => true,
-        Found::End => true,
-    }
+    matches!(found, Found::Bad(_) | Found::Over | Found::End)
 }
 
 // What is found on the line behind n others.
@@ -66,7 +59,7 @@ fn at_line(n: u32, ended: bool, found: Found) -> Scan
         next: Scanner {
             line: n,
             ended,
-            held: [0, 0, 0, 0, 0],
+            held: [0; 5],
             count: 0,
         },
         found,
@@ -118,10 +111,9 @@ impl Scanner {
         held[n] = b;
         Scan {
             next: Scanner {
-                line: self.line,
-                ended: self.ended,
                 held,
                 count: n + 1,
+                ..self
             },
             found: Found::Nothing,
         }

@@ -79,8 +79,7 @@ fn end(scanner: Scanner, log: Heard, words: &mut [u16]) -> Heard
     hear(behind, closed.next.end().found, words)
 }
 
-// The log of an input, byte by byte. Most of them find nothing, and leave the log where it is. (A `for` over the bytes missed the salvage's ceiling of
-// bench/guard.)
+// The log of an input, byte by byte. Most of them find nothing, and leave the log where it is.
 pub(crate) fn read(input: &[u8], words: &mut [u16]) -> Heard
     requires { length words.old ≡ most_words }
     ensures { Hears (log_of input.now) result words.new }
@@ -92,16 +91,12 @@ pub(crate) fn read(input: &[u8], words: &mut [u16]) -> Heard
         count: 0,
     };
     let mut log = made(0, 0, None);
-    let mut at: usize = 0;
-    while at < input.len() {
-        let scan = scanner.byte(input[at]);
-        let next = scan.next;
-        scanner = next;
-        at = at + 1;
-        let found = scan.found;
-        match found {
+    for byte in input {
+        let scan = scanner.byte(*byte);
+        scanner = scan.next;
+        match scan.found {
             Found::Nothing => {}
-            _ => log = hear(log, found, words),
+            found => log = hear(log, found, words),
         }
     }
     end(scanner, log, words)

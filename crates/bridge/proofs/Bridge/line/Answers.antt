@@ -44,8 +44,8 @@ loop-at-preserved c =
     let here : c.loop-at.at < length c.args.words.now = omega arith in
     record {
       stands =
-        let places : 3 * (c.loop-at.sent + c.first-t.result.sent) ≡ 3 * c.loop-at.sent + 3 * c.first-t.result.sent = omega arith in
-        rw places (more {a = converted_in c.first-t.result} c.loop-at.invariant.stands here c.first-t.ensures.begins c.first-t.ensures.one c.if-t-eq0.false);
+          let places : 3 * (c.loop-at.sent + c.first-t.result.sent) ≡ 3 * c.loop-at.sent + 3 * c.first-t.result.sent = omega arith in
+          rw places (more {a = converted_in c.first-t.result} c.loop-at.invariant.stands here c.first-t.ensures.begins c.first-t.ensures.one c.if-t-eq0.false);
       sound = (c.first-t.ensures.begins []).sound;
     }
 
