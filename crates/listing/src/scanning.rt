@@ -97,6 +97,7 @@ impl Scanner {
     }
 
     // One byte: a newline ends the line, and a sixth byte makes it bad.
+    #[inline(always)]
     pub fn byte(self, b: u8) -> Scan
         ensures { ByteScanPromise self b result }
     {
