@@ -55,7 +55,7 @@ fn byte(word: u16) -> usize
     usize::from(is_byte(word))
 }
 
-// Whether a run starts with the first of these words, by letter and size. (A `for` over the words missed the salvage's ceiling of bench/guard.)
+// Whether a run starts with the first of these words, by letter and size.
 fn run_starts(letter: u8, size: usize, words: &[u16]) -> bool
     requires { (size ≡ size_by letter) × (0 < size) }
     ensures { result ≡ starts_by letter words.now }
@@ -63,12 +63,10 @@ fn run_starts(letter: u8, size: usize, words: &[u16]) -> bool
     if words.len() < size {
         return false;
     }
-    let mut i: usize = 0;
-    while i < size {
-        if !fits_word(letter, i as u8, words[i]) {
+    for (place, word) in words[..size].iter().enumerate() {
+        if !fits_word(letter, place as u8, *word) {
             return false;
         }
-        i += 1;
     }
     true
 }
