@@ -91,18 +91,14 @@ impl Move {
     }
 }
 
-// So many V reports of a movement, to the front of a slice. (`for n in 0..count`, and the place three times `n`, missed the bridge's ceiling of bench/guard.)
+// So many V reports of a movement, to the front of a slice.
 pub(crate) fn put(buttons: u8, count: usize, m: Move, out: &mut [u8])
     requires { NearMove m × (3 * count ≤ length out.old) }
     ensures { out.new ≡ bytes_all (split count buttons m) ++ drop (3 * count) out.old }
 {
     let mut left = m;
-    let mut n = count;
-    let mut at: usize = 0;
-    while n > 0 {
-        left.write(buttons, &mut out[at..]);
+    for n in 0..count {
+        left.write(buttons, &mut out[3 * n..]);
         left = left.rest();
-        at += 3;
-        n -= 1;
     }
 }

@@ -1,5 +1,5 @@
 -- What is written, what is to come, and the old bytes behind it are the whole.
-use Prim.Native.Nat.{◌+◌, ◌*◌, ◌≤◌}
+use Prim.Native.Nat.{◌+◌, ◌-◌, ◌*◌, ◌≤◌}
 use mathlib.Core.Path.{◌≡◌}
 use mathlib.Core.List.{◌++◌}
 use lib.ListN.{length, take, drop}
@@ -8,10 +8,9 @@ use Rattle.bridge.proofs.splitting.put.Given as goal
 
 abbrev pub invariant-loop-n : goal.invariant-loop-n
 invariant-loop-n l =
-    NearMove l.left
-    × (l.at + 3 * l.n ≤ length l.out)
-    × (length l.out ≡ length l.initial.out)
-    × (take l.at l.out ++ (bytes_all (split l.n l.buttons l.left) ++ drop (l.at + 3 * l.n) l.out) ≡ bytes_all (split l.initial.n l.buttons l.initial.left) ++ drop (3 * l.initial.n) l.initial.out)
-
-abbrev pub decreases-loop-n : goal.decreases-loop-n
-decreases-loop-n l = l.n
+    record {
+      near : NearMove l.left;
+      room : 3 * l.n + 3 * (l.count - l.n) ≤ length l.out;
+      long : length l.out ≡ length l.initial.out;
+      whole : take (3 * l.n) l.out ++ (bytes_all (split (l.count - l.n) l.buttons l.left) ++ drop (3 * l.n + 3 * (l.count - l.n)) l.out) ≡ bytes_all (split l.count l.buttons l.initial.left) ++ drop (3 * l.count) l.initial.out;
+    }
