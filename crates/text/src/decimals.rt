@@ -66,7 +66,7 @@ fn minus(number: Option<i64>) -> Option<i64>
     }
 }
 
-// Whether a minus stands in front. (`strip_prefix` is a call, which cost the salvage of a log five instructions a word.)
+// Whether a minus stands in front. (`strip_prefix` is a call, which cost the salvage of a log three instructions a word.)
 fn has_minus(bytes: &[u8]) -> bool
     ensures { result ≡ has_minus bytes.now }
 {
