@@ -71,7 +71,8 @@ impl Filter for Driving {
     fn finish(self, system: &mut System, out: &mut [u8]) -> Result<(), Failure> {
         let mut here = self.driver;
         for _ in 0..CALLS {
-            if here.ended {
+            let over = here.ended;
+            if over {
                 return Ok(());
             }
             let last = here.finish(out);

@@ -20,7 +20,7 @@ use Rattle.shell.proofs.Laws as standing
 use Rattle.mbridge.specs.Recording.{waiting, bridge_behind, lines_for, lines_from, bridged_of}
 use Rattle.mbridge.specs.Program.{mbridge}
 use Rattle.mbridge.specs.Blocks.{most, Puts, Takes, rest_of, Ready, Midway}
-use Rattle.mbridge.specs.declared.Bridging.{Bridging}
+use Rattle.mbridge.specs.declared.bridging.Bridging.{Bridging}
 use Rattle.mbridge.specs.declared.Put.{Put}
 use Rattle.mbridge.specs.declared.Taken.{Taken}
 use Rattle.mbridge.proofs.Filling.{put_behind, used_is, same_long, within}
@@ -48,17 +48,17 @@ unfolding lines_from
 quiet q s e = lines_told (all_found s.scanner q) s.bridge ∙ ap (lines_from s.bridge) (none_told q s.scanner e)
 
 -- it begins
+pub waits_good : good waiting ≡ true
+waits_good = fresh_is_good (letter_of FiveByte) (fresh_of (letter_of FiveByte)) refl
+
 module _ (s : Bridging) (e : s.scanner ≡ unfed) (f : s.bridge ≡ waiting) where
   pub starts : (t : ℕ) → Trace t [] [] [] → Stands mbridge t (rest_of s) silent
   starts t traced = standing.reworded mbridge t bridged_of (rest_of s) silent silent (standing.begins mbridge t traced) (λ q. sym (rw (e, f) (all_at_once q))) (λ q. refl)
 
   pub is_ready : Ready s
-  is_ready = record { sound = rw f (fresh_is_good (letter_of FiveByte) (fresh_of (letter_of FiveByte)) refl); within = rw e (omega arith, omega arith) }
+  is_ready = record { sound = s.sound; within = rw e (omega arith, omega arith) }
 
--- a byte, with room or not: a good bridge stays good, and no more places are taken than there are
-pub stays_good : (s : Bridging) (c : ℕ) (before : List ℕ) (at : ℕ) (r : Taken) (after : List ℕ) → good s.bridge ≡ true → Takes s c before at r after → good r.next.bridge ≡ true
-stays_good s c before at r after g k = rw k.next (found_good s.bridge (scanned_byte s.scanner c).found g)
-
+-- a byte, with room or not: no more places are taken than there are
 pub stays_within : (s : Bridging) (c : ℕ) (before : List ℕ) (at : ℕ) (r : Taken) (after : List ℕ) → at ≤ length before → Takes s c before at r after → r.used ≤ length after
 stays_within s c before at r after h k = within before after (lines_for s.bridge (scanned_byte s.scanner c).found) at r.used h k.lines
 

@@ -11,7 +11,7 @@ use Rattle.shell.specs.Standing.{Stands, silent}
 use Rattle.mbridge.specs.Recording.{bridge_behind, lines_for, lines_from}
 use Rattle.mbridge.specs.Program.{mbridge}
 use Rattle.mbridge.specs.declared.Put.{Put}
-use Rattle.mbridge.specs.declared.Bridging.{Bridging}
+use Rattle.mbridge.specs.declared.bridging.Bridging.{Bridging}
 use Rattle.mbridge.specs.declared.Taken.{Taken}
 
 -- the places that a byte of the input needs at most: a report becomes 33 V reports of three bytes, and the line of a byte has six at most

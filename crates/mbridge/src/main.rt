@@ -12,20 +12,16 @@ ghost use Rattle.mbridge.specs.Lines.{numbered, byte_lines};
 ghost use Rattle.mbridge.specs.Program.{mbridge};
 ghost use Rattle.mbridge.specs.Blocks.{most, Puts, Takes, rest_of, Ready};
 
+use crate::bridging::Bridging;
 use bridge::Bridge;
-use listing::{Found, Lister, Scanner};
+use listing::{Found, Lister};
 use shell::{Failure, Filter, Step, System};
 use text::Text;
 
+mod bridging;
+
 // The places that a byte of the input needs at most: a report becomes 33 V reports of three bytes, and the line of a byte has six at most.
 const MOST: usize = 594;
-
-// The scanner of the recording, and the bridge of its format.
-#[derive(Clone, Copy, Drop)]
-struct Bridging {
-    scanner: Scanner,
-    bridge: Bridge,
-}
 
 // The bridge, and the place behind the lines that were put.
 #[derive(Clone, Copy, Drop)]
@@ -113,7 +109,6 @@ fn found(out: &mut [u8], at: usize, bridge: Bridge, found: Found) -> Put
 impl Bridging {
     // A byte of the input, and the lines of what is found at it.
     fn byte(self, out: &mut [u8], at: usize, b: u8) -> Taken
-        requires { good self.bridge ≡ true }
         ensures { Takes self b out.old at result out.new }
     {
         let scan = self.scanner.byte(b);
@@ -145,17 +140,13 @@ impl Filter for Bridging {
 
     ghost room_grows = { λ n m fewer. le_refl (2 * most) };
 
-    // The bytes of a read, one by one: what has been put is shown before a byte that might have no room, and at the end. The bridge is good, as a fresh one
-    // is and every one that comes of it; with any other nothing is done.
+    // The bytes of a read, one by one: what has been put is shown before a byte that might have no room, and at the end.
     fn feed(
         self,
         system: &mut System,
         bytes: &[u8],
         out: &mut [u8],
     ) -> Result<Step<Bridging>, Failure> {
-        if !self.bridge.good() {
-            return Err(Failure);
-        }
         let mut here = self;
         let mut used = 0;
         for b in bytes {
@@ -178,9 +169,6 @@ impl Filter for Bridging {
 
     // The last line, which may lack its newline, and the end.
     fn finish(self, system: &mut System, out: &mut [u8]) -> Result<(), Failure> {
-        if !self.bridge.good() {
-            return Err(Failure);
-        }
         let closed = self.scanner.closed();
         let put = found(out, 0, self.bridge, closed.found);
         let end = closed.next.end();

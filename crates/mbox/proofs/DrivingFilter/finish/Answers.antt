@@ -28,6 +28,11 @@ returns-in_err-show c =
     let p = err_from_is_err_and c.from_residual.result c.from_residual.ensures.1 in
     λ f. let k = l.invariant.goes f.whole f.fits f.closes in rw p.1 (standing.fails mbox c.show.new.self.turn (last_fails l.out k.0 k.1 finish.ensures c.show.new.self.turn c.in_err-show.ensures.handed))
 
+pub returns-then-over : goal.returns-then-over
+returns-then-over c =
+    let l = c.loop in
+    λ f. let k = l.invariant.goes f.whole f.fits f.closes in standing.ends mbox l.system.turn (ends l.system.turn l.here k.0 k.1 c.if-over.true)
+
 pub loop-preserved : goal.loop-preserved
 loop-preserved c =
     let l = c.loop in
@@ -38,17 +43,12 @@ loop-preserved c =
       goes = λ kept room closes.
           let k = l.invariant.goes kept room closes in
           let falls = less l.out k.0 k.1 finish.ensures (omega (arith, l.invariant.room, room)) in
-          let here = rw c.if-here.false at k.2 in (
+          let here = rw c.if-over.false at k.2 in (
             last_kept l.here l.out finish.new.out (driven_in finish.result) k.0 finish.ensures,
             last_calls l.out k.0 k.1 finish.ensures c.show.new.self.turn c.in_ok-show.ensures.handed,
             omega (arith, falls, here),
           );
     }
-
-pub returns-then-here : goal.returns-then-here
-returns-then-here c =
-    let l = c.loop in
-    λ f. let k = l.invariant.goes f.whole f.fits f.closes in standing.ends mbox l.system.turn (ends l.system.turn l.here k.0 k.1 c.if-here.true)
 
 pub returns : goal.returns
 returns c =

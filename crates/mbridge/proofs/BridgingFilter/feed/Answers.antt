@@ -5,7 +5,7 @@ use Rattle.shell.specs.Standing.{Stands, silent}
 use Rattle.listing.specs.Scanning.{passed}
 use Rattle.mbridge.specs.Program.{mbridge}
 use Rattle.mbridge.specs.Blocks.{most, rest_of}
-use Rattle.mbridge.proofs.Turns.{stays_good, stays_within, steps, further, emptied, unshown, closes, falls}
+use Rattle.mbridge.proofs.Turns.{stays_within, steps, further, emptied, unshown, closes, falls}
 use Rattle.mbridge.proofs.BridgingFilter.feed.Goals as goal
 use Rattle.mbridge.proofs.BridgingFilter.feed.Goals.{then-out-used-lt-MOST+in_ok-show, else-out-used-lt-MOST}
 
@@ -27,7 +27,6 @@ loop-b-preserved c =
     let same : length k.new.out ≡ length l.out = search rules in
     let used : j.used ≤ length l.out = elim j.branch [ then-out-used-lt-MOST+in_ok-show w ↦ rw w.used-is (omega arith) | else-out-used-lt-MOST w ↦ rw w.used-is l.invariant.within ] in
     record {
-      sound = stays_good l.here b l.out j.used k.result k.new.out l.invariant.sound k.ensures;
       within = stays_within l.here b l.out j.used k.result k.new.out used k.ensures;
       long = same ∙ l.invariant.long;
       goes = λ f.

@@ -1,8 +1,7 @@
 -- Byte after byte.
-use Rattle.std.proofs.Common.{◌≡◌, ◌*◌, ◌≤◌, true, length, drop}
+use Rattle.std.proofs.Common.{◌≡◌, ◌*◌, ◌≤◌, length, drop}
 use Rattle.shell.specs.Filters.{Fed}
 use Rattle.listing.specs.Scanning.{passed}
-use Rattle.bridge.specs.Good.{good}
 use Rattle.mbridge.specs.Program.{mbridge}
 use Rattle.mbridge.specs.Blocks.{most, rest_of, Ready, Midway}
 use Rattle.mbridge.proofs.Turns.{Far}
@@ -11,7 +10,6 @@ use Rattle.mbridge.proofs.BridgingFilter.feed.Given as goal
 abbrev pub invariant-loop-b : goal.invariant-loop-b
 invariant-loop-b l =
     record {
-      sound : good l.here.bridge ≡ true;
       within : l.used ≤ length l.out;
       long : length l.out ≡ length l.initial.out;
       goes : Fed mbridge rest_of Ready (λ _. 2 * most) l.bytes (length l.initial.out) l.initial.system.turn l.initial.here

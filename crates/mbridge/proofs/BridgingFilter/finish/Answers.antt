@@ -6,7 +6,7 @@ use Rattle.mbridge.proofs.Turns.{lasts_within, ends_with}
 use Rattle.mbridge.proofs.BridgingFilter.finish.Goals as goal
 
 pub found-all-requires : goal.found-all-requires
-found-all-requires c = rw c.found-put.ensures.next (found_good c.args.self.bridge c.closed-closed.result.found (sym c.if-not-good.ensures))
+found-all-requires c = rw c.found-put.ensures.next (found_good c.args.self.bridge c.closed-closed.result.found c.args.self.sound)
 
 pub slice_bounds-show-end-2 : goal.slice_bounds-show-end-2
 slice_bounds-show-end-2 c =
