@@ -1,6 +1,6 @@
 -- Demand 1: "Every public entry takes every event, line word, state and buffer and ends with an answer. A refusal has a number from the list, hands
 -- back the old state and writes nothing; a reader given many words does all before the bad one and stops there."
-use Rattle.std.specs.Prelude.{ℕ, ◌+◌, ◌<◌, ◌≤◌, ◌≡◌, refl, Bool, true, false, List, [], ◌∷◌, ◌++◌, ◌⊎◌, length, get_or, take, ℤ, None, Err, Option}
+use Rattle.std.specs.Prelude.{ℕ, ◌+◌, ◌<◌, ◌≤◌, ◌≡◌, refl, Bool, true, false, List, [], ◌∷◌, ◌++◌, ◌⊎◌, length, get_or, take, ℤ, None, Result, Err, Option}
 use mathlib.Core.List.Memᴰ.{head as here}
 use Rattle.frames.specs.Words.{silence, line_words}
 use Rattle.wire.specs.Line.{known, letter_of, marked_by, named_by, size_of}
@@ -14,7 +14,7 @@ use Rattle.wire.specs.Promises.{KnownPromise, SizePromise, MarkedPromise, FitsPr
 use Rattle.wire.specs.declared.Format.{Format}
 use Rattle.wire.specs.declared.Format.TheVariants.{FiveByte}
 use Rattle.wire.specs.declared.Report.{Report}
-use Rattle.wire.specs.Refusals as numbered
+use Rattle.wire.specs.Promises as numbered
 use Rattle.wire.specs.declared.refusal.Refusal.{Refusal}
 use Rattle.wire.specs.declared.refusal.Refusal.TheVariants.{NoSuchLetter, ButtonsAboveSeven, BufferTooShort}
 use Rattle.wire.proofs.Answers as wire
@@ -135,8 +135,8 @@ report_one letter bytes a b = wire.one_report letter bytes
 pub encode_one : (letter : ℕ) (r : Report) (before : List ℕ) → OneWith (EncodePromise letter r before)
 encode_one letter r before a b after behind = wire.one_encoding letter r before
 
-pub refusal_one : (encoded : Encoded) → One (RefusalPromise encoded)
-refusal_one encoded a b = wire.one_refusal encoded
+pub refusal_one : {A : Type 0} (given : Result A Refusal) → One (RefusalPromise given)
+refusal_one given a b = wire.one_refusal given
 
 pub refusal_number_one : (r : Refusal) → One (numbered.NumberPromise r)
 refusal_number_one r a b = wire.one_number r
