@@ -14,7 +14,6 @@ use Rattle.wire.specs.Promises.{KnownPromise, SizePromise, MarkedPromise, FitsPr
 use Rattle.wire.specs.declared.Format.{Format}
 use Rattle.wire.specs.declared.Format.TheVariants.{FiveByte}
 use Rattle.wire.specs.declared.Report.{Report}
-use Rattle.wire.specs.Promises as numbered
 use Rattle.wire.specs.declared.refusal.Refusal.{Refusal}
 use Rattle.wire.specs.declared.refusal.Refusal.TheVariants.{NoSuchLetter, ButtonsAboveSeven, BufferTooShort}
 use Rattle.wire.proofs.Answers as wire
@@ -148,7 +147,7 @@ encode_one letter r before a b after behind = wire.one_encoding letter r before
 pub refusal_one : {A : Type 0} (given : Result A Refusal) → One (RefusalPromise given)
 refusal_one given a b = wire.one_refusal given
 
-pub refusal_number_one : (r : Refusal) → One (numbered.NumberPromise r)
+pub refusal_number_one : (r : Refusal) → One (encoder.NumberPromise r)
 refusal_number_one r a b = wire.one_number r
 
 pub length_one : (encoded : Encoded) → One (LengthPromise encoded)
