@@ -104,6 +104,7 @@ impl Reader {
     #[inline(always)]
     fn begins(self, words: &[u16]) -> bool
         requires { good self ≡ true }
+        ensures { result ≡ true → self ≡ ready self.format }
     {
         if !self.is_ready() || words.len() < wire::size(self.format) {
             return false;
