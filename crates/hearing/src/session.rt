@@ -1,5 +1,5 @@
 // A port, and behind it what tells of its words: the turns in which a program hears a line.
-ghost use Rattle.std.specs.Prelude.{◌≡◌, ℕ, ◌*◌, ◌≤◌, ◌<◌, List, length};
+ghost use Rattle.std.specs.Prelude.{◌≡◌, ℕ, ◌*◌, ◌≤◌, ◌<◌, List, [], length};
 ghost use Rattle.port.specs.Sessions.{step_of};
 ghost use Rattle.shell.specs.Outside.{heard_in};
 ghost use Rattle.hearing.specs.Events.{event_of};
@@ -11,7 +11,7 @@ use port::{Heard, Port};
 use shell::{Failure, System};
 
 // More turns than a run has: each takes a tenth of a second or brings a byte.
-const TURNS: u64 = 1_000_000_000_000_000;
+pub const TURNS: u64 = 1_000_000_000_000_000;
 
 // What tells of words, one by one.
 pub trait Teller {
@@ -26,9 +26,11 @@ pub trait Teller {
     fn word(&mut self, word: u16, out: &mut [u8], at: usize) -> usize
         ensures { Step text told most self.old word out.old at self.new out.new result };
 
-    // How many bytes, of so many, a read may bring: none where no more is to be heard.
-    fn wants(&self, room: usize) -> usize
-        ensures { result ≤ room };
+    // How many bytes, of so many, a read may bring whose text is to have room in so many: none only where there is no room, or nothing more is to be written.
+    fn wants(&self, input: usize, out: usize) -> usize
+        ensures within { result ≤ input }
+        ensures room { most * result ≤ out }
+        ensures some { result ≡ 0 → 0 < input → most ≤ out → (words : List ℕ) → text self.now words ≡ [] };
 
     // A turn at a second: what is noted of it, if anything. The second of the last note is given, and given back.
     fn noted(&self, last: i64, now: i64) -> i64;
@@ -107,7 +109,8 @@ impl<T: Teller> Session<T> {
         Ok(count)
     }
 
-    // Turn after turn, until no more is to be heard, the line is gone or something failed. The last turn is noted too.
+    // Turn after turn, until no more is to be heard, the line is gone or something failed. The last turn is noted too. Where the slices have no room for
+    // a byte and its text, nothing is read.
     pub fn turns(
         &mut self,
         system: &mut System,
@@ -116,14 +119,13 @@ impl<T: Teller> Session<T> {
         input: &mut [u8],
         out: &mut [u8],
     ) -> Result<(), Failure>
-        requires room { T.most * length input.old ≤ length out.old }
         ensures goes { Goes (over T.text) (over T.told) names.entry.input.now names.entry.output.now system.old.turn self.old system.new.turn self.new result }
     {
         let mut clock = Clock { empty: 0 };
         let mut since: i64 = 0;
         let mut noted: i64 = 0;
         for _ in 0..TURNS {
-            let most = self.teller.wants(input.len());
+            let most = self.teller.wants(input.len(), out.len());
             if most == 0 {
                 break;
             }

@@ -7,14 +7,18 @@ use mir.Val.{Fits}
 use Rattle.shell.specs.Outside.{Trace, Handed}
 use Rattle.shell.specs.Standing.{Stands, Closes, Failed, silent}
 use Rattle.shell.proofs.Laws as standing
+use lib.Dec.{eqb}
+use Rattle.numbers.proofs.Choices.{cases}
 use Rattle.listing.specs.Scanning.{most_lines}
 use Rattle.ballbox.specs.Box.{Bytes}
-use Rattle.driver.specs.Feeding.{fresh}
+use Rattle.driver.specs.Feeding.{fresh, good}
 use Rattle.driver.specs.Driving.{recording_of}
-use Rattle.driver.specs.Promises.{Driven, enough, FeedPromise, FinishPromise}
+use Rattle.driver.specs.Promises.{Driven, Whole, enough, FeedPromise, FinishPromise}
 use Rattle.driver.specs.Calls.{owing}
 use Rattle.driver.specs.declared.Driver.{Driver}
+use Rattle.driver.proofs.Keeps.{parts}
 use Rattle.driver.proofs.Kept.{Kept}
+use Rattle.driver.proofs.Refusals.{bad_state_feed, feed_stays_good}
 use Rattle.driver.proofs.Whole.{all_of, all_at_once}
 use Rattle.driver.proofs.Pieces.{quiet}
 use Rattle.driver.proofs.Calls.{next_kept, call_goes, takes_some, feed_within, last_goes, ends_or_less}
@@ -54,6 +58,22 @@ here_begins t m bytes h b s = record { kept = h; are_bytes = b; stands = s; near
 abbrev pub left_of : List ℕ → Driver → ℕ
 left_of rest m = (most_lines + 1) * length rest + m.owed
 
+-- whatever the driver: a call that took a byte or a slot left less
+pub fewer : (here : Driver) (rest before after : List ℕ) (a : Driven) → FeedPromise here rest before a after → (1 ≤ a.taken) ⊎ (a.next.owed < here.owed)
+    → left_of (drop a.taken rest) a.next < left_of rest here
+fewer here rest before after a p some = go (good here) refl
+  where
+    few : a.taken ≤ length rest
+    few = (feed_within here rest before after a p).0
+
+    go : (g : Bool) → good here ≡ g → left_of (drop a.taken rest) a.next < left_of rest here
+    go true e =
+        let owes = (parts a.next (feed_stays_good here rest before after a e p)).slots in
+        ⊎_elim (λ k. omega (arith, k, few, owes, length-drop a.taken rest)) (λ k. omega (arith, k, few, length-drop a.taken rest)) some
+    go false e =
+        let same = bad_state_feed here rest before after a e p in
+        ⊎_elim (λ k. absurd (omega (arith, k, ap (λ (w : Whole). w.driven.taken) same))) (λ k. absurd (omega (arith, k, ap (λ (w : Whole). w.driven.next.owed) same))) some
+
 -- a call, and what it wrote
 module _ {t : ℕ} {m : Driver} {bytes : List ℕ} {here : Driver} {rest after : List ℕ} {a : Driven} (before : List ℕ) (h : Here t m bytes here rest)
     (p : FeedPromise here rest before a after) where
@@ -87,12 +107,8 @@ module _ {t : ℕ} {m : Driver} {bytes : List ℕ} {here : Driver} {rest after :
   fails t' w = standing.fails_writing mbox t t' false (take a.written after) before_it behind_it silent h.stands goes w refl
 
   -- it takes a byte or a slot
-  pub fewer : enough ≤ length before → 1 ≤ here.owed + length rest → left_of (drop a.taken rest) a.next < left_of rest here
-  fewer room some =
-      let few = (feed_within here rest before after a p).0 in
-      let owes = (next_kept here rest before after a h.kept h.are_bytes p).within.slots in
-      ⊎_elim (λ k. omega (arith, k, few, owes, length-drop a.taken rest)) (λ k. omega (arith, k, few, length-drop a.taken rest))
-      (takes_some here rest before after a h.kept h.are_bytes p room some)
+  pub takes : enough ≤ length before → 1 ≤ here.owed + length rest → a.taken ≡ 0 → here.owed ≤ a.next.owed → ⊥
+  takes room some none owes = ⊎_elim (λ k. omega (arith, k, none)) (λ k. omega (arith, k, owes)) (takes_some here rest before after a h.kept h.are_bytes p room some)
 
 -- the block is over
 module _ {t : ℕ} {m : Driver} {bytes : List ℕ} {here : Driver} {rest : List ℕ} (h : Here t m bytes here rest) (none : rest ≡ []) where
@@ -106,6 +122,16 @@ module _ {t : ℕ} {m : Driver} {bytes : List ℕ} {here : Driver} {rest : List 
   falls first some y =
       ⊎_elim (λ e. absurd (true≢false (sym e ∙ y))) (λ k. omega (arith, k, some, ap length none, never_passed m first, never_passed here h.kept)) h.nearer
 
+-- the calls that the end has at most: fewer than four million
+abbrev pub calls_left : Driver → ℕ
+calls_left m = cond m.ended 0 (1 + owing m)
+
+pub few_calls : (m : Driver) → Kept m → calls_left m < 4000000
+few_calls m h =
+    let slots = h.within.slots in
+    let owed : owing m ≤ m.owed + (most_lines + 1) = cases (λ (n : ℕ). m.owed + n ≤ m.owed + (most_lines + 1)) (eqb m.count 0) (λ _. omega arith) (λ _. omega arith) in
+    cases (λ (n : ℕ). n < 4000000) m.ended (λ _. omega arith) (λ _. omega (arith, owed, slots))
+
 -- AT THE END: what the driver writes of the end is left
 module _ {t : ℕ} {here : Driver} {after : List ℕ} {a : Driven} (before : List ℕ) (kept : Kept here) (c : Closes mbox t (all_of here []) []) (p : FinishPromise here before a after) where
   pub left_after : Closes mbox t (take a.written after ++ all_of a.next []) []
@@ -118,7 +144,7 @@ module _ {t : ℕ} {here : Driver} {after : List ℕ} {a : Driven} (before : Lis
   last_fails t' w = standing.fails_showing mbox t t' false (take a.written after) (all_of a.next []) [] left_after w refl
 
   -- and less of the end is left by each
-  pub less : enough ≤ length before → cond a.next.ended 0 (1 + owing a.next) < 1 + owing here
+  pub less : enough ≤ length before → calls_left a.next < 1 + owing here
   less room = go a.next.ended refl (ends_or_less here before after a kept p room)
     where
       go : (e : Bool) → a.next.ended ≡ e → (a.next.ended ≡ true) ⊎ (owing a.next < owing here) → cond e 0 (1 + owing a.next) < 1 + owing here

@@ -14,6 +14,9 @@ ghost use Rattle.mbox.specs.Program.{mbox};
 use driver::Driver;
 use shell::{Failure, Filter, Step, System};
 
+// More calls than the end has: with nine places each pays a slot that is owed, or ends the last line or the recording.
+const CALLS: u32 = 4_000_000;
+
 // How far the events are driven.
 #[derive(Clone, Copy, Drop)]
 struct Driving {
@@ -37,8 +40,8 @@ impl Filter for Driving {
 
     ghost room_grows = { λ n m fewer. le_refl enough };
 
-    // A call may stop for room, and is followed by another until all of the bytes are taken and no slot is owed. With nine places each takes a byte or a slot.
-    // Nothing is read once the recording has ended.
+    // A call may stop for room, and is followed by another until all of the bytes are taken and no slot is owed. With nine places each takes a byte or a slot,
+    // where the driver came of a fresh one; one that takes neither is not made again. Nothing is read once the recording has ended.
     fn feed(
         self,
         system: &mut System,
@@ -49,6 +52,9 @@ impl Filter for Driving {
         let mut rest = bytes;
         while !rest.is_empty() || here.owed != 0 {
             let driven = here.feed(rest, out);
+            if driven.taken == 0 && driven.next.owed >= here.owed {
+                return Err(Failure);
+            }
             system.show(b"mbox: standard output", &out[..driven.written])?;
             rest = &rest[driven.taken..];
             here = driven.next;
@@ -64,12 +70,15 @@ impl Filter for Driving {
     // The end of the input, which only a recording has whose reads and writes all went well; its lines too may stop for room.
     fn finish(self, system: &mut System, out: &mut [u8]) -> Result<(), Failure> {
         let mut here = self.driver;
-        while !here.ended {
+        for _ in 0..CALLS {
+            if here.ended {
+                return Ok(());
+            }
             let last = here.finish(out);
             system.show(b"mbox: standard output", &out[..last.written])?;
             here = last.next;
         }
-        Ok(())
+        Err(Failure)
     }
 }
 

@@ -1,13 +1,16 @@
 -- Lines in a slice, one behind the other, and how long they are.
 use Prim.Native.Nat.{ℕ, suc, ◌+◌, ◌*◌, ◌^◌, ◌<◌, ◌≤◌}
-use mathlib.Core.Path.{◌≡◌, refl, sym, ◌∙◌, ap}
+use mathlib.Core.Path.{◌≡◌, refl, sym, ◌∙◌, ap, subst}
 use mathlib.Core.List.{List, [], ◌∷◌, ◌++◌, append_assoc}
 use native.Mathlib.Omega.{arith}
 use native.Mathlib.Numerals.{add-one}
 use lib.IntN.{pos}
-use lib.ListN.{length, take, drop, get_or, length-append, length-drop, drop_of_length-le}
+use lib.Dec.{leb}
+use lib.ListN.{length, length-set, take, drop, get_or, length-append, length-drop, drop_of_length-le}
 use lib.Seq.{drop-cons, take_at, length-take-le}
-use Rattle.text.specs.Growth.{slice, filled_by}
+use borrow.Author.Tests.{leb-false}
+use Rattle.numbers.proofs.Choices.{cases}
+use Rattle.text.specs.Growth.{slice, filled, filled_by}
 use Rattle.text.specs.Decimals.{plain, decimal_of, places_of}
 use Rattle.text.specs.declared.Text.{Text}
 use Rattle.text.proofs.Filled.{both_filled, filled_all}
@@ -24,6 +27,21 @@ module _ (t u all : Text) (bytes : List ℕ) (i : ℕ) (h : i < length bytes) wh
 pub lines_all : (t all : Text) (bytes : List ℕ) (i : ℕ) → length bytes ≤ i → filled_by t (byte_lines (drop i bytes)) ≡ all → t ≡ all
 unfolding byte_lines
 lines_all t all bytes i h f = rw (drop_of_length-le bytes h) at f
+
+-- a text that may have no room: no more places are taken than there are
+inside : Text → Type 0
+inside t = t.len ≤ length t.bytes
+
+stays_inside : (l : List ℕ) (t : Text) → inside t → inside (filled_by t l)
+unfolding inside filled
+stays_inside [] t h = h
+stays_inside (b ∷ l) t h =
+    stays_inside l (filled t b)
+    (cases inside (leb (length t.bytes) t.len) (λ _. h) (λ e. omega (arith, leb-false (length t.bytes) t.len e, length-set t.bytes t.len b)))
+
+pub within : (before after l : List ℕ) (at used : ℕ) → at ≤ length before → slice after used ≡ filled_by (slice before at) l → used ≤ length after
+unfolding inside
+within before after l at used h e = subst inside (sym e) (stays_inside l (slice before at) h)
 
 -- a text that has room stands behind what was there
 module _ (before after l : List ℕ) (at used : ℕ) (h : at + length l ≤ length before) (e : slice after used ≡ filled_by (slice before at) l) where

@@ -23,7 +23,7 @@ use Rattle.mbridge.specs.Blocks.{most, Puts, Takes, rest_of, Ready, Midway}
 use Rattle.mbridge.specs.declared.Bridging.{Bridging}
 use Rattle.mbridge.specs.declared.Put.{Put}
 use Rattle.mbridge.specs.declared.Taken.{Taken}
-use Rattle.mbridge.proofs.Filling.{put_behind, used_is, same_long}
+use Rattle.mbridge.proofs.Filling.{put_behind, used_is, same_long, within}
 use Rattle.mbridge.proofs.Words.{byte_small, closed_small, end_small, found_few, found_good}
 
 -- where nothing was found no line is written
@@ -54,6 +54,13 @@ module _ (s : Bridging) (e : s.scanner ≡ unfed) (f : s.bridge ≡ waiting) whe
 
   pub is_ready : Ready s
   is_ready = record { sound = rw f (fresh_is_good (letter_of FiveByte) (fresh_of (letter_of FiveByte)) refl); within = rw e (omega arith, omega arith) }
+
+-- a byte, with room or not: a good bridge stays good, and no more places are taken than there are
+pub stays_good : (s : Bridging) (c : ℕ) (before : List ℕ) (at : ℕ) (r : Taken) (after : List ℕ) → good s.bridge ≡ true → Takes s c before at r after → good r.next.bridge ≡ true
+stays_good s c before at r after g k = rw k.next (found_good s.bridge (scanned_byte s.scanner c).found g)
+
+pub stays_within : (s : Bridging) (c : ℕ) (before : List ℕ) (at : ℕ) (r : Taken) (after : List ℕ) → at ≤ length before → Takes s c before at r after → r.used ≤ length after
+stays_within s c before at r after h k = within before after (lines_for s.bridge (scanned_byte s.scanner c).found) at r.used h k.lines
 
 -- a byte, with room for what is found at it
 module _ (t : ℕ) (s : Bridging) (c : ℕ) (before : List ℕ) (at : ℕ) (r : Taken) (after left : List ℕ) (g : good s.bridge ≡ true) (room : at + most ≤ length before)
@@ -106,6 +113,11 @@ pub falls : (before s : Bridging) (n : ℕ) → Within before.scanner → 0 < n 
 falls before s n w some far y =
     ⊎_elim (λ e. absurd (true≢false (sym e ∙ y))) (λ k. (omega (arith, k.0, some, never_passed before.scanner w, never_passed s.scanner k.1), k.1)) far
 
+-- the last line, and the end, with room or not: no more places are taken than there are
+pub lasts_within : (b b' : Bridge) (f f' : Found) (put all : Put) (out mid after : List ℕ) → Puts b f out 0 put mid → Puts b' f' mid put.used all after → all.used ≤ length after
+lasts_within b b' f f' put all out mid after p q =
+    within mid after (lines_for b' f') put.used all.used (within out mid (lines_for b f) 0 put.used (omega arith) p.lines) q.lines
+
 -- the last line, and the end
 module _ (s : Bridging) (closed end : Scan) (put all : Put) (out mid after : List ℕ) (g : good s.bridge ≡ true) (room : 2 * most ≤ length out)
     (is : closed ≡ closed_of s.scanner) (then : end ≡ end_of closed.next)
@@ -125,11 +137,6 @@ module _ (s : Bridging) (closed end : Scan) (put all : Put) (out mid after : Lis
   fits_then : put.used + length (lines_for put.next end.found) ≤ length mid
   fits_then =
       omega (arith, first, then_few, used_is out mid (lines_for s.bridge closed.found) 0 put.used fits_first p.lines, same_long out mid (lines_for s.bridge closed.found) 0 put.used fits_first p.lines)
-
-  pub last_fits : all.used ≤ length after
-  last_fits =
-      let l = lines_for put.next end.found in
-      omega (arith, fits_then, used_is mid after l put.used all.used fits_then q.lines, same_long mid after l put.used all.used fits_then q.lines)
 
   text : take all.used after ≡ rest_of s []
   unfolding all_found lines_from

@@ -145,13 +145,17 @@ impl Filter for Bridging {
 
     ghost room_grows = { λ n m fewer. le_refl (2 * most) };
 
-    // The bytes of a read, one by one: what has been put is shown before a byte that might have no room, and at the end.
+    // The bytes of a read, one by one: what has been put is shown before a byte that might have no room, and at the end. The bridge is good, as a fresh one
+    // is and every one that comes of it; with any other nothing is done.
     fn feed(
         self,
         system: &mut System,
         bytes: &[u8],
         out: &mut [u8],
     ) -> Result<Step<Bridging>, Failure> {
+        if !self.bridge.good() {
+            return Err(Failure);
+        }
         let mut here = self;
         let mut used = 0;
         for b in bytes {
@@ -174,6 +178,9 @@ impl Filter for Bridging {
 
     // The last line, which may lack its newline, and the end.
     fn finish(self, system: &mut System, out: &mut [u8]) -> Result<(), Failure> {
+        if !self.bridge.good() {
+            return Err(Failure);
+        }
         let closed = self.scanner.closed();
         let put = found(out, 0, self.bridge, closed.found);
         let end = closed.next.end();

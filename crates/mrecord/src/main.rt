@@ -71,9 +71,9 @@ impl Teller for Tape {
         line_end
     }
 
-    // No more than lines are left, so that none is read that finds no line.
-    fn wants(&self, room: usize) -> usize {
-        room.min(self.left as usize)
+    // No more than have room for their lines, and no more than lines are left, so that none is read that finds no line.
+    fn wants(&self, input: usize, out: usize) -> usize {
+        input.min(out / 9).min(self.left as usize)
     }
 
     fn noted(&self, last: i64, now: i64) -> i64 {

@@ -194,9 +194,9 @@ impl Teller for Look {
         }
     }
 
-    // It goes on until the line is gone.
-    fn wants(&self, room: usize) -> usize {
-        room
+    // It goes on until the line is gone. No more are read than have room for what they tell.
+    fn wants(&self, input: usize, out: usize) -> usize {
+        input.min(out / 144)
     }
 
     // Nothing is noted.

@@ -1,9 +1,12 @@
 // Programs that write, read by read, what they make of their input.
-ghost use Rattle.std.specs.Prelude.{ℕ, ◌≡◌, ◌≤◌, ◌<◌, List, [], ◌++◌, length, is_ok};
-ghost use Rattle.shell.specs.Standing.{Program, Stands, Closes, Ends, silent};
-ghost use Rattle.shell.specs.Filters.{Leaves, Closed};
+ghost use Rattle.std.specs.Prelude.{ℕ, ◌≤◌, ◌<◌, List, length, is_ok};
+ghost use Rattle.shell.specs.Standing.{Program, Ends};
+ghost use Rattle.shell.specs.Filters.{Called, Fed, Last, Leaves, Closed};
 
 use crate::{Failure, System};
+
+// More reads than any of the programs makes.
+const READS: u64 = 1_000_000_000_000_000;
 
 // Where a program stands between reads: more is to be read, or nothing more.
 #[derive(Clone, Copy, Drop)]
@@ -33,17 +36,11 @@ pub trait Filter: Drop {
 
     // What a read brought, and what is made of it to standard output.
     fn feed(self, system: &mut System, bytes: &[u8], out: &mut [u8]) -> Result<Step<Self>, Failure>
-        requires reads { reads self }
-        requires room { (0 < length bytes.now) × (room (length bytes.now) ≤ length out.old) }
-        requires stands { Stands program system.old.turn (λ q. rest self (bytes.now ++ q)) silent }
-        ensures { Leaves program rest reads ends left system.new.turn self result };
+        ensures { Fed program rest reads room bytes.now (length out.old) system.old.turn self → Leaves program rest reads ends left system.new.turn self result };
 
     // What is left to be written at the end.
     fn finish(self, system: &mut System, out: &mut [u8]) -> Result<(), Failure>
-        requires ends { ends self }
-        requires room { room 1 ≤ length out.old }
-        requires closes { Closes program system.old.turn (rest self []) [] }
-        ensures { Ends program system.new.turn (is_ok result) };
+        ensures { Last program rest ends room (length out.old) system.old.turn self → Ends program system.new.turn (is_ok result) };
 
     // the input may end between any two reads
     ghost may_end: { (s : Self) → reads s → ends s };
@@ -60,11 +57,7 @@ fn block<F: Filter>(
     input: &mut [u8],
     out: &mut [u8],
 ) -> Result<Step<F>, Failure>
-    requires named { name.now ≡ F.program.input }
-    requires reads { F.reads filter }
-    requires room { (0 < length input.old) × (F.room (length input.old) ≤ length out.old) }
-    requires stands { Stands F.program system.old.turn (F.rest filter) silent }
-    ensures { Leaves F.program F.rest F.reads F.ends F.left system.new.turn filter result }
+    ensures { Called F.program F.rest F.reads F.left F.room name.now (length input.old) (length out.old) system.old.turn filter → Leaves F.program F.rest F.reads F.ends F.left system.new.turn filter result }
 {
     match system.more(name, input)? {
         0 => Ok(Step::Over(filter)),
@@ -80,22 +73,19 @@ fn blocks<F: Filter>(
     input: &mut [u8],
     out: &mut [u8],
 ) -> Result<F, Failure>
-    requires named { name.now ≡ F.program.input }
-    requires reads { F.reads filter }
-    requires room { (0 < length input.old) × (F.room (length input.old) ≤ length out.old) }
-    requires stands { Stands F.program system.old.turn (F.rest filter) silent }
-    ensures { Closed F.program F.rest F.ends system.new.turn result }
+    ensures { Called F.program F.rest F.reads F.left F.room name.now (length input.old) (length out.old) system.old.turn filter → Closed F.program F.rest F.ends system.new.turn result }
 {
     let mut here = filter;
-    loop {
+    for _ in 0..READS {
         match block(here, system, name, input, out)? {
             Step::More(next) => here = next,
             Step::Over(last) => return Ok(last),
         }
     }
+    Err(Failure)
 }
 
-// WHAT IS HANDED OUT IS WHAT THE PROGRAM IS TO WRITE OF ITS INPUT: nothing is read once the filter wants no more.
+// WHAT IS HANDED OUT IS WHAT THE PROGRAM IS TO WRITE OF ITS INPUT, where it is called as the program (`Called`): nothing is read once the filter wants no more.
 pub fn run<F: Filter>(
     filter: F,
     system: &mut System,
@@ -103,11 +93,7 @@ pub fn run<F: Filter>(
     input: &mut [u8],
     out: &mut [u8],
 ) -> Result<(), Failure>
-    requires named { name.now ≡ F.program.input }
-    requires reads { F.reads filter }
-    requires room { (0 < length input.old) × (F.room (length input.old) ≤ length out.old) }
-    requires stands { Stands F.program system.old.turn (F.rest filter) silent }
-    ensures { Ends F.program system.new.turn (is_ok result) }
+    ensures { Called F.program F.rest F.reads F.left F.room name.now (length input.old) (length out.old) system.old.turn filter → Ends F.program system.new.turn (is_ok result) }
 {
     blocks(filter, system, name, input, out)?.finish(system, out)
 }

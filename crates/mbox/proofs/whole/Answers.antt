@@ -1,10 +1,17 @@
 -- It begins at the first byte.
+use Rattle.std.proofs.Common.{refl, arith}
 use Rattle.driver.proofs.Kept.{fresh_kept}
 use Rattle.mbox.proofs.Turns.{begins}
 use Rattle.mbox.proofs.whole.Goals as goal
 
-pub run-requires-clause-reads : goal.run-requires-clause-reads
-run-requires-clause-reads c = rw c.fresh.ensures fresh_kept
-
-pub run-requires-clause-stands : goal.run-requires-clause-stands
-run-requires-clause-stands c = begins c.args.system.now.turn c.requires.trace c.fresh.result c.fresh.ensures
+pub returns : goal.returns
+returns c =
+    c.run.ensures
+    (record {
+      named = refl;
+      ready = rw c.fresh.ensures fresh_kept;
+      few = omega arith;
+      some = c.requires.enough_in_bounds.1;
+      fits = c.requires.enough_in_bounds.0;
+      stands = begins c.args.system.now.turn c.requires.trace c.fresh.result c.fresh.ensures;
+    })

@@ -29,11 +29,12 @@ returns-in_err-show c =
     let m = c.args.self.lister in
     let bytes = c.args.bytes.now in
     let feed = c.feed-listed in
-    let told = goes m bytes c.args.out.now feed.new.out (listed_in feed.result) c.requires.reads c.requires.room.1 feed.ensures in
+    λ k.
+    let told = goes m bytes c.args.out.now feed.new.out (listed_in feed.result) k.ready k.fits feed.ensures in
     let p = err_from_is_err_and c.from_residual.result c.from_residual.ensures.1 in
     rw p.1
     (standing.fails_writing mlist c.args.system.now.turn c.show.new.self.turn false (take feed.result.written feed.new.out) _ (all_of feed.result.next) silent
-    c.requires.stands told c.in_err-show.ensures.handed refl)
+    k.stands told c.in_err-show.ensures.handed refl)
 
 pub returns-then-listed : goal.returns-then-listed
 returns-then-listed c =
@@ -41,13 +42,14 @@ returns-then-listed c =
     let bytes = c.args.bytes.now in
     let out = c.args.out.now in
     let feed = c.feed-listed in
+    λ k.
     let a = listed_in feed.result in
-    let told = goes m bytes out feed.new.out a c.requires.reads c.requires.room.1 feed.ensures in
+    let told = goes m bytes out feed.new.out a k.ready k.fits feed.ensures in
     let stands = standing.writes mlist c.args.system.now.turn c.show.new.self.turn true (take a.written feed.new.out) _ (all_of a.next) silent
-    c.requires.stands told c.in_ok-show.ensures.handed refl in
+    k.stands told c.in_ok-show.ensures.handed refl in
     record {
-      whole = next_good m bytes out feed.new.out a c.requires.reads feed.ensures;
-      closes = closes m bytes out feed.new.out a c.requires.reads c.requires.room.1 feed.ensures c.show.new.self.turn c.if-listed.true stands;
+      whole = next_good m bytes out feed.new.out a k.ready feed.ensures;
+      closes = closes m bytes out feed.new.out a k.ready k.fits feed.ensures c.show.new.self.turn c.if-listed.true stands;
     }
 
 pub returns-else-listed : goal.returns-else-listed
@@ -56,12 +58,13 @@ returns-else-listed c =
     let bytes = c.args.bytes.now in
     let out = c.args.out.now in
     let feed = c.feed-listed in
+    λ k.
     let a = listed_in feed.result in
-    let told = goes m bytes out feed.new.out a c.requires.reads c.requires.room.1 feed.ensures in
+    let told = goes m bytes out feed.new.out a k.ready k.fits feed.ensures in
     let stands = standing.writes mlist c.args.system.now.turn c.show.new.self.turn true (take a.written feed.new.out) _ (all_of a.next) silent
-    c.requires.stands told c.in_ok-show.ensures.handed refl in
+    k.stands told c.in_ok-show.ensures.handed refl in
     record {
-      ready = next_good m bytes out feed.new.out a c.requires.reads feed.ensures;
+      ready = next_good m bytes out feed.new.out a k.ready feed.ensures;
       stands = stands;
-      nearer = falls m bytes out feed.new.out a c.requires.reads c.requires.room.1 feed.ensures c.requires.room.0 c.if-listed.false;
+      nearer = falls m bytes out feed.new.out a k.ready k.fits feed.ensures k.some c.if-listed.false;
     }

@@ -28,6 +28,7 @@ returns c =
     let m = c.args.self.lister in
     let t = c.args.system.now.turn in
     let t' = c.show.new.self.turn in
-    let room : enough ≤ length c.args.out.now = omega (arith, c.requires.room) in
-    let text = last_text m c.args.out.now finish.new.out (listed_in finish.result) c.requires.ends room finish.ensures in
-    standing.last mlist t t' (is_ok c.show.result) (all_of m []) c.requires.closes (subst (Handed mlist.output t t' (is_ok c.show.result)) text c.show.ensures.handed)
+    λ l.
+    let room : enough ≤ length c.args.out.now = omega (arith, l.fits) in
+    let text = last_text m c.args.out.now finish.new.out (listed_in finish.result) l.whole room finish.ensures in
+    standing.last mlist t t' (is_ok c.show.result) (all_of m []) l.closes (subst (Handed mlist.output t t' (is_ok c.show.result)) text c.show.ensures.handed)

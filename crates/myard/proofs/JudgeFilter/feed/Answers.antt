@@ -7,7 +7,7 @@ returns-then-over c =
     let j = c.args.self in
     let bytes = c.args.bytes.now in
     let over = rw c.bytes-next.ensures at c.if-over.true in
-    rw c.bytes-next.ensures (record { whole = tt; closes = closes c.args.system.now.turn j bytes c.requires.reads c.requires.stands over })
+    λ k. rw c.bytes-next.ensures (record { whole = tt; closes = closes c.args.system.now.turn j bytes k.ready k.stands over })
 
 pub returns-else-over : goal.returns-else-over
 returns-else-over c =
@@ -15,9 +15,10 @@ returns-else-over c =
     let j = c.args.self in
     let bytes = c.args.bytes.now in
     let more = rw c.bytes-next.ensures at c.if-over.false in
+    λ k.
     rw c.bytes-next.ensures
     (record {
-      ready = (on t j bytes c.requires.reads c.requires.stands more).1;
-      stands = stands t j bytes c.requires.reads c.requires.stands;
-      nearer = falls t j bytes c.requires.reads c.requires.stands c.requires.room.0 more;
+      ready = (on t j bytes k.ready k.stands more).1;
+      stands = stands t j bytes k.ready k.stands;
+      nearer = falls t j bytes k.ready k.stands k.some more;
     })

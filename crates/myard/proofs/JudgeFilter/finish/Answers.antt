@@ -14,5 +14,6 @@ returns c =
     let last = c.last in
     let line = c.line_for-text in
     let said = line_said c.args.self last.result line.result last.ensures line.ensures in
+    λ l.
     standing.last myard c.args.system.now.turn c.show.new.self.turn (is_ok c.show.result) (take line.result.len line.result.bytes)
-    (subst (λ (l : List ℕ). Closes myard c.args.system.now.turn l []) (sym said) c.requires.closes) c.show.ensures.handed
+    (subst (λ (text : List ℕ). Closes myard c.args.system.now.turn text []) (sym said) l.closes) c.show.ensures.handed

@@ -11,5 +11,6 @@ returns-in_err-n g c =
     let t = c.args.system.now.turn in
     let t' = c.more.new.self.turn in
     let p = err_from_is_err_and c.from_residual.result c.from_residual.ensures.1 in
-    let missed = subst (λ (name : List ℕ). Misses name t t') c.requires.named c.in_err-n.ensures.brought in
-    rw p.1 (standing.misses g.F.Filter.program t t' (g.F.Filter.rest c.args.filter) silent c.requires.stands missed)
+    λ k.
+    let missed = subst (λ (name : List ℕ). Misses name t t') k.named c.in_err-n.ensures.brought in
+    rw p.1 (standing.misses g.F.Filter.program t t' (g.F.Filter.rest c.args.filter) silent k.stands missed)
