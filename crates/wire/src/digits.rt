@@ -7,7 +7,7 @@ ghost use Rattle.wire.specs.Digits.{is_digit, digit, undigit};
 pub(crate) fn is_digit(b: u8) -> bool
     ensures { result ≡ is_digit b }
 {
-    matches!(b, b'0'..=b'9' | b'A'..=b'F')
+    ((b'0' <= b) & (b <= b'9')) | ((b'A' <= b) & (b <= b'F'))
 }
 
 // The digit of a number below 16.
