@@ -1,6 +1,6 @@
 -- Demand 1: "Every public entry takes every event, line word, state and buffer and ends with an answer. A refusal has a number from the list, hands
 -- back the old state and writes nothing; a reader given many words does all before the bad one and stops there."
-use Rattle.std.specs.Prelude.{ℕ, ◌+◌, ◌<◌, ◌≤◌, ◌≡◌, refl, Bool, true, false, List, [], ◌∷◌, ◌++◌, ◌⊎◌, length, get_or, take, ℤ, None, Err, Option}
+use Rattle.std.specs.Prelude.{ℕ, ◌+◌, ◌<◌, ◌≤◌, ◌≡◌, refl, Bool, true, false, List, [], ◌∷◌, ◌++◌, ◌⊎◌, length, get_or, take, ℤ, None, Result, Err, Option}
 use mathlib.Core.List.Memᴰ.{head as here}
 use Rattle.frames.specs.Words.{silence, line_words}
 use Rattle.wire.specs.Line.{known, letter_of, marked_by, named_by, size_of}
@@ -14,18 +14,17 @@ use Rattle.wire.specs.Promises.{KnownPromise, SizePromise, MarkedPromise, FitsPr
 use Rattle.wire.specs.declared.Format.{Format}
 use Rattle.wire.specs.declared.Format.TheVariants.{FiveByte}
 use Rattle.wire.specs.declared.Report.{Report}
-use Rattle.wire.specs.Refusals as numbered
 use Rattle.wire.specs.declared.refusal.Refusal.{Refusal}
 use Rattle.wire.specs.declared.refusal.Refusal.TheVariants.{NoSuchLetter, ButtonsAboveSeven, BufferTooShort}
 use Rattle.wire.proofs.Answers as wire
 use Rattle.wire.proofs.Refusals as wire_refusals
-use Rattle.reader.specs.State.{fresh, NewReader, Read}
+use Rattle.reader.specs.State.{fresh, NewReader, Read, new_in, read_in}
 use Rattle.reader.specs.Good as readers
 use Rattle.reader.specs.Rules.{refusing}
 use Rattle.fold.specs.Calls.{stopped, with_refusal}
-use Rattle.reader.specs.Line.{Reading, Long, whole, reads_line}
+use Rattle.reader.specs.Line.{Reading, Long, whole, reads_line, reading_in}
 use Rattle.reader.specs.Promises as reader
-use Rattle.reader.specs.Telling.{Answers, Told, told, tells_line}
+use Rattle.reader.specs.Telling.{Answers, Told, told, tells_line, answers_by}
 use Rattle.reader.specs.Promises.{ReadPromise, AnswersPromise, before_bad, told_before_bad, new_reader}
 use Rattle.reader.specs.declared.Reader.{Reader}
 use Rattle.reader.proofs.Permitted as permitted
@@ -116,6 +115,16 @@ One {A} Permitted = (a b : A) → Permitted a → Permitted b → a ≡ b
 abbrev pub OneWith : {A S : Type 0} → (A → S → Type 0) → Type 0
 OneWith {A} {S} Permitted = (a b : A) (after behind : S) → Permitted a after → Permitted b behind → (a ≡ b) × (after ≡ behind)
 
+-- Some promises speak of a record, which the contract reads of what the function gives. It tells what is given apart, so that is one as well.
+pub one_by : {A R : Type 0} (told : A → R) {Permitted : R → Type 0} → ((a b : A) → told a ≡ told b → a ≡ b) → One Permitted → One (λ a. Permitted (told a))
+one_by told apart one a b p q = apart a b (one (told a) (told b) p q)
+
+pub one_with_by : {A R S : Type 0} (told : A → R) {Permitted : R → S → Type 0}
+    → ((a b : A) → told a ≡ told b → a ≡ b)
+    → OneWith Permitted
+    → OneWith (λ a. Permitted (told a))
+one_with_by told apart one a b after behind p q = let e = one (told a) (told b) after behind p q in (apart a b e.0, e.1)
+
 -- `wire::known`, `size`, `marked`, `fits`, `report_of`, `encode`, `number_in`, `length_in`, `Refusal::number`
 pub known_one : (letter : ℕ) → One (KnownPromise letter)
 known_one letter a b = wire.one_known letter
@@ -135,10 +144,10 @@ report_one letter bytes a b = wire.one_report letter bytes
 pub encode_one : (letter : ℕ) (r : Report) (before : List ℕ) → OneWith (EncodePromise letter r before)
 encode_one letter r before a b after behind = wire.one_encoding letter r before
 
-pub refusal_one : (encoded : Encoded) → One (RefusalPromise encoded)
-refusal_one encoded a b = wire.one_refusal encoded
+pub refusal_one : {A : Type 0} (given : Result A Refusal) → One (RefusalPromise given)
+refusal_one given a b = wire.one_refusal given
 
-pub refusal_number_one : (r : Refusal) → One (numbered.NumberPromise r)
+pub refusal_number_one : (r : Refusal) → One (encoder.NumberPromise r)
 refusal_number_one r a b = wire.one_number r
 
 pub length_one : (encoded : Encoded) → One (LengthPromise encoded)
@@ -159,6 +168,19 @@ read_line_one = permitted.one_read
 
 pub answers_one : (r : Reader) (words : List ℕ) (out : List ℤ) → OneWith (AnswersPromise r words out)
 answers_one = permitted.one_answers
+
+-- and of what they give
+pub fresh_reader_given_one : (letter : ℕ) → One (λ n. reader.FreshPromise letter (new_in n))
+fresh_reader_given_one letter = one_by new_in permitted.new_apart (fresh_reader_one letter)
+
+pub read_word_given_one : (r : Reader) (w : ℕ) → One (λ s. reader.StepPromise r w (read_in r s))
+read_word_given_one r w = one_by (read_in r) (permitted.read_apart r) (read_word_one r w)
+
+pub read_line_given_one : (r : Reader) (words : List ℕ) (out : List ℤ) → OneWith (λ a. ReadPromise r words out (reading_in a))
+read_line_given_one r words out = one_with_by reading_in permitted.reading_apart (read_line_one r words out)
+
+pub answers_given_one : (r : Reader) (words : List ℕ) (out : List ℤ) → OneWith (λ a. AnswersPromise r words out (answers_by a))
+answers_given_one r words out = one_with_by answers_by permitted.answers_apart (answers_one r words out)
 
 -- `Port::fresh`, `clearing`, `byte`, `quiet`, `lost`, `bytes`
 pub fresh_port_one : (silence : ℕ) → One (port.FreshPromise silence)
@@ -211,6 +233,12 @@ feed_one m input before a b after behind = listing.one_feed m input before
 
 pub finish_one : (m : Lister) (before : List ℕ) → OneWith (FinishPromise m before)
 finish_one m before a b after behind = listing.one_finish m before
+
+pub feed_given_one : (m : Lister) (input before : List ℕ) → OneWith (λ a. FeedPromise m input before (lister.listed_in a))
+feed_given_one m input before = one_with_by lister.listed_in listing.listed_apart (feed_one m input before)
+
+pub finish_given_one : (m : Lister) (before : List ℕ) → OneWith (λ a. FinishPromise m before (lister.listed_in a))
+finish_given_one m before = one_with_by lister.listed_in listing.listed_apart (finish_one m before)
 
 -- `Text::none`, `with`, `decimal`, `put`, `byte_to`, `bytes_to`, `decimal_to`, and `number`
 pub no_text_one : One NonePromise
@@ -567,6 +595,12 @@ good_bridge_one = bridge_answers.one_good
 pub convert_one : (b : Bridge) (words before : List ℕ) → OneWith (bridge.ConvertPromise b words before)
 convert_one = bridge_answers.one_convert
 
+pub fresh_bridge_given_one : (letter : ℕ) → One (λ n. bridge.FreshPromise letter (bridge.new_in n))
+fresh_bridge_given_one letter = one_by bridge.new_in bridge_answers.new_apart (fresh_bridge_one letter)
+
+pub convert_given_one : (b : Bridge) (words before : List ℕ) → OneWith (λ a. bridge.ConvertPromise b words before (bridge_line.converted_in a))
+convert_given_one b words before = one_with_by bridge_line.converted_in bridge_answers.converted_apart (convert_one b words before)
+
 -- its refusals: 1, with a bridge of U; 6, with the bridge and the slice as they were and counts of 0; and 4, with all as the words before the bad one leave it
 pub fresh_bridge_refusals : (letter : ℕ) (a : NewBridge) → bridge.FreshPromise letter a → bridge.FreshRefusal a
 fresh_bridge_refusals = bridge_refusals.fresh_refusals
@@ -735,6 +769,12 @@ drive_one m input before a b after behind = driver_answers.one_feed m input befo
 
 pub drive_finish_one : (m : Driver) (before : List ℕ) → OneWith (driver.FinishPromise m before)
 drive_finish_one m before a b after behind = driver_answers.one_finish m before
+
+pub drive_given_one : (m : Driver) (input before : List ℕ) → OneWith (λ a. driver.FeedPromise m input before (driver.driven_in a))
+drive_given_one m input before = one_with_by driver.driven_in driver_answers.driven_apart (drive_one m input before)
+
+pub drive_finish_given_one : (m : Driver) (before : List ℕ) → OneWith (λ a. driver.FinishPromise m before (driver.driven_in a))
+drive_finish_given_one m before = one_with_by driver.driven_in driver_answers.driven_apart (drive_finish_one m before)
 
 pub drive_bad_state : (m : Driver) (input before after : List ℕ) (a : Driven)
     → drivers.good m ≡ false

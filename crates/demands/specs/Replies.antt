@@ -30,11 +30,11 @@ use Rattle.history.proofs.Setting.{set_to}
 use Rattle.replies.specs.Replying.{came, none, is_none, size_of, letter_of_code}
 use Rattle.replies.specs.Accepted.{seven_bytes, seven_letters, mode_letters}
 use Rattle.replies.specs.Good.{good}
-use Rattle.replies.specs.Rules.{Heard, kind_of, refusing}
+use Rattle.replies.specs.Rules.{Heard, kind_of, refusing, heard_in}
 use Rattle.fold.specs.Calls.{stopped, unused, as_one, with_refusal, after}
-use Rattle.replies.specs.Line.{HeardLine, Long, whole, hears_line, Bounds}
+use Rattle.replies.specs.Line.{HeardLine, Long, whole, hears_line, Bounds, heard_line_in}
 use Rattle.replies.specs.Counts.{whole_bytes, broken_bytes}
-use Rattle.replies.specs.Promises.{Telling, NewToldReader, FreshPromise, GoodPromise, TellPromise, StepPromise, ReadPromise, no_reply, telling_of, before_bad}
+use Rattle.replies.specs.Promises.{Telling, NewToldReader, FreshPromise, GoodPromise, TellPromise, StepPromise, ReadPromise, no_reply, telling_of, before_bad, new_in, telling_in}
 use Rattle.tellings.specs.Items.{Item, telling, as_items, words_in, Done, ItemsPromise}
 use Rattle.tellings.specs.Clear.{Clear}
 use Rattle.tellings.specs.Lines.{line_items, part_items, replies_sent, HandsOutAt, HandsOut, TellsReplies, InReport, ReadsReply}
@@ -55,7 +55,7 @@ use Rattle.tellings.proofs.Passed.{IsReply}
 use Rattle.tellings.proofs.Damaged as damaged
 use Rattle.tellings.proofs.Answering.{with_replies}
 use Rattle.tellings.proofs.Runs.{run_items}
-use Rattle.demands.specs.Demand1.{One, OneWith}
+use Rattle.demands.specs.Demand1.{One, OneWith, one_by, one_with_by}
 use Rattle.demands.specs.Demand3 as narrow
 use Rattle.demands.specs.Demand3.{Front, sent, still_going}
 
@@ -74,6 +74,19 @@ step_one = permitted.one_step
 
 pub read_one : (s : ToldReader) (words : List ℕ) (out : List ℤ) → OneWith (ReadPromise s words out)
 read_one = permitted.one_read
+
+-- and of what they give
+pub fresh_given_one : (letter : ℕ) → One (λ n. FreshPromise letter (new_in n))
+fresh_given_one letter = one_by new_in permitted.new_apart (fresh_one letter)
+
+pub tell_given_one : (s : ToldReader) (asked : Asked) → One (λ t. TellPromise s asked (telling_in s t))
+tell_given_one s asked = one_by (telling_in s) (permitted.telling_apart s) (tell_one s asked)
+
+pub step_given_one : (s : ToldReader) (w : ℕ) → One (λ h. StepPromise s w (heard_in s h))
+step_given_one s w = one_by (heard_in s) (permitted.heard_apart s) (step_one s w)
+
+pub read_given_one : (s : ToldReader) (words : List ℕ) (out : List ℤ) → OneWith (λ a. ReadPromise s words out (heard_line_in a))
+read_given_one s words out = one_with_by heard_line_in permitted.heard_line_apart (read_one s words out)
 
 -- "Refusals: 12 for a command that has no reply, tested after 6"; of words 6 and 4
 pub tell_refusals : (s : ToldReader) (asked : Asked) (t : Telling)

@@ -6,7 +6,7 @@ ghost use Rattle.std.specs.Prelude.{◌≡◌, Option};
 ghost use Rattle.hearing.specs.Called.{letter_in, small_in, tenths_in};
 ghost use Rattle.hearing.specs.Clock.{turned_of};
 
-pub use session::{Names, Session, Teller};
+pub use session::{Names, Session, TURNS, Teller};
 use text::number;
 
 mod session;

@@ -1,5 +1,5 @@
 // A port, and behind it what tells of its words: the turns in which a program hears a line.
-ghost use Rattle.std.specs.Prelude.{◌≡◌, ℕ, ◌*◌, ◌≤◌, ◌<◌, List, length};
+ghost use Rattle.std.specs.Prelude.{◌≡◌, ℕ, ◌*◌, ◌≤◌, ◌<◌, List, [], length};
 ghost use Rattle.port.specs.Sessions.{step_of};
 ghost use Rattle.shell.specs.Outside.{heard_in};
 ghost use Rattle.hearing.specs.Events.{event_of};
@@ -11,7 +11,7 @@ use port::{Heard, Port};
 use shell::{Failure, System};
 
 // More turns than a run has: each takes a tenth of a second or brings a byte.
-const TURNS: u64 = 1_000_000_000_000_000;
+pub const TURNS: u64 = 1_000_000_000_000_000;
 
 // What tells of words, one by one.
 pub trait Teller {
@@ -26,10 +26,11 @@ pub trait Teller {
     fn word(&mut self, word: u16, out: &mut [u8], at: usize) -> usize
         ensures { Step text told most self.old word out.old at self.new out.new result };
 
-    // How many bytes, of so many, a read may bring whose text is to have room in so many: none where there is no room, or no more is to be heard.
+    // How many bytes, of so many, a read may bring whose text is to have room in so many: none only where there is no room, or nothing more is to be written.
     fn wants(&self, input: usize, out: usize) -> usize
         ensures within { result ≤ input }
-        ensures room { most * result ≤ out };
+        ensures room { most * result ≤ out }
+        ensures some { result ≡ 0 → 0 < input → most ≤ out → (words : List ℕ) → text self.now words ≡ [] };
 
     // A turn at a second: what is noted of it, if anything. The second of the last note is given, and given back.
     fn noted(&self, last: i64, now: i64) -> i64;

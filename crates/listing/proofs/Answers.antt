@@ -1,10 +1,13 @@
 -- Two answers that meet a promise are equal, and so is every byte of the slice.
 use Rattle.std.proofs.Common.{Option}
 use Prim.Native.Nat.{ℕ}
-use mathlib.Core.Path.{◌≡◌, sym, ◌∙◌, ap}
+use mathlib.Core.Path.{◌≡◌, sym, ◌∙◌, ap, ap₂}
 use mathlib.Core.Bool.{Bool}
 use mathlib.Core.List.{List}
-use Rattle.listing.specs.Promises.{Listed, Whole, whole, LinePromise, FreshPromise, FeedPromise, FinishPromise, ByteScanPromise, ClosedScanPromise, EndScanPromise, ReportedPromise, ItemLinePromise, LineNumberPromise, SalvagePromise}
+use Rattle.wire.specs.declared.refusal.Refusal.{Refusal}
+use Rattle.wire.proofs.Numbered.{if_apart}
+use Rattle.listing.specs.declared.Listed as listings
+use Rattle.listing.specs.Promises.{Listed, Whole, whole, listed_in, LinePromise, FreshPromise, FeedPromise, FinishPromise, ByteScanPromise, ClosedScanPromise, EndScanPromise, ReportedPromise, ItemLinePromise, LineNumberPromise, SalvagePromise}
 use Rattle.listing.specs.declared.Scan.{Scan}
 use Rattle.listing.specs.declared.Scanner.{Scanner}
 use Rattle.text.specs.declared.Text.{Text}
@@ -51,3 +54,9 @@ one_line_number item p q = p ∙ sym q
 
 pub one_salvage : {a b : Text} → SalvagePromise a → SalvagePromise b → a ≡ b
 one_salvage p q = p ∙ sym q
+
+-- What `feed` and `finish` give is told apart by what their promises read of it: so that is one, too.
+pub listed_apart : (a b : listings.Listed) → listed_in a ≡ listed_in b → a ≡ b
+listed_apart a b e =
+    let given : Listed → Option Refusal → listings.Listed = λ t why. record { refusal = why; next = t.next; taken = t.taken; written = t.written; ended = t.ended } in
+    ap₂ given e (if_apart a.refusal b.refusal (ap (λ (t : Listed). t.refusal) e))

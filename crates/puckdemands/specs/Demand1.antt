@@ -16,9 +16,9 @@ use Rattle.puck.specs.declared.PuckStepped.{PuckStepped}
 use Rattle.puck.proofs.Answers as device_answers
 use Rattle.puck.proofs.Refusals as device_refusals
 use Rattle.puck.proofs.Goodness as device_goodness
-use Rattle.puckreader.specs.Rules.{refusing}
+use Rattle.puckreader.specs.Rules.{refusing, read_in}
 use Rattle.puckreader.specs.Good as readers
-use Rattle.puckreader.specs.Line.{PuckReading, reports_in, reads_line, whole, Bounds}
+use Rattle.puckreader.specs.Line.{PuckReading, reports_in, reads_line, whole, Bounds, reading_in}
 use Rattle.puckreader.specs.Promises as reader
 use Rattle.puckreader.specs.declared.PuckReader.{PuckReader}
 use Rattle.puckreader.specs.State.{PuckRead}
@@ -27,6 +27,7 @@ use Rattle.puckreader.proofs.Refusals as refusals
 use Rattle.puckreader.proofs.Goodness as goodness
 use Rattle.puckreader.proofs.Joining as joined
 use Rattle.puckreader.proofs.Room as room
+use Rattle.demands.specs.Demand1.{One, OneWith, one_by, one_with_by}
 use Rattle.demands.specs.Refusals.{Tests, rightly}
 
 -- `Puck::made`, `good`, `step`
@@ -53,6 +54,13 @@ pub read_line_one : (r : PuckReader) (words : List ℕ) (out : List ℤ) (a b : 
     → reader.ReadPromise r words out b y
     → (a ≡ b) × (x ≡ y)
 read_line_one = permitted.one_read
+
+-- and of what they give
+pub read_word_given_one : (r : PuckReader) (w : ℕ) → One (λ s. reader.StepPromise r w (read_in r s))
+read_word_given_one r w = one_by (read_in r) (permitted.read_apart r) (read_word_one r w)
+
+pub read_line_given_one : (r : PuckReader) (words : List ℕ) (out : List ℤ) → OneWith (λ a. reader.ReadPromise r words out (reading_in a))
+read_line_given_one r words out = one_with_by reading_in permitted.reading_apart (read_line_one r words out)
 
 -- "A refusal has a number from the list, hands back the old state and writes nothing": 6 and 3 of the device, 6 and 4 of the reader
 pub puck_refusals : (p : Puck) (e : Event) (r : PuckStepped) → puck.StepPromise p e r → puck.StepRefusal p (outcome r)

@@ -1,17 +1,23 @@
 -- "Each public operation's promise determines one answer, and every number in the lent slice after it, refused or not".
 use Prim.Native.Nat.{ℕ}
-use mathlib.Core.Path.{◌≡◌, refl, sym, ◌∙◌, ap}
+use mathlib.Core.Path.{◌≡◌, refl, sym, ◌∙◌, ap, ap₂}
 use mathlib.Core.Bool.{Bool, true, false, cond}
 use mathlib.Core.List.{List}
 use lib.ListN.{length, get_or}
 use lib.Dec.{eqb}
 use lib.IntN.{ℤ, pos, nat_abs}
+use Rattle.std.specs.Prelude.{Option, Result}
+use Rattle.wire.specs.declared.refusal.Refusal.{Refusal}
+use Rattle.wire.proofs.Numbered.{result_apart, if_apart}
 use Rattle.vsxxx.specs.SelfTests.{fatal}
 use Rattle.puckreader.specs.State.{PuckRead, numbers_of}
-use Rattle.puckreader.specs.Line.{PuckReading, Long, reading}
+use Rattle.puckreader.specs.Rules.{read_in}
+use Rattle.puckreader.specs.Line.{PuckReading, Long, reading, reading_in}
 use Rattle.puckreader.specs.Promises.{Step, FreshPromise, GoodPromise, StepPromise, ReadPromise, step_of}
 use Rattle.puckreader.specs.declared.PuckReader.{PuckReader}
 use Rattle.puckreader.specs.declared.PuckAnswer.{PuckAnswer}
+use Rattle.puckreader.specs.declared.PuckStep as steps
+use Rattle.puckreader.specs.declared.PuckReading as readings
 use Rattle.puckreader.specs.declared.PuckAnswer.TheVariants.{Nothing, Movement, Test, Dropped}
 
 -- an answer is told by its numbers
@@ -58,3 +64,12 @@ pub one_read : (r : PuckReader) (words : List ℕ) (out : List ℤ) (a b : PuckR
 one_read r words out a b x y e f =
     let q = e ∙ sym f in
     (ap reading q, ap (λ (l : Long). l.out) q)
+
+-- What `PuckReader::step` and `read` give is told apart by what their promises read of it: so that is one, too.
+pub read_apart : (r : PuckReader) (a b : Result steps.PuckStep Refusal) → read_in r a ≡ read_in r b → a ≡ b
+read_apart r = result_apart (read_in r) (λ s. s.refusal) (λ s. record { next = s.next; answer = s.answer }) (λ a. refl) (λ r. refl) (λ a. refl)
+
+pub reading_apart : (a b : readings.PuckReading) → reading_in a ≡ reading_in b → a ≡ b
+reading_apart a b e =
+    let given : PuckReading → Option Refusal → readings.PuckReading = λ t why. record { refusal = why; next = t.next; taken = t.taken; reports = t.reports; dropped = t.dropped } in
+    ap₂ given e (if_apart a.refusal b.refusal (ap (λ (t : PuckReading). t.refusal) e))

@@ -72,6 +72,7 @@ impl Readback {
     }
 
     // The line at the front of a piece: none where it is not whole yet, and faulty where it may not stand there or is longer than any.
+    #[inline(always)]
     pub(crate) fn front(self, input: &[u8]) -> Result<Option<Front>, Faulty>
         requires { (good self ≡ true) × (0 < length input.now) }
         ensures { Fronts self input.now result }

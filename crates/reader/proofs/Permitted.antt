@@ -1,23 +1,27 @@
 -- "Each public operation's promise determines one answer, and every number in the lent slice after it, refused or not".
 use Prim.Native.Nat.{ℕ}
-use mathlib.Core.Path.{◌≡◌, refl, sym, ◌∙◌, ap}
+use mathlib.Core.Path.{◌≡◌, refl, sym, ◌∙◌, ap, ap₂}
 use mathlib.Core.Bool.{Bool, cond}
 use mathlib.Core.List.{List, [], ◌∷◌}
 use lib.ListN.{length, get_or}
 use lib.Dec.{eqb}
 use lib.IntN.{ℤ, pos, nat_abs}
-use Rattle.std.specs.Prelude.{Result, Ok, Err}
+use Rattle.std.specs.Prelude.{Option, Result, Ok, Err}
 use Rattle.std.specs.Result.{ResultUnwrapsOrElse}
 use Rattle.wire.specs.Line.{letter_of}
 use Rattle.wire.specs.declared.refusal.Refusal.{Refusal}
 use Rattle.wire.specs.declared.Format.TheVariants.{FiveByte}
-use Rattle.reader.specs.State.{fresh, numbers_of, NewReader, Read, new_in}
-use Rattle.reader.specs.Line.{Reading, Long, reading}
-use Rattle.reader.specs.Telling.{Answers, Told, answers_in}
+use Rattle.wire.proofs.Numbered.{result_apart, if_apart}
+use Rattle.reader.specs.State.{fresh, numbers_of, NewReader, Read, new_in, read_in}
+use Rattle.reader.specs.Line.{Reading, Long, reading, reading_in}
+use Rattle.reader.specs.Telling.{Answers, Told, answers_in, answers_by}
 use Rattle.reader.specs.Promises.{Step, FreshPromise, GoodPromise, StepPromise, ReadPromise, AnswersPromise, fresh_of, step_of}
 use Rattle.reader.specs.Runs.{steps_of, StepsPromise}
 use Rattle.reader.specs.declared.Reader.{Reader}
 use Rattle.reader.specs.declared.Answer.{Answer}
+use Rattle.reader.specs.declared.Step as steps
+use Rattle.reader.specs.declared.Reading as readings
+use Rattle.reader.specs.declared.Answers as tellings
 use Rattle.reader.specs.declared.Answer.TheVariants as answer
 
 -- a new reader, or a fresh one of U where there is none of a letter
@@ -72,3 +76,20 @@ one_read r words out a b x y e f = (ap reading (e ∙ sym f), ap (λ (l : Long).
 
 pub one_answers : (r : Reader) (words : List ℕ) (out : List ℤ) (a b : Answers) (x y : List ℤ) → AnswersPromise r words out a x → AnswersPromise r words out b y → (a ≡ b) × (x ≡ y)
 one_answers r words out a b x y e f = (ap answers_in (e ∙ sym f), ap (λ (t : Told). t.out) (e ∙ sym f))
+
+-- What `Reader::fresh`, `step`, `read` and `answers` give is told apart by what their promises read of it: so that is one, too.
+pub new_apart : (a b : Result Reader Refusal) → new_in a ≡ new_in b → a ≡ b
+new_apart = result_apart new_in (λ n. n.refusal) (λ n. n.reader) (λ a. refl) (λ r. refl) (λ a. refl)
+
+pub read_apart : (r : Reader) (a b : Result steps.Step Refusal) → read_in r a ≡ read_in r b → a ≡ b
+read_apart r = result_apart (read_in r) (λ s. s.refusal) (λ s. record { next = s.next; answer = s.answer }) (λ a. refl) (λ r. refl) (λ a. refl)
+
+pub reading_apart : (a b : readings.Reading) → reading_in a ≡ reading_in b → a ≡ b
+reading_apart a b e =
+    let given : Reading → Option Refusal → readings.Reading = λ t why. record { refusal = why; next = t.next; taken = t.taken; reports = t.reports; dropped = t.dropped } in
+    ap₂ given e (if_apart a.refusal b.refusal (ap (λ (t : Reading). t.refusal) e))
+
+pub answers_apart : (a b : tellings.Answers) → answers_by a ≡ answers_by b → a ≡ b
+answers_apart a b e =
+    let given : Answers → Option Refusal → tellings.Answers = λ t why. record { refusal = why; next = t.next; taken = t.taken; written = t.written } in
+    ap₂ given e (if_apart a.refusal b.refusal (ap (λ (t : Answers). t.refusal) e))

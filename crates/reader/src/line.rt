@@ -8,7 +8,7 @@ ghost use Rattle.reader.specs.Parts.{Stands, Begins, first_of, Alike, AwaitsBehi
 
 use crate::letters::by_letter;
 use crate::state::no_bytes;
-use crate::whole::passed;
+use crate::whole::{passed, whole};
 use crate::{Answer, Reader, Reading, Step};
 use wire::{Refusal, Report, SILENCE};
 
@@ -100,6 +100,18 @@ impl Reader {
         (self.count == 0) & !self.awaiting
     }
 
+    // Whether a whole report stands at the front of a line before a ready reader.
+    #[inline(always)]
+    fn begins(self, words: &[u16]) -> bool
+        requires { good self ≡ true }
+        ensures { result ≡ true → self ≡ ready self.format }
+    {
+        if !self.is_ready() || words.len() < wire::size(self.format) {
+            return false;
+        }
+        whole(self.format, words)
+    }
+
     // Words one by one, up to a report or a silence, behind which whole reports may stand. Where U, T or W lost a byte they await a silence, and each byte
     // behind it is dropped alone.
     // The loop moves on by as many words as were taken, and their number is given back: a slice that shrinks would be counted beside it.
@@ -142,13 +154,17 @@ impl Reader {
         by_letter!(self.format, letter => self.slowly(letter, words, out))
     }
 
-    // The words at the front of a line, where the reader is ready: whole reports, silences, and words one by one up to where it is ready again; as long as it is.
+    // The words at the front of a line, where that is worth a try and the reader is ready: whole reports, silences, and words one by one up to where it is
+    // ready again; as long as it is.
     // The loop moves on by as many words as were taken (see `slowly`).
     #[inline(always)]
-    fn swiftly(self, words: &[u16], out: &mut [i16]) -> Reading
+    fn swiftly(self, quick: bool, words: &[u16], out: &mut [i16]) -> Reading
         requires { good self ≡ true }
         ensures { Stands self words.now out.old result.next result.taken (5 * result.reports) result.reports result.dropped out.new × (good result.next ≡ true) × (result.next.format ≡ self.format) }
     {
+        if !quick {
+            return reading(None, self, 0, 0, 0);
+        }
         if !self.is_ready() {
             return reading(None, self, 0, 0, 0);
         }
@@ -176,20 +192,35 @@ impl Reader {
         reading(None, ready, at, reports, dropped)
     }
 
+    // A line of one word.
+    #[inline(always)]
+    fn single(self, words: &[u16], out: &mut [i16]) -> Reading
+        requires { (good self ≡ true) × (length words.now ≡ 1) }
+        ensures { whole (reading_in result) out.new ≡ line reads_line self words.now out.old }
+    {
+        let heard = self.word(self.format, words[0]);
+        self.counted(heard, out)
+    }
+
     // The words of a line: swiftly where the reader is ready, and one by one up to where it may be again, or may go no further. What is left of the line, from
     // the next word on, is handed over with the reader that came back and the places that are left.
+    // A call may bring a word or a few: one word is taken by itself, and a line that begins with no whole report begins one by one.
     // The loop moves on by as many words as were taken (see `slowly`).
     #[inline(always)]
     pub(crate) fn line(self, words: &[u16], out: &mut [i16]) -> Reading
         requires { good self ≡ true }
         ensures { whole (reading_in result) out.new ≡ line reads_line self words.now out.old }
     {
+        if words.len() == 1 {
+            return self.single(words, out);
+        }
         let mut r = self;
         let mut at: usize = 0;
         let mut reports: usize = 0;
         let mut dropped: usize = 0;
+        let mut quick = self.begins(words);
         while at < words.len() {
-            let q = r.swiftly(&words[at..], &mut out[5 * reports..]);
+            let q = r.swiftly(quick, &words[at..], &mut out[5 * reports..]);
             at += q.taken;
             reports += q.reports;
             dropped += q.dropped;
@@ -203,6 +234,7 @@ impl Reader {
             at += t.taken;
             reports += t.reports;
             dropped += t.dropped;
+            quick = true;
         }
         reading(None, r, at, reports, dropped)
     }

@@ -37,7 +37,7 @@ fn fits(letter: u8, place: u8, word: u16) -> bool
 
 // Whether a whole report stands at the front of words.
 #[inline(always)]
-fn whole(letter: u8, words: &[u16]) -> bool
+pub(crate) fn whole(letter: u8, words: &[u16]) -> bool
     requires { (0 < size_by letter) × (size_by letter ≤ length words.now) }
     ensures { result ≡ whole_by letter (size_by letter) words.now }
 {

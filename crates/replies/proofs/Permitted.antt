@@ -1,21 +1,26 @@
 -- "Each public operation's promise determines one answer, and every number in the lent slice after it, refused or not".
-use Rattle.std.proofs.Common.{Option, None, Some}
+use Rattle.std.proofs.Common.{Option, None, Some, Result}
 use Prim.Native.Nat.{ℕ}
-use mathlib.Core.Path.{◌≡◌, refl, sym, ◌∙◌, ap}
+use mathlib.Core.Path.{◌≡◌, refl, sym, ◌∙◌, ap, ap₂}
 use mathlib.Core.Bool.{Bool, cond}
 use mathlib.Core.List.{List}
 use lib.ListN.{get_or}
 use lib.Dec.{eqb}
 use lib.IntN.{ℤ}
+use Rattle.wire.specs.declared.refusal.Refusal.{Refusal}
+use Rattle.wire.proofs.Numbered.{result_apart, if_apart}
 use Rattle.reader.proofs.Permitted.{by_numbers}
 use Rattle.replies.specs.Replying.{came}
-use Rattle.replies.specs.Line.{HeardLine, Long, counts, whole, heard_line}
-use Rattle.replies.specs.Promises.{Telling, NewToldReader, Step, Left, FreshPromise, GoodPromise, TellPromise, StepPromise, ReadPromise, reply_numbers, left, step_of, read_of}
+use Rattle.replies.specs.Line.{HeardLine, Long, counts, whole, heard_line, heard_line_in}
+use Rattle.replies.specs.Promises.{Telling, NewToldReader, Step, Left, FreshPromise, GoodPromise, TellPromise, StepPromise, ReadPromise, reply_numbers, left, step_of, read_of, new_in, telling_in}
 use Rattle.replies.specs.declared.Asked.{Asked}
 use Rattle.replies.specs.declared.Reply.{Reply}
 use Rattle.replies.specs.declared.Reply.TheVariants as reply
 use Rattle.replies.specs.declared.ToldReader.{ToldReader}
-use Rattle.replies.specs.Rules.{Heard}
+use Rattle.replies.specs.Rules.{Heard, heard_in}
+use Rattle.replies.specs.declared.Told as tellings
+use Rattle.replies.specs.declared.ToldStep as steps
+use Rattle.replies.specs.declared.HeardLine as lines
 
 -- what became of a reply is told by its numbers
 abbrev reply_of : List ℕ → Option Reply
@@ -79,3 +84,19 @@ pub one_read : (s : ToldReader) (words : List ℕ) (out : List ℤ) (a b : Heard
 one_read s words out a b x y e f =
     let same = read_is s words out a x e ∙ sym (read_is s words out b y f) in
     (ap heard_line same, ap (λ (l : Long). l.out) same)
+
+-- What `ToldReader::fresh`, `tell`, `step` and `read` give is told apart by what their promises read of it: so that is one, too.
+pub new_apart : (a b : Result ToldReader Refusal) → new_in a ≡ new_in b → a ≡ b
+new_apart = result_apart new_in (λ n. n.refusal) (λ n. n.reader) (λ a. refl) (λ r. refl) (λ a. refl)
+
+pub telling_apart : (s : ToldReader) (a b : Result tellings.Told Refusal) → telling_in s a ≡ telling_in s b → a ≡ b
+telling_apart s = result_apart (telling_in s) (λ t. t.refusal) (λ t. record { next = t.next; discarded = t.discarded }) (λ a. refl) (λ r. refl) (λ a. refl)
+
+pub heard_apart : (s : ToldReader) (a b : Result steps.ToldStep Refusal) → heard_in s a ≡ heard_in s b → a ≡ b
+heard_apart s = result_apart (heard_in s) (λ h. h.refusal) (λ h. record { next = h.next; reply = h.reply; answer = h.answer }) (λ a. refl) (λ r. refl) (λ a. refl)
+
+pub heard_line_apart : (a b : lines.HeardLine) → heard_line_in a ≡ heard_line_in b → a ≡ b
+heard_line_apart a b e =
+    let given : HeardLine → Option Refusal → lines.HeardLine = λ t why.
+        record { refusal = why; next = t.next; taken = t.taken; reports = t.reports; dropped = t.dropped; reply = t.reply } in
+    ap₂ given e (if_apart a.refusal b.refusal (ap (λ (t : HeardLine). t.refusal) e))

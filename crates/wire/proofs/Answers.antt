@@ -5,6 +5,7 @@ use mathlib.Core.Path.{◌≡◌, refl, sym, ◌∙◌, ap, ap₂, subst}
 use mathlib.Core.Bool.{Bool, true, false, not, cond}
 use mathlib.Core.List.{List, [], ◌∷◌, ◌++◌}
 use borrow.Author.Tests.{le-leb, lt-leb, lt-ltb, ne_eqb}
+use Rattle.std.proofs.Common.{Result}
 use lib.ListN.{length, drop}
 use lib.Dec.{eqb, ltb}
 use lib.IntN.{pos}
@@ -19,9 +20,8 @@ use Rattle.wire.specs.Holds.{pressable, unheld, holds, accepted}
 use Rattle.wire.specs.Encoder.{Encoding, Encoded, refusal_of, length_of, outcome, refused, unheld_number, encode_in}
 use Rattle.wire.specs.Refusals.{number_of}
 use Rattle.wire.specs.Numbers.{success, bad_letter, bad_buttons, bad_first_x, bad_first_y, bad_second_x, bad_second_y, short_buffer, accepted as taken, refusal}
-use Rattle.wire.specs.Refusals.{NumberPromise}
 use Rattle.wire.specs.declared.refusal.Refusal.{Refusal}
-use Rattle.wire.specs.Promises.{KnownPromise, SizePromise, MarkedPromise, FitsPromise, ReportPromise, EncodePromise, EncodeRefusal, RefusalPromise, LengthPromise}
+use Rattle.wire.specs.Promises.{KnownPromise, SizePromise, MarkedPromise, FitsPromise, ReportPromise, EncodePromise, EncodeRefusal, NumberPromise, RefusalPromise, LengthPromise}
 use Rattle.wire.specs.declared.Report.{Report}
 use Rattle.wire.specs.declared.Format.{Format}
 use Rattle.wire.specs.declared.Format.TheVariants.{FiveByte}
@@ -46,8 +46,8 @@ one_fits letter place byte p q = p ∙ sym q
 pub one_report : (letter : ℕ) (bytes : List ℕ) {a b : Report} → ReportPromise letter bytes a → ReportPromise letter bytes b → a ≡ b
 one_report letter bytes p q = p ∙ sym q
 
-pub one_refusal : (encoded : Encoded) {a b : ℕ} → RefusalPromise encoded a → RefusalPromise encoded b → a ≡ b
-one_refusal encoded p q = p ∙ sym q
+pub one_refusal : {A : Type 0} (given : Result A Refusal) {a b : ℕ} → RefusalPromise given a → RefusalPromise given b → a ≡ b
+one_refusal given p q = p ∙ sym q
 
 pub one_number : (r : Refusal) {a b : ℕ} → NumberPromise r a → NumberPromise r b → a ≡ b
 one_number r p q = p ∙ sym q

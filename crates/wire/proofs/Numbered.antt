@@ -4,7 +4,8 @@ use mathlib.Core.Path.{◌≡◌, refl, sym, ◌∙◌, ap}
 use mathlib.Core.Bool.{cond}
 use native.Mathlib.Omega.{arith}
 use lib.Dec.{eqb}
-use Rattle.wire.specs.Refusals.{number_of}
+use Rattle.std.proofs.Common.{Option, None, Some, Result, Ok, Err}
+use Rattle.wire.specs.Refusals.{number_of, number_if}
 use Rattle.wire.specs.declared.refusal.Refusal.{Refusal}
 use Rattle.wire.specs.declared.refusal.Refusal.TheVariants.{NoSuchLetter, ButtonsAboveSeven, BadWord, BufferTooShort, BadState, FaultyLine, FirstXNotHeld}
 use Rattle.wire.specs.declared.refusal.Refusal.TheVariants.{FirstYNotHeld, SecondXNotHeld, SecondYNotHeld, NoReply, MarkedFormat, TooManyWords, NumberTooWide}
@@ -80,3 +81,21 @@ no_refusal_two NoReply e = omega arith
 no_refusal_two MarkedFormat e = omega arith
 no_refusal_two TooManyWords e = omega arith
 no_refusal_two NumberTooWide e = omega arith
+
+-- So a record that has the number of an answer, and its value where it is none of them, tells two answers apart.
+pub result_apart : {A R : Type 0} (told : Result A Refusal → R) (number : R → ℕ) (value : R → A)
+    → ((a : A) → number (told (Ok a)) ≡ 0)
+    → ((r : Refusal) → number (told (Err r)) ≡ number_of r)
+    → ((a : A) → value (told (Ok a)) ≡ a)
+    → (x y : Result A Refusal) → told x ≡ told y → x ≡ y
+result_apart told number value zero is valued (Ok a) (Ok b) e = ap Ok (sym (valued a) ∙ ap value e ∙ valued b)
+result_apart told number value zero is valued (Ok a) (Err s) e = absurd (never_success s (sym (is s) ∙ ap number (sym e) ∙ zero a))
+result_apart told number value zero is valued (Err r) (Ok b) e = absurd (never_success r (sym (is r) ∙ ap number e ∙ zero b))
+result_apart told number value zero is valued (Err r) (Err s) e = ap Err (numbers_apart r s (sym (is r) ∙ ap number e ∙ is s))
+
+-- and so does the number beside counts
+pub if_apart : (a b : Option Refusal) → number_if a ≡ number_if b → a ≡ b
+if_apart None None e = refl
+if_apart None (Some s) e = absurd (never_success s (sym e))
+if_apart (Some r) None e = absurd (never_success r e)
+if_apart (Some r) (Some s) e = ap Some (numbers_apart r s e)

@@ -14,9 +14,8 @@ use Rattle.wire.specs.Holds.{holds}
 use Rattle.wire.specs.Places.{like, fits_first, fits_at, fits_by}
 use Rattle.wire.specs.Reading.{report, read_u, report_by}
 use Rattle.wire.specs.Encoder.{Encoding, encode_in}
-use Rattle.wire.specs.Refusals.{NumberPromise}
 use Rattle.wire.specs.declared.refusal.Refusal.TheVariants.{BadWord, FaultyLine}
-use Rattle.wire.specs.Promises.{KnownPromise, SizePromise, MarkedPromise, FitsPromise, ReportPromise, EncodePromise, RefusalPromise, LengthPromise}
+use Rattle.wire.specs.Promises.{KnownPromise, SizePromise, MarkedPromise, FitsPromise, ReportPromise, EncodePromise, NumberPromise, RefusalPromise, LengthPromise}
 use Rattle.wire.specs.declared.Report.{Report}
 use Rattle.wire.specs.declared.Format.TheVariants.{Mm, Microsoft, FiveByte, ThreeByte, Hexadecimal}
 use Rattle.wire.specs.declared.refusal.Refusal.TheVariants.{NoSuchLetter, ButtonsAboveSeven, FirstXNotHeld, FirstYNotHeld, BufferTooShort}

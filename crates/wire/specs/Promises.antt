@@ -5,7 +5,7 @@ use Rattle.wire.specs.Places.{fits_by}
 use Rattle.wire.specs.Reading.{report_by}
 use Rattle.wire.specs.Numbers.{bad_letter, bad_buttons, bad_first_x, bad_first_y, bad_second_x, bad_second_y, short_buffer, RefusesRightly}
 use Rattle.wire.specs.Encoder.{Encoding, Encoded, length_of, outcome, refused, encode_of}
-use Rattle.wire.specs.Refusals.{number_in}
+use Rattle.wire.specs.Refusals.{number_of, number_in}
 use Rattle.wire.specs.declared.Report.{Report}
 use Rattle.wire.specs.declared.refusal.Refusal.{Refusal}
 
@@ -43,9 +43,13 @@ unwritten before =
 abbrev pub EncodeRefusal : List ℕ → Encoding → Type 0
 EncodeRefusal before e = RefusesRightly (λ (x : Encoding). x.refusal) (unwritten before) e
 
+-- `Refusal::number(self)`
+abbrev pub NumberPromise : Refusal → ℕ → Type 0
+NumberPromise refusal answer = answer ≡ number_of refusal
+
 -- `number_in(answer)` and `length_in(answer)`
 abbrev pub RefusalPromise : {A : Type 0} → Result A Refusal → ℕ → Type 0
-RefusalPromise encoded answer = answer ≡ number_in encoded
+RefusalPromise given answer = answer ≡ number_in given
 
 abbrev pub LengthPromise : Encoded → ℕ → Type 0
 LengthPromise encoded answer = answer ≡ length_of encoded

@@ -1,5 +1,5 @@
 -- Why a call is refused, by name, and the number given back for it: "0 is success"; 2 is given no more.
-use Rattle.std.specs.Prelude.{ℕ, ◌≡◌, Option, None, Some, Result, Ok, Err}
+use Rattle.std.specs.Prelude.{ℕ, Option, None, Some, Result, Ok, Err}
 use Rattle.wire.specs.Numbers.{success, bad_state, bad_letter, bad_buttons, bad_first_x, bad_first_y, bad_second_x, bad_second_y, short_buffer, bad_word}
 use Rattle.wire.specs.declared.Movement.{Movement}
 use Rattle.wire.specs.declared.Movement.TheVariants.{FirstX, FirstY, SecondX, SecondY}
@@ -39,7 +39,3 @@ refusal_for SecondY = SecondYNotHeld
 abbrev pub number_if : Option Refusal → ℕ
 number_if None = success
 number_if (Some r) = number_of r
-
--- `Refusal::number(self)`
-abbrev pub NumberPromise : Refusal → ℕ → Type 0
-NumberPromise refusal answer = answer ≡ number_of refusal

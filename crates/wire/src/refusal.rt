@@ -1,7 +1,7 @@
 // Why a call is refused, and the number that is given back for it.
 ghost use Rattle.std.specs.Prelude.{◌≡◌};
-ghost use Rattle.wire.specs.Refusals.{refusal_for, NumberPromise};
-ghost use Rattle.wire.specs.Promises.{RefusalPromise};
+ghost use Rattle.wire.specs.Refusals.{refusal_for};
+ghost use Rattle.wire.specs.Promises.{NumberPromise, RefusalPromise};
 
 use crate::{BAD_LETTER, BAD_STATE, BAD_WORD, Movement, SUCCESS};
 

@@ -11,9 +11,13 @@ use Rattle.reader.proofs.WholeReports.{is_ready}
 use Rattle.reader.proofs.Loop.{starts, far, and_run, and_silences, and_part, leaves, handed}
 use Rattle.reader.proofs.Reader.swiftly.Goals as goal
 
+pub returns-then-not-quick : goal.returns-then-not-quick
+returns-then-not-quick c =
+    rw c.reading.ensures (starts c.args.self c.args.words.now c.args.out.now, c.requires, refl)
+
 pub returns-then-not-is_ready : goal.returns-then-not-is_ready
 returns-then-not-is_ready c =
-    rw c.reading.ensures (starts c.args.self c.args.words.now c.args.out.now, c.requires, refl)
+    rw c.reading-then-not-is_ready.ensures (starts c.args.self c.args.words.now c.args.out.now, c.requires, refl)
 
 pub loop-at-init : goal.loop-at-init
 loop-at-init c =
@@ -26,12 +30,12 @@ passed-q-requires c =
 pub overflow_add-at : goal.overflow_add-at
 overflow_add-at c =
     let ran = and_run c.loop-at.invariant refl c.passed-q.ensures in
-    omega (arith, (far ran).within, c.well_formed.1.0.1)
+    omega (arith, (far ran).within, c.well_formed.1.1.0.1)
 
 pub offset_bounds-words-at-in-loop-at : goal.offset_bounds-words-at-in-loop-at
 offset_bounds-words-at-in-loop-at c =
     let ran = and_run c.loop-at.invariant refl c.passed-q.ensures in
-    omega (arith, (far ran).within, c.well_formed.1.0.1)
+    omega (arith, (far ran).within, c.well_formed.1.1.0.1)
 
 pub slice_bounds-alike-count : goal.slice_bounds-alike-count
 slice_bounds-alike-count c =
@@ -51,7 +55,7 @@ loop-at-preserved-then-n-gt0 c =
 pub offset_bounds-words-at-in-loop-at-2 : goal.offset_bounds-words-at-in-loop-at-2
 offset_bounds-words-at-in-loop-at-2 c =
     let ran = and_run c.loop-at.invariant refl c.passed-q.ensures in
-    omega (arith, (far ran).within, c.well_formed.1.0.1)
+    omega (arith, (far ran).within, c.well_formed.1.1.0.1)
 
 pub slice_bounds-one_by_one-count : goal.slice_bounds-one_by_one-count
 slice_bounds-one_by_one-count c =
@@ -74,14 +78,14 @@ overflow_add-at-in-loop-at c =
     let ran = and_run c.loop-at.invariant refl c.passed-q.ensures in
     let part = rw c.no_bytes-ready.ensures at c.one_by_one-t.ensures in
     let turn = and_part ran part.stands in
-    omega (arith, (far turn).within, c.well_formed.1.0.1)
+    omega (arith, (far turn).within, c.well_formed.1.1.0.1)
 
 pub overflow_add-dropped : goal.overflow_add-dropped
 overflow_add-dropped c =
     let ran = and_run c.loop-at.invariant refl c.passed-q.ensures in
     let part = rw c.no_bytes-ready.ensures at c.one_by_one-t.ensures in
     let turn = and_part ran part.stands in
-    omega (arith, (far turn).few, c.well_formed.1.0.1)
+    omega (arith, (far turn).few, c.well_formed.1.1.0.1)
 
 pub returns-then-is_ready-t : goal.returns-then-is_ready-t
 returns-then-is_ready-t c =
