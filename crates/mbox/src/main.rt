@@ -2,7 +2,8 @@
 #![tactic(auto)]
 
 ghost use Rattle.std.specs.Prelude.{◌≡◌, [], ◌-◌, ◌≤◌, ◌<◌, length, is_ok};
-ghost use Rattle.std.proofs.Common.{le_refl};
+ghost use Rattle.std.proofs.Common.{le_refl, refl};
+ghost use Rattle.shell.proofs.Laws.{few_left};
 ghost use Rattle.shell.specs.Outside.{Trace};
 ghost use Rattle.shell.specs.Standing.{Ends};
 ghost use Rattle.driver.specs.Promises.{enough};
@@ -37,6 +38,8 @@ impl Filter for Driving {
     ghost room = { λ _. enough };
 
     ghost may_end = { λ s kept. kept };
+
+    ghost few = { λ s. few_left most_bytes (passed s.driver) refl };
 
     ghost room_grows = { λ n m fewer. le_refl enough };
 

@@ -2,7 +2,8 @@
 #![tactic(auto)]
 
 ghost use Rattle.std.specs.Prelude.{◌≡◌, true, [], ◌*◌, ◌-◌, ◌≤◌, ◌<◌, length, is_ok};
-ghost use Rattle.std.proofs.Common.{le_refl};
+ghost use Rattle.std.proofs.Common.{le_refl, refl};
+ghost use Rattle.shell.proofs.Laws.{few_left};
 ghost use Rattle.text.specs.Growth.{slice, filled_by};
 ghost use Rattle.listing.specs.Scanning.{passed, most_bytes};
 ghost use Rattle.bridge.specs.Good.{good};
@@ -137,6 +138,8 @@ impl Filter for Bridging {
     ghost room = { λ _. 2 * most };
 
     ghost may_end = { λ s ready. ready.sound };
+
+    ghost few = { λ s. few_left most_bytes (passed s.scanner) refl };
 
     ghost room_grows = { λ n m fewer. le_refl (2 * most) };
 

@@ -9,7 +9,8 @@ ghost use Rattle.listing.specs.Feeding.{good};
 ghost use Rattle.listing.specs.Promises.{enough};
 ghost use Rattle.listing.proofs.Whole.{all_of};
 ghost use Rattle.mlist.specs.Program.{mlist};
-ghost use Rattle.std.proofs.Common.{mul-le-mul_left};
+ghost use Rattle.std.proofs.Common.{mul-le-mul_left, refl};
+ghost use Rattle.shell.proofs.Laws.{few_left};
 
 use listing::Lister;
 use shell::{Failure, Filter, Step, System};
@@ -35,6 +36,8 @@ impl Filter for Listing {
     ghost room = { λ n. enough * n };
 
     ghost may_end = { λ s good. good };
+
+    ghost few = { λ s. few_left most_bytes (passed s.lister.scanner) refl };
 
     ghost room_grows = { λ n m fewer. mul-le-mul_left enough fewer };
 

@@ -2,7 +2,8 @@
 #![tactic(auto)]
 
 ghost use Rattle.std.specs.Prelude.{◌-◌, ◌<◌, ◌≡◌, [], length, is_ok};
-ghost use Rattle.std.proofs.Common.{le_refl};
+ghost use Rattle.std.proofs.Common.{le_refl, refl};
+ghost use Rattle.shell.proofs.Laws.{few_left};
 ghost use Rattle.shell.specs.Outside.{Trace};
 ghost use Rattle.shell.specs.Standing.{Ends};
 ghost use Rattle.listing.specs.Scanning.{passed, most_bytes};
@@ -48,6 +49,8 @@ impl Filter for Judge {
     ghost room = { λ _. 0 };
 
     ghost may_end = { λ j within. tt };
+
+    ghost few = { λ j. few_left most_bytes (passed j.scanner) refl };
 
     ghost room_grows = { λ n m fewer. le_refl 0 };
 

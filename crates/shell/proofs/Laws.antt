@@ -1,8 +1,11 @@
 -- How a program goes on: it begins, reads, writes and ends.
-use Rattle.std.proofs.Common.{◌≡◌, ℕ, ◌<◌, Bool, true, false, List, [], ◌++◌, length, take, drop, sym, refl, ap, ◌∙◌, subst, inl, inr, true≢false, append_assoc, append-nil, take-append-drop}
+use Rattle.std.proofs.Common.{◌≡◌, ℕ, suc, ◌-◌, ◌<◌, arith, Bool, true, false, List, [], ◌++◌, length, take, drop, sym, refl, ap, ◌∙◌, subst, inl, inr, true≢false, append_assoc, append-nil, take-append-drop}
+use borrow.Author.Tests.{leb-true}
+use lib.Dec.{leb}
 use lib.Seq.{take-length}
 use Rattle.shell.specs.Outside.{Trace, Over, heard_in, Reads, Misses, Hears, Handed, Said}
 use Rattle.shell.specs.Standing.{Program, Stands, Closes, Settled, Fronts, Done, Failed, unread, unwritten, unsaid, Ends, Left, Leaves}
+use Rattle.shell.specs.Filters.{most_reads}
 
 -- bytes, of which the first so many were handed out
 split : (n : ℕ) (outs bytes left : List ℕ) → outs ++ (bytes ++ left) ≡ (outs ++ take n bytes) ++ (drop n bytes ++ left)
@@ -221,3 +224,7 @@ module _ (p : Program) where
 
   pub breaks_off : (t : ℕ) → Failed p t → Leaves p t false
   breaks_off t f = record { left = λ w. absurd (true≢false (sym w)); failed = λ _. f }
+
+-- a number within a bound that is below the reads of a run is so, too
+pub few_left : (most n : ℕ) → leb (suc most) most_reads ≡ true → most - n < most_reads
+few_left most n h = let k = leb-true (suc most) most_reads h in omega (arith, k)

@@ -9,11 +9,10 @@ use Rattle.shell.specs.declared.filter.Step.TheVariants.{More, Over}
 abbrev pub most_reads : ℕ
 most_reads = 1000000000000000
 
--- AS THE PROGRAM IT IS CALLED: by its name, where more is to be read, in fewer reads than that, with slices of so many bytes and places that have room
-pub record Called {S : Type 0} (p : Program) (rest : S → List ℕ → List ℕ) (reads : S → Type 0) (left : S → ℕ) (room : ℕ → ℕ) (name : List ℕ) (input out t : ℕ) (s : S) : Type 0 where
+-- AS THE PROGRAM IT IS CALLED: by its name, where more is to be read, with slices of so many bytes and places that have room
+pub record Called {S : Type 0} (p : Program) (rest : S → List ℕ → List ℕ) (reads : S → Type 0) (room : ℕ → ℕ) (name : List ℕ) (input out t : ℕ) (s : S) : Type 0 where
   pub named : name ≡ p.input
   pub ready : reads s
-  pub few : left s < most_reads
   pub some : 0 < input
   pub fits : room input ≤ out
   pub stands : Stands p t (rest s) silent

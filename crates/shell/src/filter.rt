@@ -1,7 +1,7 @@
 // Programs that write, read by read, what they make of their input.
 ghost use Rattle.std.specs.Prelude.{ℕ, ◌≤◌, ◌<◌, List, length, is_ok};
 ghost use Rattle.shell.specs.Standing.{Program, Ends};
-ghost use Rattle.shell.specs.Filters.{Called, Fed, Last, Leaves, Closed};
+ghost use Rattle.shell.specs.Filters.{most_reads, Called, Fed, Last, Leaves, Closed};
 
 use crate::{Failure, System};
 
@@ -45,6 +45,9 @@ pub trait Filter: Drop {
     // the input may end between any two reads
     ghost may_end: { (s : Self) → reads s → ends s };
 
+    // no program makes so many reads
+    ghost few: { (s : Self) → left s < most_reads };
+
     // fewer bytes need no more places
     ghost room_grows: { (n m : ℕ) → n ≤ m → room n ≤ room m };
 }
@@ -57,7 +60,7 @@ fn block<F: Filter>(
     input: &mut [u8],
     out: &mut [u8],
 ) -> Result<Step<F>, Failure>
-    ensures { Called F.program F.rest F.reads F.left F.room name.now (length input.old) (length out.old) system.old.turn filter → Leaves F.program F.rest F.reads F.ends F.left system.new.turn filter result }
+    ensures { Called F.program F.rest F.reads F.room name.now (length input.old) (length out.old) system.old.turn filter → Leaves F.program F.rest F.reads F.ends F.left system.new.turn filter result }
 {
     match system.more(name, input)? {
         0 => Ok(Step::Over(filter)),
@@ -73,7 +76,7 @@ fn blocks<F: Filter>(
     input: &mut [u8],
     out: &mut [u8],
 ) -> Result<F, Failure>
-    ensures { Called F.program F.rest F.reads F.left F.room name.now (length input.old) (length out.old) system.old.turn filter → Closed F.program F.rest F.ends system.new.turn result }
+    ensures { Called F.program F.rest F.reads F.room name.now (length input.old) (length out.old) system.old.turn filter → Closed F.program F.rest F.ends system.new.turn result }
 {
     let mut here = filter;
     for _ in 0..READS {
@@ -93,7 +96,7 @@ pub fn run<F: Filter>(
     input: &mut [u8],
     out: &mut [u8],
 ) -> Result<(), Failure>
-    ensures { Called F.program F.rest F.reads F.left F.room name.now (length input.old) (length out.old) system.old.turn filter → Ends F.program system.new.turn (is_ok result) }
+    ensures { Called F.program F.rest F.reads F.room name.now (length input.old) (length out.old) system.old.turn filter → Ends F.program system.new.turn (is_ok result) }
 {
     blocks(filter, system, name, input, out)?.finish(system, out)
 }

@@ -2,7 +2,7 @@
 ghost use Rattle.std.specs.Prelude.{◌≡◌, ◌<◌};
 ghost use Rattle.wire.specs.Digits.{is_digit, digit, undigit};
 
-// Whether a byte is a digit 0-9 or A-F.
+// Whether a byte is a digit 0-9 or A-F. As `matches!` over the two ranges a word of W cost five instructions more.
 #[inline(always)]
 pub(crate) fn is_digit(b: u8) -> bool
     ensures { result ≡ is_digit b }
@@ -24,7 +24,6 @@ pub(crate) fn digit_of(n: u8) -> u8
 }
 
 // The number of a digit: '0' to '9' have it in their low four bits, 'A' to 'F' 9 less than it. A byte that is no digit counts as 0.
-// `b - b'0'` and `10 + (b - b'A')` were tried: behind the test of a digit they cost a word of W seven instructions more.
 #[inline(always)]
 pub(crate) fn number_of(b: u8) -> u8
     ensures { result ≡ undigit b }

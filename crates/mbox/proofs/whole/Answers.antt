@@ -10,7 +10,6 @@ returns c =
     (record {
       named = refl;
       ready = rw c.fresh.ensures fresh_kept;
-      few = omega arith;
       some = c.requires.enough_in_bounds.1;
       fits = c.requires.enough_in_bounds.0;
       stands = begins c.args.system.now.turn c.requires.trace c.fresh.result c.fresh.ensures;

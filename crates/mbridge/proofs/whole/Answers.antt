@@ -21,7 +21,6 @@ returns c =
     (record {
       named = refl;
       ready = record { sound = sound; within = (is_ready s scanner bridge).within };
-      few = omega arith;
       some = c.requires.1;
       fits = c.requires.2;
       stands = starts s scanner bridge c.args.system.now.turn c.requires.0;

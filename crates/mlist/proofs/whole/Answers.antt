@@ -11,7 +11,6 @@ returns c =
     (record {
       named = refl;
       ready = ap good c.fresh.ensures ∙ fresh_is_good;
-      few = omega arith;
       some = c.requires.1;
       fits = c.requires.0;
       stands = begins c.args.system.now.turn c.requires.2 c.fresh.result c.fresh.ensures;

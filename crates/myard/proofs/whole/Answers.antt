@@ -9,7 +9,6 @@ returns c =
     (record {
       named = refl;
       ready = rw c.unheard.ensures (omega arith, omega arith);
-      few = omega arith;
       some = c.requires.input_nonzero;
       fits = omega arith;
       stands = begins c.args.system.now.turn c.requires.trace c.unheard.result c.unheard.ensures;
