@@ -27,5 +27,5 @@ new_apart = result_apart new_in (λ n. n.refusal) (λ n. n.bridge) (λ a. refl) 
 pub converted_apart : (a b : conversions.Converted) → converted_in a ≡ converted_in b → a ≡ b
 converted_apart a b e =
     let given : Converted → Option Refusal → conversions.Converted = λ t why.
-        record { refusal = why; next = t.next; taken = t.taken; reports = t.reports; sent = t.sent; dropped = t.dropped } in
+    record { refusal = why; next = t.next; taken = t.taken; reports = t.reports; sent = t.sent; dropped = t.dropped } in
     ap₂ given e (if_apart a.refusal b.refusal (ap (λ (t : Converted). t.refusal) e))

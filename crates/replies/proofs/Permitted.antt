@@ -98,5 +98,5 @@ heard_apart s = result_apart (heard_in s) (λ h. h.refusal) (λ h. record { next
 pub heard_line_apart : (a b : lines.HeardLine) → heard_line_in a ≡ heard_line_in b → a ≡ b
 heard_line_apart a b e =
     let given : HeardLine → Option Refusal → lines.HeardLine = λ t why.
-        record { refusal = why; next = t.next; taken = t.taken; reports = t.reports; dropped = t.dropped; reply = t.reply } in
+    record { refusal = why; next = t.next; taken = t.taken; reports = t.reports; dropped = t.dropped; reply = t.reply } in
     ap₂ given e (if_apart a.refusal b.refusal (ap (λ (t : HeardLine). t.refusal) e))
