@@ -1,10 +1,10 @@
 -- What a read leaves, and the end.
-use Rattle.std.proofs.Common.{◌≡◌, ℕ, ◌-◌, ◌*◌, ◌<◌, ◌≤◌, true, false, List, [], ◌++◌, length, take, drop, refl, sym, ◌∙◌, ap, arith}
+use Rattle.std.proofs.Common.{◌≡◌, ℕ, ◌-◌, ◌*◌, ◌<◌, ◌≤◌, Bool, true, false, List, [], ◌++◌, length, take, drop, refl, sym, ◌∙◌, ap, arith}
 use mathlib.Core.Bool.{true≢false}
 use mathlib.Core.Logic.{⊎_elim}
 use lib.Seq.{take_at, take-length}
-use Rattle.shell.specs.Outside.{Trace}
-use Rattle.shell.specs.Standing.{Stands, Closes, silent}
+use Rattle.shell.specs.Outside.{Trace, Handed}
+use Rattle.shell.specs.Standing.{Stands, Closes, Failed, silent}
 use Rattle.shell.proofs.Laws as standing
 use Rattle.listing.specs.Scanning.{passed, most_bytes}
 use Rattle.listing.specs.Feeding.{fresh, Feed, feed_in, last_of, good}
@@ -37,6 +37,15 @@ module _ (m : Lister) (bytes out after : List ℕ) (a : Listed) (g : good m ≡ 
   goes q =
       let all : take f.taken bytes ≡ bytes = ap (λ (n : ℕ). take n bytes) (sym (ap (λ (w : Whole). w.listed.taken) is) ∙ takes_all m bytes out after a g p room) ∙ take-length bytes in
       ap (λ (l : List ℕ). all_of m (l ++ q)) (sym all) ∙ pieces.fed bytes q m (length out) ∙ rw (text, ap (λ (w : Whole). w.listed.next) is)
+
+  -- what was written is handed out
+  pub shown : (t t' : ℕ) (well : Bool) → Stands mlist t (λ q. all_of m (bytes ++ q)) silent → Handed mlist.output t t' well (take a.written after) → well ≡ true
+      → Stands mlist t' (all_of a.next) silent
+  shown t t' well s h w = standing.writes mlist t t' well (take a.written after) _ (all_of a.next) silent s goes h w
+
+  pub unshown : (t t' : ℕ) (well : Bool) → Stands mlist t (λ q. all_of m (bytes ++ q)) silent → Handed mlist.output t t' well (take a.written after) → well ≡ false
+      → Failed mlist t'
+  unshown t t' well s h w = standing.fails_writing mlist t t' well (take a.written after) _ (all_of a.next) silent s goes h w
 
   -- nothing follows where the listing has ended
   same : a.ended ≡ true → (q : List ℕ) → all_of a.next q ≡ all_of a.next []

@@ -1,5 +1,5 @@
 -- It begins at the first byte, and a read has room.
-use Rattle.std.proofs.Common.{refl, arith, ◌∙◌, ap}
+use Rattle.std.proofs.Common.{refl, ◌∙◌, ap}
 use Rattle.listing.specs.Feeding.{good}
 use Rattle.listing.proofs.Keeps.{fresh_is_good}
 use Rattle.mlist.proofs.Turns.{begins}

@@ -1,15 +1,10 @@
 -- All of the bytes are taken, and their text is written.
-use Rattle.std.proofs.Common.{rules, ◌≡◌, true, false, length, sym, refl, arith}
+use Rattle.std.proofs.Common.{rules, ◌≡◌, length, sym, refl, arith}
 use Rattle.std.proofs.lemmas.Result.{err_from_is_err_and}
 use lib.Seq.{length-take-le}
-use lib.ListN.{take}
-use Rattle.shell.specs.Standing.{silent}
-use Rattle.shell.proofs.Laws as standing
 use Rattle.listing.specs.Promises.{listed_in}
 use Rattle.listing.proofs.Calls.{feed_within, next_good}
-use Rattle.listing.proofs.Whole.{all_of}
-use Rattle.mlist.specs.Program.{mlist}
-use Rattle.mlist.proofs.Turns.{goes, falls, closes}
+use Rattle.mlist.proofs.Turns.{shown, unshown, falls, closes}
 use Rattle.mlist.proofs.ListingFilter.feed.Goals as goal
 
 pub slice_bounds-show-end-2 : goal.slice_bounds-show-end-2
@@ -26,15 +21,12 @@ slice_bounds-show-end-3 c =
 
 pub returns-in_err-show : goal.returns-in_err-show
 returns-in_err-show c =
-    let m = c.args.self.lister in
-    let bytes = c.args.bytes.now in
     let feed = c.feed-listed in
-    λ k.
-    let told = goes m bytes c.args.out.now feed.new.out (listed_in feed.result) k.ready k.fits feed.ensures in
     let p = err_from_is_err_and c.from_residual.result c.from_residual.ensures.1 in
+    λ k.
     rw p.1
-    (standing.fails_writing mlist c.args.system.now.turn c.show.new.self.turn false (take feed.result.written feed.new.out) _ (all_of feed.result.next) silent
-    k.stands told c.in_err-show.ensures.handed refl)
+    (unshown c.args.self.lister c.args.bytes.now c.args.out.now feed.new.out (listed_in feed.result) k.ready k.fits feed.ensures _ _ _ k.stands
+    c.in_err-show.ensures.handed refl)
 
 pub returns-then-listed : goal.returns-then-listed
 returns-then-listed c =
@@ -42,14 +34,12 @@ returns-then-listed c =
     let bytes = c.args.bytes.now in
     let out = c.args.out.now in
     let feed = c.feed-listed in
-    λ k.
     let a = listed_in feed.result in
-    let told = goes m bytes out feed.new.out a k.ready k.fits feed.ensures in
-    let stands = standing.writes mlist c.args.system.now.turn c.show.new.self.turn true (take a.written feed.new.out) _ (all_of a.next) silent
-    k.stands told c.in_ok-show.ensures.handed refl in
+    λ k.
     record {
       whole = next_good m bytes out feed.new.out a k.ready feed.ensures;
-      closes = closes m bytes out feed.new.out a k.ready k.fits feed.ensures c.show.new.self.turn c.if-listed.true stands;
+      closes = closes m bytes out feed.new.out a k.ready k.fits feed.ensures _ c.if-listed.true
+          (shown m bytes out feed.new.out a k.ready k.fits feed.ensures _ _ _ k.stands c.in_ok-show.ensures.handed refl);
     }
 
 pub returns-else-listed : goal.returns-else-listed
@@ -58,13 +48,10 @@ returns-else-listed c =
     let bytes = c.args.bytes.now in
     let out = c.args.out.now in
     let feed = c.feed-listed in
-    λ k.
     let a = listed_in feed.result in
-    let told = goes m bytes out feed.new.out a k.ready k.fits feed.ensures in
-    let stands = standing.writes mlist c.args.system.now.turn c.show.new.self.turn true (take a.written feed.new.out) _ (all_of a.next) silent
-    k.stands told c.in_ok-show.ensures.handed refl in
+    λ k.
     record {
       ready = next_good m bytes out feed.new.out a k.ready feed.ensures;
-      stands = stands;
+      stands = shown m bytes out feed.new.out a k.ready k.fits feed.ensures _ _ _ k.stands c.in_ok-show.ensures.handed refl;
       nearer = falls m bytes out feed.new.out a k.ready k.fits feed.ensures k.some c.if-listed.false;
     }

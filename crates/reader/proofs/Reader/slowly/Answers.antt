@@ -1,6 +1,7 @@
-use Prim.Native.Nat.{◌+◌, ◌*◌}
+use Prim.Native.Nat.{ℕ, ◌+◌, ◌*◌}
+use Rattle.std.proofs.Common.{rules}
 use mathlib.Core.Path.{◌≡◌, refl, sym, ◌∙◌, ap}
-use mathlib.Core.Bool.{true, not, ◌&&◌}
+use mathlib.Core.Bool.{true, not}
 use native.Mathlib.Omega.{arith}
 use lib.ListN.{get_or, length-drop}
 use lib.Dec.{eqb, leb}
@@ -20,7 +21,7 @@ use Rattle.reader.proofs.Reader.slowly.Goals as goal
 pub loop-at-init : goal.loop-at-init
 loop-at-init c = let a = c.args in
     let s = starts a.self a.words.now a.out.now in
-    (s, c.requires.1, refl, far s, λ _. refl)
+    (s, c.requires.1, refl, far s, λ _. refl, search rules)
 
 pub first-t-requires : goal.first-t-requires
 first-t-requires c = let l = c.loop-at in
@@ -97,10 +98,10 @@ overflow_add-at-then-awaits-t c =
     let i = l.invariant in
     let some = eqb f.result.dropped 0 in
     let byte = leb (get_or c.args.words.now l.at 0) 255 in
-    let both = left (not c.marked-awaits.result && not some) byte c.if-awaits-t.true in
-    skipped i.0 i.1 i.2 f.ensures.0 none f.ensures.1 (sym (c.marked-awaits.ensures ∙ ap marked_by (c.requires.0 ∙ sym i.2)) ∙ not-true _ (left (not c.marked-awaits.result) (not some) both))
-    (λ e. holds (sym (not-true _ (right (not c.marked-awaits.result) (not some) both)) ∙ eq-eqb _ _ e))
-    (leb-true _ 255 (right (not c.marked-awaits.result && not some) byte c.if-awaits-t.true)) c.alike-n.ensures in
+    let both = left _ byte c.if-awaits-t.true in
+    skipped i.0 i.1 i.2 f.ensures.0 none f.ensures.1 (not-true _ (ap (λ (letter : ℕ). not (marked_by letter)) i.2 ∙ sym i.5 ∙ left _ (not some) both))
+    (λ e. holds (sym (not-true _ (right _ (not some) both)) ∙ eq-eqb _ _ e))
+    (leb-true _ 255 (right _ byte c.if-awaits-t.true)) c.alike-n.ensures in
     omega (arith, (far lost).within, c.well_formed.1.1.0.1)
 
 pub overflow_add-dropped-then-awaits-t : goal.overflow_add-dropped-then-awaits-t
@@ -114,10 +115,10 @@ overflow_add-dropped-then-awaits-t c =
     let i = l.invariant in
     let some = eqb f.result.dropped 0 in
     let byte = leb (get_or c.args.words.now l.at 0) 255 in
-    let both = left (not c.marked-awaits.result && not some) byte c.if-awaits-t.true in
-    skipped i.0 i.1 i.2 f.ensures.0 none f.ensures.1 (sym (c.marked-awaits.ensures ∙ ap marked_by (c.requires.0 ∙ sym i.2)) ∙ not-true _ (left (not c.marked-awaits.result) (not some) both))
-    (λ e. holds (sym (not-true _ (right (not c.marked-awaits.result) (not some) both)) ∙ eq-eqb _ _ e))
-    (leb-true _ 255 (right (not c.marked-awaits.result && not some) byte c.if-awaits-t.true)) c.alike-n.ensures in
+    let both = left _ byte c.if-awaits-t.true in
+    skipped i.0 i.1 i.2 f.ensures.0 none f.ensures.1 (not-true _ (ap (λ (letter : ℕ). not (marked_by letter)) i.2 ∙ sym i.5 ∙ left _ (not some) both))
+    (λ e. holds (sym (not-true _ (right _ (not some) both)) ∙ eq-eqb _ _ e))
+    (leb-true _ 255 (right _ byte c.if-awaits-t.true)) c.alike-n.ensures in
     omega (arith, (far lost).few, below_size_lem c.args.self c.requires.1, at_most_five c.args.self.format, c.well_formed.1.1.0.1)
 
 pub loop-at-smaller-then-awaits-t : goal.loop-at-smaller-then-awaits-t
@@ -131,10 +132,10 @@ loop-at-smaller-then-awaits-t c =
     let i = l.invariant in
     let some = eqb f.result.dropped 0 in
     let byte = leb (get_or c.args.words.now l.at 0) 255 in
-    let both = left (not c.marked-awaits.result && not some) byte c.if-awaits-t.true in
-    skipped i.0 i.1 i.2 f.ensures.0 none f.ensures.1 (sym (c.marked-awaits.ensures ∙ ap marked_by (c.requires.0 ∙ sym i.2)) ∙ not-true _ (left (not c.marked-awaits.result) (not some) both))
-    (λ e. holds (sym (not-true _ (right (not c.marked-awaits.result) (not some) both)) ∙ eq-eqb _ _ e))
-    (leb-true _ 255 (right (not c.marked-awaits.result && not some) byte c.if-awaits-t.true)) c.alike-n.ensures in
+    let both = left _ byte c.if-awaits-t.true in
+    skipped i.0 i.1 i.2 f.ensures.0 none f.ensures.1 (not-true _ (ap (λ (letter : ℕ). not (marked_by letter)) i.2 ∙ sym i.5 ∙ left _ (not some) both))
+    (λ e. holds (sym (not-true _ (right _ (not some) both)) ∙ eq-eqb _ _ e))
+    (leb-true _ 255 (right _ byte c.if-awaits-t.true)) c.alike-n.ensures in
     omega (arith, (far lost).within)
 
 pub loop-at-preserved-then-awaits-t : goal.loop-at-preserved-then-awaits-t
@@ -152,12 +153,12 @@ loop-at-preserved-then-awaits-t c =
     let i = l.invariant in
     let some = eqb f.result.dropped 0 in
     let byte = leb (get_or c.args.words.now l.at 0) 255 in
-    let both = left (not c.marked-awaits.result && not some) byte c.if-awaits-t.true in
-    skipped i.0 i.1 i.2 f.ensures.0 none f.ensures.1 (sym (c.marked-awaits.ensures ∙ ap marked_by (c.requires.0 ∙ sym i.2)) ∙ not-true _ (left (not c.marked-awaits.result) (not some) both))
-    (λ e. holds (sym (not-true _ (right (not c.marked-awaits.result) (not some) both)) ∙ eq-eqb _ _ e))
-    (leb-true _ 255 (right (not c.marked-awaits.result && not some) byte c.if-awaits-t.true)) c.alike-n.ensures in
+    let both = left _ byte c.if-awaits-t.true in
+    skipped i.0 i.1 i.2 f.ensures.0 none f.ensures.1 (not-true _ (ap (λ (letter : ℕ). not (marked_by letter)) i.2 ∙ sym i.5 ∙ left _ (not some) both))
+    (λ e. holds (sym (not-true _ (right _ (not some) both)) ∙ eq-eqb _ _ e))
+    (leb-true _ 255 (right _ byte c.if-awaits-t.true)) c.alike-n.ensures in
     let k = stays in
-    (lost, k.0, k.1, far lost, λ e. absurd (c.if-t-eq0.false (omega arith)))
+    (lost, k.0, k.1, far lost, λ e. absurd (c.if-t-eq0.false (omega arith)), c.loop-at.invariant.5)
 
 pub loop-at-preserved : goal.loop-at-preserved
 loop-at-preserved c =
@@ -172,7 +173,7 @@ loop-at-preserved c =
     let none : c.first-t.result.reports ≡ 0 = let t = c.first-t.result in eqb-true t.reports 0 (not-false _ (neither (not (eqb t.reports 0)) _ c.if-t-word.false).0) in
     let k = stays in
     let s = rw none at turn in
-    (s, k.0, k.1, far s, λ e. absurd (c.if-t-eq0.false (omega arith)))
+    (s, k.0, k.1, far s, λ e. absurd (c.if-t-eq0.false (omega arith)), c.loop-at.invariant.5)
 
 pub returns : goal.returns
 returns c = let i = c.loop-at.invariant in rw c.reading-2.ensures (all_taken i.0 i.1 i.2 i.4 c.loop-at-test.false)

@@ -1,8 +1,9 @@
 -- `slowly`: up to its end nothing is written, and what is done is a part of the line.
 use Prim.Native.Nat.{◌-◌}
 use mathlib.Core.Path.{◌≡◌}
-use mathlib.Core.Bool.{true}
+use mathlib.Core.Bool.{true, not}
 use lib.ListN.{length}
+use Rattle.wire.specs.Line.{marked_by}
 use Rattle.reader.specs.Good.{good}
 use Rattle.reader.specs.Parts.{Stands}
 use Rattle.reader.proofs.Loop.{Far}
@@ -15,6 +16,7 @@ invariant-loop-at l =
     × (l.r.format ≡ l.initial.r.format)
     × Far l.initial.r l.words l.initial.out l.at 0 0 l.dropped l.out
     × (l.at ≡ 0 → l.r ≡ l.initial.r)
+    × (l.awaits ≡ not (marked_by l.initial.r.format))
 
 abbrev pub decreases-loop-at : goal.decreases-loop-at
 decreases-loop-at l = length l.words - l.at
