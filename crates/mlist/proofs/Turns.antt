@@ -43,6 +43,7 @@ module _ (m : Lister) (bytes out after : List ℕ) (a : Listed) (g : good m ≡ 
       → Stands mlist t' (all_of a.next) silent
   shown t t' well s h w = standing.writes mlist t t' well (take a.written after) _ (all_of a.next) silent s goes h w
 
+  -- where it could not be, the program failed
   pub unshown : (t t' : ℕ) (well : Bool) → Stands mlist t (λ q. all_of m (bytes ++ q)) silent → Handed mlist.output t t' well (take a.written after) → well ≡ false
       → Failed mlist t'
   unshown t t' well s h w = standing.fails_writing mlist t t' well (take a.written after) _ (all_of a.next) silent s goes h w

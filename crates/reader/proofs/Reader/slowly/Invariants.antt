@@ -1,4 +1,4 @@
--- `slowly`: up to its end nothing is written, and what is done is a part of the line.
+-- `slowly`: up to its end nothing is written, what is done is a part of the line, and a silence is awaited where the format is unmarked.
 use Prim.Native.Nat.{◌-◌}
 use mathlib.Core.Path.{◌≡◌}
 use mathlib.Core.Bool.{true, not}
